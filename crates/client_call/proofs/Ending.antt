@@ -20,7 +20,7 @@ use Rattle.udp_node.specs.declared.errors.ServeError.{ServeError}
 use Rattle.udp_node.specs.declared.errors.ServeError.TheVariants as serves
 use Rattle.udp_node.specs.declared.serving.Served.{Served}
 use Rattle.udp_node.proofs.EffectLemmas.{calls_append}
-use Rattle.client_call.specs.Calls.{caller, request, error_of, IsAccepted, IsOpen, Answers, GivesAccepted, attaches_after, run_of}
+use Rattle.client_call.specs.Calls.{caller, request, error_of, IsAccepted, IsOpen, Answers, GivesAccepted, run_of}
 use Rattle.client_call.specs.Calls.{Answered, TurnsEnded, SomeCallsMade, EndsRun, EndsObserved}
 use Rattle.client_call.specs.declared.errors.CallError.{CallError}
 use Rattle.client_call.specs.declared.errors.CallError.TheVariants.{PortFault, LinkFault, Unanswered, NoMemory}
@@ -183,12 +183,6 @@ ends_before at number op turns (Some answers) (Some values) trace losses = (
   0,
   record { before = []; rest = calls (run_of at number op turns answers values).effects; split = refl; sends = no_calls trace losses },
 )
-
--- ---- errors
-
-pub no_attach : (result : Result (List ℕ) CallError) (n : ℕ) → ¬ (result ≡ Err PortFault) → attaches_after result n ≡ n
-no_attach (Err PortFault) n attached = absurd (attached refl)
-no_attach _ n attached = refl
 
 -- ---- a link that ports gave
 

@@ -7,7 +7,7 @@ use Rattle.nop_types.specs.declared.output.Accept.{Accept}
 use Rattle.nop_types.specs.declared.output.Actor.TheVariants.{Client}
 use Rattle.nop_types.specs.declared.output.Out.TheVariants.{Submitted, Accepted}
 use Rattle.nop_types.specs.declared.request.Request.{Request}
-use Rattle.outside.specs.Causes.{next_count}
+use Rattle.outside.specs.Causes.{CountsFor}
 use Rattle.outside.specs.declared.link.LinkCall.{LinkCall}
 use Rattle.outside.specs.declared.link.PollAnswer.{PollAnswer}
 use Rattle.transcript_text.specs.Transcript.{submit_line, accept_line}
@@ -79,16 +79,6 @@ error_of serves.LinkFault = LinkFault
 error_of serves.WriteFault = NoMemory
 error_of serves.NoMemory = NoMemory
 
--- of attaches: it rises by one exactly where the port could not be opened
-abbrev pub attaches_after : {T : Type 0} → Result T CallError → ℕ → ℕ
-attaches_after (Err PortFault) n = next_count n
-attaches_after _ n = n
-
--- of the polls of a link: it rises by one exactly where a poll failed
-abbrev pub polls_after : Result (List ℕ) CallError → ℕ → ℕ
-polls_after (Err LinkFault) n = next_count n
-polls_after _ n = n
-
 -- ---- the run, over an observable link and clock
 
 abbrev pub run_of : Address → ℕ → List ℕ → ℕ → List PollAnswer → List ℕ → NodeRun
@@ -157,7 +147,7 @@ pub record RanOver (at : Address) (number : ℕ) (op : List ℕ) (turns : ℕ) (
     (result : Result (List ℕ) CallError) (used : Used) : Type 0 where
   pub attached : ¬ (result ≡ Err PortFault)
   pub port : used.port ≡ port_of at.base at.own
-  pub polls : used.faults ≡ polls_after result 0
+  pub polls : CountsFor 0 used.faults LinkFault result
   pub run : EndsObserved at number op turns answers values result (side (Some []) 0 0) (side used.trace 0 used.losses)
 
 -- no link was attached, or the ports hold the one over which the call ran

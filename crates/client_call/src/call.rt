@@ -1,6 +1,8 @@
 ghost use Rattle.std.specs.Prelude.{◌≡◌, ◌+◌, length, option_map};
+ghost use Rattle.outside.specs.Causes.{CountsFor};
 ghost use Rattle.outside.specs.Ports.{next_link};
-ghost use Rattle.client_call.specs.Calls.{address_of, attaches_after, Answers, EndsOver, RanOver};
+ghost use Rattle.client_call.specs.declared.errors.CallError.TheVariants as errors;
+ghost use Rattle.client_call.specs.Calls.{address_of, Answers, EndsOver, RanOver};
 
 use crate::CallError;
 use crate::waiting::{address, wait_over};
@@ -18,7 +20,6 @@ pub struct Service {
 
 /// Has one op executed by a service, and gives its result. Waits for at most `turns` turns, of about a millisecond each over
 /// sockets. The client's number is one that was never used before.
-#[tactic(auto, using(crate::proofs::Ending::no_attach))]
 pub fn submit_and_wait<P: Ports, C: Clock>(
     alloc: Global,
     service: &Service,
@@ -43,8 +44,8 @@ pub fn submit_and_wait<P: Ports, C: Clock>(
         (RanOver (address_of service.now number) number op turns
         (option_map next_link (P.to_come ports.old)) (C.values clock.old) result) }
 
-    ensures attaches { P.fault_count ports.new
-        ≡ attaches_after result (P.fault_count ports.old) }
+    ensures attaches { CountsFor (P.fault_count ports.old) (P.fault_count ports.new)
+        errors.PortFault result }
     ensures back { P.attached ports.new + length (P.detached ports.old)
         ≡ P.attached ports.old + length (P.detached ports.new) }
 {

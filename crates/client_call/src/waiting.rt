@@ -1,8 +1,9 @@
 //! The client of a call, over a link.
 
 ghost use Rattle.std.specs.Prelude.{◌≡◌, IfOk, false, Err};
+ghost use Rattle.outside.specs.Causes.{CountsFor};
 ghost use Rattle.udp_node.specs.Sends.{side};
-ghost use Rattle.client_call.specs.Calls.{GivesAccepted, Answers, EndsObserved, address_of, caller, error_of, polls_after};
+ghost use Rattle.client_call.specs.Calls.{GivesAccepted, Answers, EndsObserved, address_of, caller, error_of};
 ghost use Rattle.client_call.specs.declared.errors.CallError.TheVariants as errors;
 
 use crate::{CallError, Service};
@@ -72,7 +73,8 @@ pub(crate) fn wait_over<L: Link, C: Clock>(
         (side (L.trace link.new) 0 (L.loss_count link.new)) }
     ensures attached { ¬ (result ≡ Err errors.PortFault) }
     ensures port { L.own_port link.new ≡ L.own_port link.old }
-    ensures polls { L.fault_count link.new ≡ polls_after result (L.fault_count link.old) }
+    ensures polls { CountsFor (L.fault_count link.old) (L.fault_count link.new)
+        errors.LinkFault result }
 {
     let mut core = caller(alloc, service, number, op)?;
     let mut sink = WriteMem::new(alloc);

@@ -8,6 +8,11 @@ use Rattle.outside.specs.Causes.{Rose, next_count}
 use Rattle.outside.specs.Fronts.{AppendsFront}
 use Rattle.outside.specs.Ports.{GivesNext, next_link}
 use Rattle.outside.specs.declared.errors.DeviceError.TheVariants as devices
+use Rattle.outside.proofs.Counts.{counts_none}
+use Rattle.outside.specs.declared.clock.Clock as clocks
+use Rattle.outside.specs.declared.link.Link as links
+use Rattle.outside.specs.declared.ports.Ports as ports_trait
+use Rattle.outside.specs.declared.sink.Sink as sinks
 use Rattle.outside.specs.declared.link.PollAnswer.{PollAnswer}
 use Rattle.outside.specs.declared.link.LinkCall.{LinkCall}
 use Rattle.udp_node.specs.Effects.{Line, effects, lines, WroteFront}
@@ -19,7 +24,7 @@ use Rattle.udp_node.specs.declared.errors.ServeError.TheVariants as serve_errors
 use Rattle.udp_node.specs.declared.serving.Served.{Served}
 use Rattle.udp_node.proofs.EffectLemmas.{done_then, stops_then, stops_more, wrote_line}
 use Rattle.commands.specs.Nodes.{served_line, last_effects, end_status, IsNodeStatus, IsUnattachedStatus, EndsNodeWithoutFault}
-use Rattle.commands.specs.Nodes.{LastLine, EndsInLine, writes_after}
+use Rattle.commands.specs.Nodes.{LastLine, EndsInLine, NodeEndsOver}
 use Rattle.commands.specs.Nodes.{Finished, RunEnds, NodeTask, run_of, RunTold, PortsView, NodeEnds}
 use Rattle.commands.specs.declared.status.Status.{Status}
 use Rattle.commands.specs.declared.status.Status.TheVariants as statuses
@@ -203,9 +208,20 @@ module _ {S L : Type 0} (k : NodeTask S) (w : LinkView L) (p : PortsView L) (val
 pub rose_at : (a b : ℕ) → b ≡ next_count a → Rose a b
 rose_at a b is = omega (arith, is)
 
--- a run that is served to its end met no failed write
-pub end_writes : (waits done : Bool) (n : ℕ) (s : Status) → s ≡ end_status waits done → writes_after s n ≡ n
-end_writes true true n s is = rw is refl
-end_writes true false n s is = rw is refl
-end_writes false true n s is = rw is refl
-end_writes false false n s is = rw is refl
+-- a run that is served to its end met no fault
+pub end_is_no_fault : (waits done : Bool) (s : Status) → s ≡ end_status waits done → (s ≡ statuses.WriteFault → ⊥) × (s ≡ statuses.LinkFault → ⊥)
+end_is_no_fault true true s is = (λ told. cc, λ told. cc)
+end_is_no_fault true false s is = (λ told. cc, λ told. cc)
+end_is_no_fault false true s is = (λ told. cc, λ told. cc)
+end_is_no_fault false false s is = (λ told. cc, λ told. cc)
+
+-- memory ran out before a link was attached
+pub not_run : {S P L T K : Type 0} (link : links.Ghosts L) (ports : ports_trait.Ghosts P L) (clock : clocks.Ghosts T) (sink : sinks.Ghosts K)
+    (k : NodeTask S) (p : P) (time : T) (held : K) → NodeEndsOver link ports clock sink k p p time held held statuses.NoMemory
+not_run link ports clock sink k p time held = record {
+  ends = unattached_ends k _ _ _ _ _ refl tt (λ is. cc);
+  status = tt;
+  back = refl;
+  attaches = λ other. refl;
+  writes = counts_none _ _ _ refl (λ is. cc);
+}

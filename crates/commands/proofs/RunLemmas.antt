@@ -3,6 +3,7 @@ use Rattle.std.proofs.Common.{◌≡◌, ℕ, List, Bool, Option, Some, IsSome, 
 use Rattle.command_line.specs.declared.command.Command.{Command}
 use Rattle.command_line.specs.declared.command.Command.TheVariants.{Replay, Check}
 use Rattle.nop_types.specs.Meaning.{Meaning}
+use Rattle.outside.proofs.Counts.{rose_where}
 use Rattle.outside.specs.Causes.{Rose}
 use Rattle.commands.specs.Checks.{CheckEnds, ChecksWithoutFault}
 use Rattle.commands.specs.Ending.{ReplayEnds, EndsWithoutFault, UsageEnds, RefusesWithoutFault}
@@ -59,16 +60,19 @@ module _ {S L : Type 0} (m : Meaning S) (d : Devices L) where
       → (c ≡ Some Check → CheckEnds m d.source.before d.source.after d.sink.before d.sink.after s)
       → (¬ IsSome c → UsageEnds program d.sink.before d.sink.after s) → Runs m c d s → Completes c d s
   completes c s program replay check usage r = record {
-    replay_complete = λ is source sink. replays_well s (replay is) r.reads r.write source sink;
-    check_complete = λ is source sink. checks_well s (check is) r.reads r.write source sink;
+    replay_complete = λ is source sink. replays_well s (replay is) r.reads (write r) source sink;
+    check_complete = λ is source sink. checks_well s (check is) r.reads (write r) source sink;
     drawing_complete = λ is sink. draws_well m c s d.sink.before d.sink.after d.sink.faults_before d.sink.faults_after is r.drawing
-        r.write sink;
-    usage_complete = λ is sink. refuses_well program s (usage is) r.write sink;
+        (write r) sink;
+    usage_complete = λ is sink. refuses_well program s (usage is) (write r) sink;
     node_complete = λ is ports sink polls. command_ends_well m d.links d.ports d.values c s d.sink.before d.sink.after
-        d.sink.faults_before d.sink.faults_after is r.node ports r.write sink polls;
+        d.sink.faults_before d.sink.faults_after is r.node ports (write r) sink polls;
     cluster_complete = λ is ports sink polls. cluster_ends_well m d.links d.ports d.values c s d.sink.before d.sink.after
-        d.sink.faults_before d.sink.faults_after is r.cluster ports r.write sink polls;
+        d.sink.faults_before d.sink.faults_after is r.cluster ports (write r) sink polls;
   }
+    where
+      write : Runs m c d s → s ≡ statuses.WriteFault → Rose d.sink.faults_before d.sink.faults_after
+      write runs is = rose_where d.sink.faults_before d.sink.faults_after (s ≡ statuses.WriteFault) runs.writes is
 
   pub completes_always : (c : Option Command) (s : Status) → Works d.source → Works d.sink → Attaches d.ports
       → ((link : L) → d.links.faults link ≡ 0) → Completes c d s → CompletesAlways c s

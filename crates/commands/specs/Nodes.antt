@@ -1,14 +1,17 @@
 -- How a command that runs a node ends.
-use Rattle.std.specs.Prelude.{◌≡◌, ℕ, ◌≤◌, ◌+◌, min, List, [], ◌∷◌, ◌++◌, Bool, true, false, decimal, codes, Option, Some, None, option_map, ◌⊎◌, ⊤}
+use Rattle.std.specs.Prelude.{◌≡◌, ℕ, ◌≤◌, ◌+◌, min, List, [], ◌∷◌, ◌++◌, length, Bool, true, false, decimal, codes, Option, Some, None, option_map, ◌⊎◌, ⊤}
 use Rattle.std.specs.Io.KnownBytes.{Appends}
 use Rattle.nop_types.specs.Given.{Given}
 use Rattle.nop_types.specs.declared.input.Tick.{Tick}
 use Rattle.nop_types.specs.declared.output.Out.{Out}
-use Rattle.one_box.specs.Showing.{LinkView}
-use Rattle.outside.specs.Causes.{Rose, next_count, StaysOrRises}
+use Rattle.one_box.specs.Showing.{LinkView, links_of}
+use Rattle.outside.specs.Causes.{CountsWhere, Rose, next_count, StaysOrRises}
 use Rattle.outside.specs.Ports.{next_link}
 use Rattle.outside.specs.declared.link.PollAnswer.{PollAnswer}
+use Rattle.outside.specs.declared.clock.Clock as clock_trait
+use Rattle.outside.specs.declared.link.Link as link_trait
 use Rattle.outside.specs.declared.ports.Ports as ports_trait
+use Rattle.outside.specs.declared.sink.Sink as sink_trait
 use Rattle.udp_node.specs.declared.address.Address.{Address}
 use Rattle.udp_node.specs.Effects.{Effect, Line, effects, lines, Done, Stopped, StoppedInLine}
 use Rattle.udp_node.specs.Folding.{folded, AllOutside}
@@ -55,11 +58,6 @@ EndsNodeWithoutFault waits statuses.Done = ⊤
 EndsNodeWithoutFault waits statuses.NoMemory = ⊤
 EndsNodeWithoutFault waits statuses.Unanswered = waits ≡ true
 EndsNodeWithoutFault waits _ = ⊥
-
--- a count of failed writes: it rises by one exactly where the status is a fault of a write
-abbrev pub writes_after : Status → ℕ → ℕ
-writes_after statuses.WriteFault n = next_count n
-writes_after _ n = n
 
 -- A count of failed reads: where the status is a fault of a read it rose by one, and else no read failed. But after a failed read
 -- something is written: what fails there is told in its place.
@@ -193,3 +191,13 @@ pub record Attached {S L : Type 0} (k : NodeTask S) (w : LinkView L) (p : PortsV
 abbrev pub NodeEnds : {S L : Type 0} → NodeTask S → LinkView L → PortsView L → Option (List ℕ) → Status → Option (List ℕ) → Option (List ℕ)
     → Type 0
 NodeEnds k w p values s h i = Unattached p s h i ⊎ Attached k w p values s h i
+
+-- A command that runs a node over its ports, its clock and its sink: how it ends, and with which status. Each link is given back. An
+-- attach that fails is told by LinkFault; WriteFault comes where a write failed, and a write that fails is told by nothing else.
+pub record NodeEndsOver {S P L T K : Type 0} (link : link_trait.Ghosts L) (ports : ports_trait.Ghosts P L) (clock : clock_trait.Ghosts T)
+    (sink : sink_trait.Ghosts K) (k : NodeTask S) (old new : P) (time : T) (before now : K) (s : Status) : Type 0 where
+  pub ends : NodeEnds k (links_of link) (ports_of ports old new) (clock.values time) s (sink.held before) (sink.held now)
+  pub status : IsNodeStatus k.waits s
+  pub back : ports.attached new + length (ports.detached old) ≡ ports.attached old + length (ports.detached new)
+  pub attaches : ¬ (s ≡ statuses.LinkFault) → ports.fault_count new ≡ ports.fault_count old
+  pub writes : CountsWhere (sink.fault_count before) (sink.fault_count now) (s ≡ statuses.WriteFault)

@@ -5,13 +5,13 @@ use Rattle.command_line.specs.declared.command.Command.TheVariants.{Replay, Chec
 use Rattle.nop_types.specs.Meaning.{Meaning}
 use Rattle.one_box.specs.Boxing.{PollFailed}
 use Rattle.one_box.specs.Showing.{LinkView}
-use Rattle.outside.specs.Causes.{Rose}
+use Rattle.outside.specs.Causes.{CountsWhere, Rose}
 use Rattle.outside.specs.declared.sink.Sink as sink_trait
 use Rattle.outside.specs.declared.source.Source as source_trait
 use Rattle.commands.specs.Checks.{ChecksWithoutFault}
 use Rattle.commands.specs.Clusters.{ClusterCommandEnds, ClusterEndsWithoutFault, runs_cluster, uses_ports}
 use Rattle.commands.specs.Ending.{EndsWithoutFault, GeneratesWithoutFault, RefusesWithoutFault}
-use Rattle.commands.specs.Nodes.{EndsNodeWithoutFault, PortsView, ReadsTo, writes_after}
+use Rattle.commands.specs.Nodes.{EndsNodeWithoutFault, PortsView, ReadsTo}
 use Rattle.commands.specs.Tasks.{ClientAnswers, CommandEnds, DrawingEnds, draws, runs_node, waits_for_ops}
 use Rattle.commands.specs.declared.status.Status.{Status}
 use Rattle.commands.specs.declared.status.Status.TheVariants as statuses
@@ -54,10 +54,9 @@ pub record Runs {S L : Type 0} (m : Meaning S) (c : Option Command) (d : Devices
   pub client : ClientAnswers c s d.sink.before d.sink.after
   pub back : uses_ports c ≡ true → d.ports.attached_after + length d.ports.before ≡ d.ports.attached_before + length d.ports.after
   pub attaches : ¬ (s ≡ statuses.LinkFault) → d.ports.faults_after ≡ d.ports.faults_before
-  pub write : s ≡ statuses.WriteFault → Rose d.sink.faults_before d.sink.faults_after
   -- whatever the command is
   pub reads : ReadsTo d.source.faults_before d.source.faults_after s
-  pub writes : d.sink.faults_after ≡ writes_after s d.sink.faults_before
+  pub writes : CountsWhere d.sink.faults_before d.sink.faults_after (s ≡ statuses.WriteFault)
 
 -- no call on it failed
 abbrev pub Works : BytesView → Type 0

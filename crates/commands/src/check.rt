@@ -1,9 +1,9 @@
 //! The check of a transcript.
 
 ghost use Rattle.std.specs.Prelude.{◌≡◌};
-ghost use Rattle.outside.specs.Causes.{Rose};
+ghost use Rattle.outside.specs.Causes.{CountsWhere};
 ghost use Rattle.commands.specs.Checks.{verdict_status, CheckEnds};
-ghost use Rattle.commands.specs.Nodes.{ReadsTo, writes_after};
+ghost use Rattle.commands.specs.Nodes.{ReadsTo};
 
 use crate::status::Status;
 use judge::{Tally, check, write_verdict};
@@ -32,9 +32,8 @@ pub(crate) fn run_check<H: Host, S: Source, K: Sink>(
     ensures ends { CheckEnds H.meaning (S.left source.old) (S.left source.new) (K.held sink.old)
         (K.held sink.new) result }
     ensures reads { ReadsTo (S.fault_count source.old) (S.fault_count source.new) result }
-    ensures write { result ≡ Status.WriteFault → Rose (K.fault_count sink.old)
-        (K.fault_count sink.new) }
-    ensures writes { K.fault_count sink.new ≡ writes_after result (K.fault_count sink.old) }
+    ensures writes { CountsWhere (K.fault_count sink.old) (K.fault_count sink.new)
+        (result ≡ Status.WriteFault) }
 {
     let verdict = check::<H, S>(alloc, source);
     match write_verdict(alloc, &verdict, sink) {

@@ -1,10 +1,10 @@
 //! The command that runs all actors in one process.
 
 ghost use Rattle.std.specs.Prelude.{◌≡◌, ◌+◌, length};
-ghost use Rattle.outside.specs.Causes.{Rose};
+ghost use Rattle.outside.specs.Causes.{CountsWhere};
 ghost use Rattle.commands.specs.Clusters.{ClusterEnds};
 ghost use Rattle.one_box.specs.Showing.{links_of};
-ghost use Rattle.commands.specs.Nodes.{ports_of, writes_after};
+ghost use Rattle.commands.specs.Nodes.{ports_of};
 
 use crate::status::Status;
 use command_line::{Ops, Site};
@@ -29,9 +29,8 @@ pub(crate) fn run_cluster<H: Host, P: Ports, T: Clock, K: Sink>(
         ≡ P.attached ports.old + length (P.detached ports.new) }
     ensures attaches { ¬ (result ≡ Status.LinkFault)
         → P.fault_count ports.new ≡ P.fault_count ports.old }
-    ensures write { result ≡ Status.WriteFault → Rose (K.fault_count sink.old)
-        (K.fault_count sink.new) }
-    ensures writes { K.fault_count sink.new ≡ writes_after result (K.fault_count sink.old) }
+    ensures writes { CountsWhere (K.fault_count sink.old) (K.fault_count sink.new)
+        (result ≡ Status.WriteFault) }
 {
     let ops = ops.into_vec();
     let base = site.base;

@@ -16,9 +16,8 @@
 //!     given back.
 //!   - `client`: over any link, a client that ends Done wrote an accept line for each of its ops,
 //!     and one that ends Unanswered fewer.
-//!   - `write`, `writes`: WriteFault comes only where a write failed, and a write that failed is
-//!     always told: the sink's count of faults rose by one at WriteFault, and stayed at every other
-//!     status.
+//!   - `writes`: WriteFault comes only where a write failed, and a write that failed is always told:
+//!     the sink's count of faults rose by one at WriteFault, and stayed at every other status.
 //!   - `reads`: the source's count of faults rose by one at ReadFault; at WriteFault and NoMemory
 //!     it rose by at most one, and at every other status it stayed.
 //!   - `attaches`: an attach that failed is always told, by LinkFault.

@@ -1,13 +1,12 @@
 //! A run of a core over the ports, and its last line.
 
-ghost use Rattle.std.specs.Prelude.{◌≡◌, ◌≤◌, ◌+◌, ◌++◌, decimal, length, OnOk};
-ghost use Rattle.outside.specs.Causes.{Counts, Rose};
+ghost use Rattle.std.specs.Prelude.{◌≡◌, ◌≤◌, ◌++◌, decimal, length, OnOk};
+ghost use Rattle.outside.specs.Causes.{CountsFor, CountsWhere};
 ghost use Rattle.udp_node.specs.Effects.{Writes};
 ghost use Rattle.udp_node.specs.NodeRun.{first_inputs};
 ghost use Rattle.udp_node.specs.Sends.{side};
-ghost use Rattle.commands.specs.Nodes.{served_line, end_status, task_of, RunTold, IsNodeStatus, writes_after};
-ghost use Rattle.one_box.specs.Showing.{links_of};
-ghost use Rattle.commands.specs.Nodes.{EndsInLine, ports_of, NodeEnds};
+ghost use Rattle.commands.specs.Nodes.{served_line, end_status, task_of, EndsInLine, IsNodeStatus, NodeEndsOver, RunTold};
+ghost use Rattle.outside.specs.declared.errors.DeviceError.TheVariants as devices;
 
 use crate::status::Status;
 use nop_types::{Core, NoMemory, Tick};
@@ -45,7 +44,8 @@ fn put_served(served: Served, to: &mut Vec<u8>) -> Result<(), NoMemory>
 fn write_served<K: Sink>(alloc: Global, served: Served, sink: &mut K) -> Result<(), WriteError>
     ensures line { Writes (served_line served.turns served.lost) result (K.held sink.old)
         (K.held sink.new) }
-    ensures count { Counts (K.fault_count sink.old) (K.fault_count sink.new) result }
+    ensures count { CountsFor (K.fault_count sink.old) (K.fault_count sink.new)
+        devices.Failed result }
 {
     let mut line = Vec::new(alloc);
     put_served(served, &mut line)?;
@@ -94,11 +94,10 @@ fn run_link<C: Core, L: Link, T: Clock, K: Sink>(
         (L.loss_count link.old) (L.loss_count link.new) result
         (K.held sink.old) (K.held sink.new) }
     ensures port { L.own_port link.new ≡ L.own_port link.old }
-    ensures poll { result ≡ Status.LinkFault → Rose (L.fault_count link.old)
-        (L.fault_count link.new) }
-    ensures write { result ≡ Status.WriteFault → Rose (K.fault_count sink.old)
-        (K.fault_count sink.new) }
-    ensures writes { K.fault_count sink.new ≡ writes_after result (K.fault_count sink.old) }
+    ensures polls { CountsWhere (L.fault_count link.old) (L.fault_count link.new)
+        (result ≡ Status.LinkFault) }
+    ensures writes { CountsWhere (K.fault_count sink.old) (K.fault_count sink.new)
+        (result ≡ Status.WriteFault) }
 {
     let place = copied(at);
     let first = task.first;
@@ -126,18 +125,10 @@ pub(crate) fn run_core<C: Core, P: Ports, T: Clock, K: Sink>(
     sink: &mut K,
 ) -> Status
     requires timers { length C.timers ≤ 255 }
-    ensures ends { NodeEnds (task_of C.next C.is_done C.timers (C.state core.old) at.now
+    ensures { NodeEndsOver P.L.Link P.Ports T.Clock K.Sink
+        (task_of C.next C.is_done C.timers (C.state core.old) at.now
         (first_inputs task.now.first) task.now.turns task.now.waits)
-        (links_of P.L.Link) (ports_of P.Ports ports.old ports.new) (T.values clock.old)
-        result (K.held sink.old) (K.held sink.new) }
-    ensures status { IsNodeStatus task.now.waits result }
-    ensures back { P.attached ports.new + length (P.detached ports.old)
-        ≡ P.attached ports.old + length (P.detached ports.new) }
-    ensures attaches { ¬ (result ≡ Status.LinkFault)
-        → P.fault_count ports.new ≡ P.fault_count ports.old }
-    ensures write { result ≡ Status.WriteFault → Rose (K.fault_count sink.old)
-        (K.fault_count sink.new) }
-    ensures writes { K.fault_count sink.new ≡ writes_after result (K.fault_count sink.old) }
+        ports.old ports.new clock.old sink.old sink.new result }
 {
     match ports.attach(at.port_of(at.own)) {
         Ok(link) => {

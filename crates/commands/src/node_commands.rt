@@ -1,10 +1,8 @@
 //! The commands that run a node.
 
-ghost use Rattle.std.specs.Prelude.{◌≡◌, ◌<◌, ◌+◌, false, length, true};
+ghost use Rattle.std.specs.Prelude.{◌≡◌, ◌<◌, false, true};
 ghost use Rattle.nop_types.specs.declared.limits.TheConstants.{MAX_SEQUENCERS, MAX_CONTROLLERS};
-ghost use Rattle.outside.specs.Causes.{Rose};
-ghost use Rattle.one_box.specs.Showing.{links_of};
-ghost use Rattle.commands.specs.Nodes.{IsNodeStatus, ports_of, NodeEnds, writes_after};
+ghost use Rattle.commands.specs.Nodes.{NodeEndsOver};
 ghost use Rattle.commands.specs.Tasks.{install_tick, replica_task, sequencer_task, controller_task, client_task};
 
 use crate::node::{Task, run_core};
@@ -41,6 +39,7 @@ fn endless(site: &Site, first: Option<Tick>) -> Task
     }
 }
 
+#[tactic(auto, using(crate::proofs::NodeLemmas::not_run))]
 pub(crate) fn run_replica<H: Host, P: Ports, T: Clock, K: Sink>(
     alloc: Global,
     id: u8,
@@ -50,17 +49,8 @@ pub(crate) fn run_replica<H: Host, P: Ports, T: Clock, K: Sink>(
     sink: &mut K,
 ) -> Status
     requires id { id < site.now.config.replicas }
-    ensures ends { NodeEnds (replica_task H.meaning id site.now)
-        (links_of P.L.Link) (ports_of P.Ports ports.old ports.new) (T.values clock.old)
-        result (K.held sink.old) (K.held sink.new) }
-    ensures status { IsNodeStatus false result }
-    ensures back { P.attached ports.new + length (P.detached ports.old)
-        ≡ P.attached ports.old + length (P.detached ports.new) }
-    ensures attaches { ¬ (result ≡ Status.LinkFault)
-        → P.fault_count ports.new ≡ P.fault_count ports.old }
-    ensures write { result ≡ Status.WriteFault → Rose (K.fault_count sink.old)
-        (K.fault_count sink.new) }
-    ensures writes { K.fault_count sink.new ≡ writes_after result (K.fault_count sink.old) }
+    ensures { NodeEndsOver P.L.Link P.Ports T.Clock K.Sink (replica_task H.meaning id site.now)
+        ports.old ports.new clock.old sink.old sink.new result }
 {
     match Replica::<H>::new(alloc, site.config, id) {
         Ok(core) => {
@@ -73,6 +63,7 @@ pub(crate) fn run_replica<H: Host, P: Ports, T: Clock, K: Sink>(
     }
 }
 
+#[tactic(auto, using(crate::proofs::NodeLemmas::not_run))]
 pub(crate) fn run_sequencer<P: Ports, T: Clock, K: Sink>(
     alloc: Global,
     id: u8,
@@ -82,17 +73,8 @@ pub(crate) fn run_sequencer<P: Ports, T: Clock, K: Sink>(
     sink: &mut K,
 ) -> Status
     requires id { id < MAX_SEQUENCERS }
-    ensures ends { NodeEnds (sequencer_task id site.now)
-        (links_of P.L.Link) (ports_of P.Ports ports.old ports.new) (T.values clock.old)
-        result (K.held sink.old) (K.held sink.new) }
-    ensures status { IsNodeStatus false result }
-    ensures back { P.attached ports.new + length (P.detached ports.old)
-        ≡ P.attached ports.old + length (P.detached ports.new) }
-    ensures attaches { ¬ (result ≡ Status.LinkFault)
-        → P.fault_count ports.new ≡ P.fault_count ports.old }
-    ensures write { result ≡ Status.WriteFault → Rose (K.fault_count sink.old)
-        (K.fault_count sink.new) }
-    ensures writes { K.fault_count sink.new ≡ writes_after result (K.fault_count sink.old) }
+    ensures { NodeEndsOver P.L.Link P.Ports T.Clock K.Sink (sequencer_task id site.now)
+        ports.old ports.new clock.old sink.old sink.new result }
 {
     match Sequencer::new(alloc, id) {
         Ok(core) => {
@@ -115,6 +97,7 @@ fn install(j: Option<u8>) -> Option<Tick>
     }
 }
 
+#[tactic(auto, using(crate::proofs::NodeLemmas::not_run))]
 pub(crate) fn run_controller<P: Ports, T: Clock, K: Sink>(
     alloc: Global,
     site: &Site,
@@ -125,17 +108,8 @@ pub(crate) fn run_controller<P: Ports, T: Clock, K: Sink>(
     sink: &mut K,
 ) -> Status
     requires number { number < MAX_CONTROLLERS }
-    ensures ends { NodeEnds (controller_task site.now number j)
-        (links_of P.L.Link) (ports_of P.Ports ports.old ports.new) (T.values clock.old)
-        result (K.held sink.old) (K.held sink.new) }
-    ensures status { IsNodeStatus false result }
-    ensures back { P.attached ports.new + length (P.detached ports.old)
-        ≡ P.attached ports.old + length (P.detached ports.new) }
-    ensures attaches { ¬ (result ≡ Status.LinkFault)
-        → P.fault_count ports.new ≡ P.fault_count ports.old }
-    ensures write { result ≡ Status.WriteFault → Rose (K.fault_count sink.old)
-        (K.fault_count sink.new) }
-    ensures writes { K.fault_count sink.new ≡ writes_after result (K.fault_count sink.old) }
+    ensures { NodeEndsOver P.L.Link P.Ports T.Clock K.Sink (controller_task site.now number j)
+        ports.old ports.new clock.old sink.old sink.new result }
 {
     match Controller::new(alloc, site.config, number) {
         Ok(core) => {
@@ -148,6 +122,7 @@ pub(crate) fn run_controller<P: Ports, T: Clock, K: Sink>(
     }
 }
 
+#[tactic(auto, using(crate::proofs::NodeLemmas::not_run))]
 pub(crate) fn run_client<P: Ports, T: Clock, K: Sink>(
     alloc: Global,
     id: u32,
@@ -157,17 +132,8 @@ pub(crate) fn run_client<P: Ports, T: Clock, K: Sink>(
     clock: &mut T,
     sink: &mut K,
 ) -> Status
-    ensures ends { NodeEnds (client_task id site.now ops)
-        (links_of P.L.Link) (ports_of P.Ports ports.old ports.new) (T.values clock.old)
-        result (K.held sink.old) (K.held sink.new) }
-    ensures status { IsNodeStatus true result }
-    ensures back { P.attached ports.new + length (P.detached ports.old)
-        ≡ P.attached ports.old + length (P.detached ports.new) }
-    ensures attaches { ¬ (result ≡ Status.LinkFault)
-        → P.fault_count ports.new ≡ P.fault_count ports.old }
-    ensures write { result ≡ Status.WriteFault → Rose (K.fault_count sink.old)
-        (K.fault_count sink.new) }
-    ensures writes { K.fault_count sink.new ≡ writes_after result (K.fault_count sink.old) }
+    ensures { NodeEndsOver P.L.Link P.Ports T.Clock K.Sink (client_task id site.now ops)
+        ports.old ports.new clock.old sink.old sink.new result }
 {
     match Client::new(alloc, site.config, id, ops.into_vec()) {
         Ok(core) => {

@@ -1,5 +1,5 @@
 ghost use Rattle.std.specs.Prelude.{◌≡◌, ◌≤◌, false, IfOk};
-ghost use Rattle.outside.specs.Causes.{Rose};
+ghost use Rattle.outside.specs.Causes.{CountsWhere};
 ghost use Rattle.replay.specs.Safety.{RunsSafelyOf};
 ghost use Rattle.command_line.specs.Commands.{IsFit};
 ghost use Rattle.commands.specs.Words.{asked, reads, usage_line, Taken};
@@ -7,7 +7,7 @@ ghost use Rattle.commands.specs.Checks.{CheckEnds};
 ghost use Rattle.commands.specs.Clusters.{uses_ports};
 ghost use Rattle.commands.specs.Ending.{ReplayEnds, GenEnds, UsageEnds};
 ghost use Rattle.one_box.specs.Showing.{links_of};
-ghost use Rattle.commands.specs.Nodes.{ports_of, ReadsTo, writes_after};
+ghost use Rattle.commands.specs.Nodes.{ports_of, ReadsTo};
 ghost use Rattle.commands.specs.Runs.{Runs, Completes, devices, sink_of, source_of};
 
 use crate::check::run_check;
@@ -28,9 +28,8 @@ fn run_replay<H: Host, S: Source, K: Sink>(alloc: Global, source: &mut S, sink: 
         (K.held sink.new) result }
     ensures safe { result ≡ Status.Done → RunsSafelyOf H.meaning (S.left source.old) }
     ensures reads { ReadsTo (S.fault_count source.old) (S.fault_count source.new) result }
-    ensures write { result ≡ Status.WriteFault → Rose (K.fault_count sink.old)
-        (K.fault_count sink.new) }
-    ensures writes { K.fault_count sink.new ≡ writes_after result (K.fault_count sink.old) }
+    ensures writes { CountsWhere (K.fault_count sink.old) (K.fault_count sink.new)
+        (result ≡ Status.WriteFault) }
 {
     match replay::<H, S, K>(alloc, source, sink) {
         Ok(()) => Status::Done,
@@ -45,9 +44,8 @@ fn run_gen<H: Host, K: Sink>(alloc: Global, number: u64, count: u32, sink: &mut 
     requires least { 1 ≤ count }
     requires limit { count ≤ 100000 }
     ensures ends { GenEnds H.meaning number count (K.held sink.old) (K.held sink.new) result }
-    ensures write { result ≡ Status.WriteFault → Rose (K.fault_count sink.old)
-        (K.fault_count sink.new) }
-    ensures writes { K.fault_count sink.new ≡ writes_after result (K.fault_count sink.old) }
+    ensures writes { CountsWhere (K.fault_count sink.old) (K.fault_count sink.new)
+        (result ≡ Status.WriteFault) }
 {
     match generate::<H, K>(alloc, number, count, sink) {
         Ok(()) => Status::Done,
@@ -69,9 +67,8 @@ fn usage_line(alloc: Global, program: &str) -> Result<Vec<u8>, NoMemory>
 #[tactic(auto, using(crate::proofs::CommandLemmas::no_usage))]
 fn write_usage<K: Sink>(alloc: Global, program: &str, sink: &mut K) -> Status
     ensures ends { UsageEnds program.now (K.held sink.old) (K.held sink.new) result }
-    ensures write { result ≡ Status.WriteFault → Rose (K.fault_count sink.old)
-        (K.fault_count sink.new) }
-    ensures writes { K.fault_count sink.new ≡ writes_after result (K.fault_count sink.old) }
+    ensures writes { CountsWhere (K.fault_count sink.old) (K.fault_count sink.new)
+        (result ≡ Status.WriteFault) }
 {
     let Ok(line) = usage_line(alloc, program) else {
         return Status::NoMemory;

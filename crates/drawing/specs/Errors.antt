@@ -1,6 +1,5 @@
 -- What the errors of the parts become.
 use Rattle.std.specs.Prelude.{ℕ, ⊤, List, ◌++◌, None, Some, Result, Ok, Err, codes, decimal}
-use Rattle.outside.specs.Causes.{next_count}
 use Rattle.outside.specs.declared.errors.DeviceError.{DeviceError}
 use Rattle.outside.specs.declared.errors.DeviceError.TheVariants as devices
 use Rattle.schedule_text.specs.declared.next_error.NextError.{NextError}
@@ -55,11 +54,6 @@ IsOfEvent NoMemory = ⊤
 abbrev pub IsUnwritten : DrawError → Type 0
 IsUnwritten WriteFault = ⊥
 IsUnwritten _ = ⊤
-
--- the sink's count of faults after an answer: WriteFault tells one more, and at every other answer no write failed
-abbrev pub writes_after : {T : Type 0} → Result T DrawError → ℕ → ℕ
-writes_after (Err WriteFault) n = next_count n
-writes_after _ n = n
 
 -- the line that says why there is no picture, without its end: at a bad line as a transcript has it
 abbrev pub complaint_text : DrawError → List ℕ

@@ -1,11 +1,11 @@
 //! From a schedule to a picture.
 
 ghost use Rattle.std.specs.Prelude.{◌≡◌, ◌++◌, codes, decimal, string_bytes, Some, IfErr, IfOk, OnOk};
-ghost use Rattle.outside.specs.Causes.{CountsFor, HasCauseFor};
+ghost use Rattle.outside.specs.Causes.{CountsFor};
 ghost use Rattle.picture.specs.Texts.{Grows, IsWhole};
 ghost use Rattle.transcript_text.specs.Transcript.{sent_text};
 ghost use Rattle.world.specs.WorldSteps.{actor_of};
-ghost use Rattle.drawing.specs.Errors.{complaint_text, writes_after, IsOfEvent, IsOfSchedule};
+ghost use Rattle.drawing.specs.Errors.{complaint_text, IsOfEvent, IsOfSchedule};
 ghost use Rattle.drawing.specs.Errors.{IsUnwritten};
 ghost use Rattle.drawing.specs.Rows.{AddsRow, Wrote};
 
@@ -120,9 +120,8 @@ pub fn run<H: Host, T: OpText, S: Source, K: Sink>(
     ensures unwritten { IfErr result (λ e. IsOfSchedule e → K.held sink.new ≡ K.held sink.old) }
     ensures reads { CountsFor (S.fault_count source.old) (S.fault_count source.new)
         DrawError.ReadFault result }
-    ensures write { HasCauseFor (K.fault_count sink.old) (K.fault_count sink.new)
+    ensures writes { CountsFor (K.fault_count sink.old) (K.fault_count sink.new)
         DrawError.WriteFault result }
-    ensures count { K.fault_count sink.new ≡ writes_after result (K.fault_count sink.old) }
 {
     let text = drawing::<H, T, S>(alloc, source)?;
     write_all(sink, text.as_bytes())?;

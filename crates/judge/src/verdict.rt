@@ -1,8 +1,9 @@
 //! The line that tells what a judge answered.
 
 ghost use Rattle.std.specs.Prelude.{◌≡◌, ◌++◌, OnOk};
-ghost use Rattle.outside.specs.Causes.{Counts};
+ghost use Rattle.outside.specs.Causes.{CountsFor};
 ghost use Rattle.judge.specs.Verdicts.{verdict_line, WritesVerdict};
+ghost use Rattle.outside.specs.declared.errors.DeviceError.TheVariants as devices;
 
 use crate::tally::Tally;
 use nop_types::NoMemory;
@@ -46,7 +47,8 @@ pub fn write_verdict<K: Sink>(
 ) -> Result<(), WriteError>
     ensures writes { WritesVerdict (verdict_line verdict.now) result (K.held sink.old)
         (K.held sink.new) }
-    ensures count { Counts (K.fault_count sink.old) (K.fault_count sink.new) result }
+    ensures count { CountsFor (K.fault_count sink.old) (K.fault_count sink.new)
+        devices.Failed result }
 {
     let mut line = Vec::new(alloc);
     put_verdict(verdict, &mut line)?;

@@ -1,7 +1,8 @@
 //! From arguments to a line with the result.
 
 ghost use Rattle.std.specs.Prelude.{◌≡◌, ◌+◌, length, IfOk};
-ghost use Rattle.client_call.specs.Calls.{attaches_after};
+ghost use Rattle.client_call.specs.declared.errors.CallError.TheVariants as errors;
+ghost use Rattle.outside.specs.Causes.{CountsFor};
 ghost use Rattle.kv_call.specs.Arguments.{call_of};
 ghost use Rattle.kv_call.specs.Calls.{line_of, over, used, Gives};
 
@@ -31,8 +32,8 @@ pub fn call<P: Ports, C: Clock>(
 ) -> Result<Option<Bytes>, CallError>
     ensures result { Gives (used P.L.Link) (over (P.to_come ports.old) (P.detached ports.old)
         (P.detached ports.new) (C.values clock.old)) (call_of arguments.now) result }
-    ensures attaches { P.fault_count ports.new
-        ≡ attaches_after result (P.fault_count ports.old) }
+    ensures attaches { CountsFor (P.fault_count ports.old) (P.fault_count ports.new)
+        errors.PortFault result }
     ensures back { P.attached ports.new + length (P.detached ports.old)
         ≡ P.attached ports.old + length (P.detached ports.new) }
     ensures unused { call_of arguments.now ≡ None → ports.new ≡ ports.old }

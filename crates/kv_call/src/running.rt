@@ -2,11 +2,12 @@
 
 ghost use Rattle.std.specs.Prelude.{OnErr, OnOk};
 ghost use Rattle.std.specs.Io.KnownBytes.{Appends};
-ghost use Rattle.outside.specs.Causes.{Counts};
+ghost use Rattle.outside.specs.Causes.{CountsFor};
 ghost use Rattle.outside.specs.Fronts.{AppendsFront};
 ghost use Rattle.kv_call.specs.Arguments.{call_of};
 ghost use Rattle.kv_call.specs.Calls.{over, used};
 ghost use Rattle.kv_call.specs.Ending.{Ends, usage_line};
+ghost use Rattle.outside.specs.declared.errors.DeviceError.TheVariants as devices;
 
 use crate::calling::call;
 use crate::status::Status;
@@ -20,7 +21,8 @@ const USAGE_LINE: &str = "usage: kv_call PORT REPLICAS SEQUENCERS CLIENT TURNS O
 fn write_usage<K: Sink>(sink: &mut K) -> Result<(), WriteError>
     ensures ok { OnOk result (Appends (K.held sink.old) (K.held sink.new) usage_line) }
     ensures err { OnErr result (AppendsFront (K.held sink.old) (K.held sink.new) usage_line) }
-    ensures count { Counts (K.fault_count sink.old) (K.fault_count sink.new) result }
+    ensures count { CountsFor (K.fault_count sink.old) (K.fault_count sink.new)
+        devices.Failed result }
 {
     write_all(sink, USAGE_LINE.as_bytes())
 }
@@ -37,7 +39,8 @@ pub fn run<K: Sink, P: Ports, C: Clock>(
     ensures ends { Ends (used P.L.Link) (over (P.to_come ports.old) (P.detached ports.old)
         (P.detached ports.new) (C.values clock.old)) (call_of arguments.now)
         (K.held sink.old) (K.held sink.new) result }
-    ensures count { Counts (K.fault_count sink.old) (K.fault_count sink.new) result }
+    ensures count { CountsFor (K.fault_count sink.old) (K.fault_count sink.new)
+        devices.Failed result }
 {
     match call(alloc, arguments.as_slice(), ports, clock) {
         Ok(Some(line)) => {

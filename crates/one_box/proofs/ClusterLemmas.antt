@@ -9,7 +9,8 @@ use Rattle.std.proofs.lemmas.Grind.{common_steps}
 use Rattle.nop_types.specs.Checkpoints.{KeepsTo}
 use Rattle.nop_types.specs.Configuration.{Configuration, is_configuration}
 use Rattle.nop_types.specs.Meaning.{Meaning}
-use Rattle.outside.specs.Causes.{Rose, Counts}
+use Rattle.outside.specs.Causes.{Rose, CountsFor}
+use Rattle.outside.proofs.Counts.{rose_where}
 use Rattle.outside.specs.Clocks.{later_values, TellsTime}
 use Rattle.outside.specs.Fronts.{AppendsFront}
 use Rattle.outside.specs.declared.errors.DeviceError.{DeviceError}
@@ -98,16 +99,16 @@ module _ {S L : Type 0} (m : Meaning S) (v : LinkView L) (config : Configuration
 
   -- a link that was not attached
   pub unattached : (e : DeviceError) (polls : Option (List (List PollAnswer))) (values : Option (List ℕ)) (faults faults_now : ℕ)
-      (det here : List L) (d : Course) (ys : List (code.Node L)) → Counts {T = Unit {0}} faults faults_now (Err e)
+      (det here : List L) (d : Course) (ys : List (code.Node L)) → CountsFor {T = Unit {0}} faults faults_now Failed (Err e)
       → RunsOr m v config ops base turns polls values faults faults_now det here (Err e) d ys
-  unattached Failed polls values faults faults_now det here d ys count = inl (omega (arith, count.is))
+  unattached Failed polls values faults faults_now det here d ys count = inl (rose_where faults faults_now _ count refl)
   unattached devices.NoMemory polls values faults faults_now det here d ys count = tt
 
 -- an attach that failed is told by its error
-pub attaches_same : {T U : Type 0} (a b : ℕ) (e : DeviceError) → Counts {T = T} a b (Err e)
+pub attaches_same : {T U : Type 0} (a b : ℕ) (e : DeviceError) → CountsFor {T = T} a b Failed (Err e)
     → ¬ (let r : Result U DeviceError = Err e in IsErrOf r Failed) → b ≡ a
 attaches_same a b Failed count other = absurd (other refl)
-attaches_same a b devices.NoMemory count other = count.is
+attaches_same a b devices.NoMemory count other = count.others (λ told. cc)
 
 -- ---- the links
 

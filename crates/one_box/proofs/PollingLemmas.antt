@@ -3,7 +3,8 @@ use Rattle.std.proofs.Common.{◌≡◌, ℕ, List, [], ◌∷◌, drop, map, Op
 use Rattle.std.proofs.Common.{refl, sym, ap, subst, ◌∙◌, arith}
 use Rattle.nop_types.specs.Configuration.{Configuration}
 use Rattle.nop_types.specs.Meaning.{Meaning}
-use Rattle.outside.specs.Causes.{Counts, next_count}
+use Rattle.outside.proofs.Counts.{rose_where}
+use Rattle.outside.specs.Causes.{CountsFor, next_count}
 use Rattle.outside.specs.Links.{next_poll, Polls}
 use Rattle.outside.specs.declared.errors.DeviceError.{DeviceError}
 use Rattle.outside.specs.declared.errors.DeviceError.TheVariants as devices
@@ -115,7 +116,7 @@ module _ {S L : Type 0} (m : Meaning S) (v : LinkView L) (now : ℕ) (c d : Cour
 
   -- the poll failed, or memory ran out
   pub unpolled : (e : DeviceError) → Polls (v.answers x.link) (v.answers z.link) (Err e)
-      → Counts {T = Option (List ℕ)} (v.faults x.link) (v.faults z.link) (Err e)
+      → CountsFor {T = Option (List ℕ)} (v.faults x.link) (v.faults z.link) devices.Failed (Err e)
       → Serves v m (poll m now) (Err e) c x d z
   unfolding poll run.polled
   unpolled devices.Failed polls counts = record {
@@ -124,7 +125,7 @@ module _ {S L : Type 0} (m : Meaning S) (v : LinkView L) (now : ℕ) (c d : Cour
         poll_failed (Some n.answers) (v.answers x.link) (v.answers z.link) shown.answers polls in
         let k : Node = after_poll m now n in
         ap (λ (p : PollAnswer). run.polled m p c k) (sym gives);
-    rose = omega (arith, counts.is);
+    rose = rose_where _ _ _ counts refl;
   }
   unpolled devices.NoMemory polls counts = tt
 

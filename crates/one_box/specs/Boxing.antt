@@ -3,7 +3,7 @@ use Rattle.std.specs.Prelude.{◌≡◌, ◌≤◌, ◌++◌, ◌==◌, ◌⊎�
 use Rattle.std.specs.Io.KnownBytes.{Appends}
 use Rattle.nop_types.specs.Configuration.{Configuration}
 use Rattle.nop_types.specs.Meaning.{Meaning}
-use Rattle.outside.specs.Causes.{Rose, next_count}
+use Rattle.outside.specs.Causes.{Rose}
 use Rattle.outside.specs.Fronts.{AppendsFront}
 use Rattle.outside.specs.declared.errors.DeviceError.{DeviceError}
 use Rattle.outside.specs.declared.errors.DeviceError.TheVariants.{Failed}
@@ -33,13 +33,6 @@ error_of Failed = LinkFault
 error_of devices.NoMemory = NoMemory
 
 -- ---- writing
-
--- the sink's count of faults after the call: it rises by one exactly where a write ended it
-abbrev pub writes_after : {T : Type 0} → Result T ClusterError → ℕ → ℕ
-writes_after (Ok t) n = n
-writes_after (Err LinkFault) n = n
-writes_after (Err WriteFault) n = next_count n
-writes_after (Err NoMemory) n = n
 
 -- the text was written and the run told, or a front of the text was written
 abbrev pub WritesRun : List ℕ → Boxed → Result Boxed ClusterError → Option (List ℕ) → Option (List ℕ) → Type 0

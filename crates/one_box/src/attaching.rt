@@ -1,7 +1,8 @@
 ghost use Rattle.std.specs.Prelude.{◌≡◌, ◌≤◌, ◌<◌, ◌++◌, ◌∷◌, [], map, length, slice_get};
 ghost use Rattle.std.specs.Prelude.{Some, IfOk, OnOk};
 ghost use Rattle.nop_types.specs.declared.output.Actor.TheVariants as kinds;
-ghost use Rattle.outside.specs.Causes.{Counts};
+ghost use Rattle.outside.specs.Causes.{CountsFor};
+ghost use Rattle.outside.specs.declared.errors.DeviceError.TheVariants as devices;
 ghost use Rattle.outside.specs.Told.{Stays};
 ghost use Rattle.udp_node.specs.Timing.{armed};
 ghost use Rattle.world.specs.Lookups.{timers_of};
@@ -145,7 +146,8 @@ fn attach_one<P: Ports>(
         (ports_side (P.to_come ports.old) (P.attached ports.old) (P.detached ports.old))
         (ports_side (P.to_come ports.new) (P.attached ports.new) (P.detached ports.new))
         nodes.old.items nodes.new.items }
-    ensures count { Counts (P.fault_count ports.old) (P.fault_count ports.new) result }
+    ensures count { CountsFor (P.fault_count ports.old) (P.fault_count ports.new)
+        devices.Failed result }
 {
     let port = at.port_of(at.own);
     match ports.attach(port) {
@@ -185,7 +187,8 @@ fn attach_actor<H: Host, P: Ports>(
         (ports_side (P.to_come ports.old) (P.attached ports.old) (P.detached ports.old))
         (ports_side (P.to_come ports.new) (P.attached ports.new) (P.detached ports.new))
         nodes.old.items nodes.new.items }
-    ensures count { Counts (P.fault_count ports.old) (P.fault_count ports.new) result }
+    ensures count { CountsFor (P.fault_count ports.old) (P.fault_count ports.new)
+        devices.Failed result }
 {
     match first_timers(alloc, world, at.own, now) {
         Ok(timers) => attach_one(ports, at, timers, nodes),
@@ -220,7 +223,8 @@ pub(crate) fn attach_all<H: Host, P: Ports>(
     ensures holds { Holds (P.attached ports.old) (P.detached ports.old) (P.attached ports.new)
         (P.detached ports.new) nodes.new.items }
     ensures room { HasRoom (P.attached ports.new) (P.detached ports.new) nodes.new.items }
-    ensures count { Counts (P.fault_count ports.old) (P.fault_count ports.new) result }
+    ensures count { CountsFor (P.fault_count ports.old) (P.fault_count ports.new)
+        devices.Failed result }
 {
     for i in 0..actors.len() {
         let own = actor_at(actors, i);

@@ -1,8 +1,8 @@
 ghost use Rattle.std.specs.Prelude.{◌≡◌, ◌+◌, ◌⊎◌, [], length, IsTrue, IsErrOf};
 ghost use Rattle.nop_types.specs.Headers.{gives};
-ghost use Rattle.outside.specs.Causes.{Rose};
+ghost use Rattle.outside.specs.Causes.{CountsFor, Rose};
 ghost use Rattle.one_box.specs.Attaching.{HasRoom, Holds};
-ghost use Rattle.one_box.specs.Boxing.{error_of, EndsWith, IsNoRun, PollFailed, RunsOr, writes_after};
+ghost use Rattle.one_box.specs.Boxing.{error_of, EndsWith, IsNoRun, PollFailed, RunsOr};
 ghost use Rattle.one_box.specs.ClusterRun.{opening_course};
 ghost use Rattle.one_box.specs.Showing.{course_of, links_of};
 ghost use Rattle.one_box.specs.declared.errors.ClusterError.TheVariants as errors;
@@ -104,9 +104,8 @@ pub fn serve_all<H: Host, P: Ports, C: Clock, K: Sink>(
     ensures none { IsErrOf result errors.LinkFault
         → Rose (P.fault_count ports.old) (P.fault_count ports.new) ⊎ IsNoRun H.meaning config
         ops.now base turns (P.to_come ports.old) (C.values clock.old) }
-    ensures write { IsErrOf result errors.WriteFault
-        → Rose (K.fault_count sink.old) (K.fault_count sink.new) }
-    ensures writes { K.fault_count sink.new ≡ writes_after result (K.fault_count sink.old) }
+    ensures writes { CountsFor (K.fault_count sink.old) (K.fault_count sink.new)
+        errors.WriteFault result }
 {
     // for the limits of a configuration
     let _ = config.replicas();

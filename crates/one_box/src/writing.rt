@@ -1,7 +1,7 @@
-ghost use Rattle.std.specs.Prelude.{◌≡◌, ◌++◌, decimal, IsTrue, OnOk, IsErrOf};
+ghost use Rattle.std.specs.Prelude.{◌≡◌, ◌++◌, decimal, IsTrue, OnOk};
 ghost use Rattle.nop_types.specs.Headers.{gives};
-ghost use Rattle.outside.specs.Causes.{Rose};
-ghost use Rattle.one_box.specs.Boxing.{WritesRun, writes_after};
+ghost use Rattle.outside.specs.Causes.{CountsFor};
+ghost use Rattle.one_box.specs.Boxing.{WritesRun};
 ghost use Rattle.one_box.specs.declared.errors.ClusterError.TheVariants as errors;
 ghost use Rattle.std.specs.List.{All, flat_map};
 ghost use Rattle.schedule_text.specs.EventText.{HasLine};
@@ -131,9 +131,8 @@ pub(crate) fn write_run<H: Host, K: Sink>(
           done = taken.done;
         })
         result (K.held sink.old) (K.held sink.new) }
-    ensures cause { IsErrOf result errors.WriteFault
-        → Rose (K.fault_count sink.old) (K.fault_count sink.new) }
-    ensures count { K.fault_count sink.new ≡ writes_after result (K.fault_count sink.old) }
+    ensures count { CountsFor (K.fault_count sink.old) (K.fault_count sink.new)
+        errors.WriteFault result }
 {
     let mut text = Vec::new(alloc);
     if put_all(config, course, taken.turns, lost, &mut text).is_err() {

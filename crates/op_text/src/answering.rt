@@ -4,10 +4,11 @@ ghost use Rattle.std.specs.Prelude.{◌≡◌, ◌∷◌, [], ◌++◌, IfOk, On
 ghost use Rattle.std.specs.Option.{unwrap_or};
 ghost use Rattle.hex.specs.Hex.{encode_lower};
 ghost use Rattle.std.specs.Io.KnownBytes.{Appends};
-ghost use Rattle.outside.specs.Causes.{Counts};
+ghost use Rattle.outside.specs.Causes.{CountsFor};
 ghost use Rattle.outside.specs.Fronts.{AppendsFront};
 ghost use Rattle.op_text.specs.Answers.{op_answer, text_answer, result_answer, by_digits};
 ghost use Rattle.op_text.specs.Answers.{answer_of, status_of};
+ghost use Rattle.outside.specs.declared.errors.DeviceError.TheVariants as devices;
 
 use crate::op_text::OpText;
 use crate::word::decoded;
@@ -108,7 +109,8 @@ fn write_line<K: Sink>(alloc: Global, line: &[u8], sink: &mut K) -> Result<(), W
     ensures ok { OnOk result (Appends (K.held sink.old) (K.held sink.new) (line.now ++ 10 ∷ [])) }
     ensures err { OnErr result (AppendsFront (K.held sink.old) (K.held sink.new)
         (line.now ++ 10 ∷ [])) }
-    ensures count { Counts (K.fault_count sink.old) (K.fault_count sink.new) result }
+    ensures count { CountsFor (K.fault_count sink.old) (K.fault_count sink.new)
+        devices.Failed result }
 {
     let mut text = Vec::from_slice(alloc, line)?;
     text.push(b'\n')?;
@@ -133,7 +135,8 @@ pub fn run<T: OpText, K: Sink>(
         (unwrap_or answer usage.now ++ 10 ∷ [])) }
 
     // `Failed` comes exactly where a write failed.
-    ensures count { Counts (K.fault_count sink.old) (K.fault_count sink.new) result }
+    ensures count { CountsFor (K.fault_count sink.old) (K.fault_count sink.new)
+        devices.Failed result }
 {
     match answer::<T>(alloc, arguments.as_slice())? {
         Some(line) => {

@@ -23,22 +23,16 @@ count_after_read (Err e) n = next_count n
 abbrev pub Rose : ℕ → ℕ → Type 0
 Rose before now = min (before + 1) (2 ^ 64 - 1) ≤ now
 
--- the count does not fall, and this error comes only where it rose
-pub record HasCauseFor {T E : Type 0} (before now : ℕ) (error : E) (result : Result T E) : Type 0 where
+-- a count of faults over a call: it rises by one exactly where this holds, and else it stays
+pub record CountsWhere (before now : ℕ) (fact : Type 0) : Type 0 where
   pub later : before ≤ now
-  pub failed : IsErrOf result error → Rose before now
+  pub failed : fact → now ≡ next_count before
+  pub others : ¬ fact → now ≡ before
 
 -- the count of a device over calls on it that end with the first that fails: it rises by one exactly where this error is the answer
-pub record CountsFor {T E : Type 0} (before now : ℕ) (error : E) (result : Result T E) : Type 0 where
-  pub later : before ≤ now
-  pub failed : IsErrOf result error → now ≡ next_count before
-  pub others : ¬ IsErrOf result error → now ≡ before
+abbrev pub CountsFor : {T E : Type 0} → ℕ → ℕ → E → Result T E → Type 0
+CountsFor before now error result = CountsWhere before now (IsErrOf result error)
 
 -- the count over calls whose last one may have failed and is not told, since something failed after it
 abbrev pub StaysOrRises : ℕ → ℕ → Type 0
 StaysOrRises before now = (now ≡ before) ⊎ (now ≡ next_count before)
-
--- the count of a device over a call that makes calls on it until one fails: it rises by one exactly where that is the answer
-pub record Counts {T : Type 0} (before now : ℕ) (result : Result T DeviceError) : Type 0 where
-  pub later : before ≤ now
-  pub is : now ≡ count_after result before

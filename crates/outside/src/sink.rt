@@ -1,6 +1,6 @@
 ghost use Rattle.std.specs.Prelude.{◌≡◌, ◌≤◌, ◌<◌, List, ℕ, Option, length, IfOk, OnOk, OnErr, IsOkUnless};
 ghost use Rattle.std.specs.Io.KnownBytes.{WriteAppends, Appends};
-ghost use Rattle.outside.specs.Causes.{Rose, HasCauseFor, count_after};
+ghost use Rattle.outside.specs.Causes.{Rose, CountsFor, count_after};
 ghost use Rattle.outside.specs.Fronts.{AppendsFront};
 ghost use Rattle.outside.specs.declared.errors.DeviceError.TheVariants as errors;
 
@@ -33,9 +33,8 @@ pub trait Sink {
 pub fn write_all<K: Sink>(sink: &mut K, bytes: &[u8]) -> Result<(), WriteError>
     ensures ok { OnOk result (Appends (K.held sink.old) (K.held sink.new) bytes.now) }
     ensures err { OnErr result (AppendsFront (K.held sink.old) (K.held sink.new) bytes.now) }
-    ensures cause { HasCauseFor (K.fault_count sink.old) (K.fault_count sink.new)
+    ensures count { CountsFor (K.fault_count sink.old) (K.fault_count sink.new)
         errors.Failed result }
-    ensures count { K.fault_count sink.new ≡ count_after result (K.fault_count sink.old) }
     ensures succeeds { ¬ Rose (K.fault_count sink.old) (K.fault_count sink.new)
         → IsOkUnless result errors.NoMemory }
 {

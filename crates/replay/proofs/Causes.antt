@@ -1,14 +1,14 @@
 -- An error of a device is told only where a count of faults rose.
 use Rattle.std.proofs.Common.{◌≡◌, ℕ, ◌≤◌, Option, List, [], ◌++◌, refl, subst, ap, ◌∙◌, arith, inl, inr}
 use Rattle.std.specs.Prelude.{Result, Ok, Err, IsErrOf}
-use Rattle.outside.specs.Causes.{Rose, CountsFor, HasCauseFor, next_count}
+use Rattle.outside.specs.Causes.{CountsFor, next_count}
 use Rattle.schedule_text.specs.declared.next_error.NextError.{NextError}
 use Rattle.schedule_text.specs.declared.next_error.NextError.TheVariants as nexts
 use Rattle.world.specs.WorldSteps.{Refusal, Happened}
 use Rattle.replay.specs.declared.error.ReplayError.{ReplayError}
 use Rattle.replay.specs.declared.error.ReplayError.TheVariants as errors
 use Rattle.replay.specs.Output.{BadLine}
-use Rattle.replay.specs.Outcome.{ReadsTo, writes_after}
+use Rattle.replay.specs.Outcome.{ReadsTo}
 use Rattle.replay.specs.Steps.{bad_line, Fails, Interrupts, Refuses, Writes, Stops, RefusesStep}
 
 -- no read failed, and none is told
@@ -70,16 +70,3 @@ stop_reads before now pending nexts.NoMemory x a b d is same h =
 pub starved_reads : {T : Type 0} (a b : ℕ) (r : Result T ReplayError) (e : ReplayError) → r ≡ Err e → e ≡ errors.NoMemory → b ≡ a
     → ReadsTo a b r
 starved_reads a b r e is none same = rw (is, none) (inl same)
-
--- ---- who tells a fault of the sink
-
-rose_by_one : (a b : ℕ) → b ≡ next_count a → Rose a b
-rose_by_one a b is = omega (arith, is)
-
-write_rose : {T : Type 0} (a b : ℕ) (r : Result T ReplayError) → r ≡ Err errors.WriteFault → b ≡ writes_after r a → Rose a b
-write_rose a b r told is = rose_by_one a b (rw told at is)
-
--- an exact count gives a cause
-pub counted_cause : {T : Type 0} (a b : ℕ) (r : Result T ReplayError) → a ≤ b → b ≡ writes_after r a
-    → HasCauseFor a b errors.WriteFault r
-counted_cause a b r le is = record { later = le; failed = λ told. write_rose a b r told is }

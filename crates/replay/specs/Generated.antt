@@ -4,7 +4,6 @@ use Rattle.std.specs.Prelude.{count_by}
 use Rattle.std.specs.List.{AllByRecursion}
 use Rattle.std.specs.Io.KnownBytes.{Appends}
 use Rattle.rand_pcg.specs.Lcg.{Lcg}
-use Rattle.outside.specs.Causes.{next_count}
 use Rattle.outside.specs.Fronts.{AppendsFront}
 use Rattle.nop_types.specs.Configuration.{Configuration}
 use Rattle.nop_types.specs.Meaning.{Meaning}
@@ -115,9 +114,3 @@ abbrev pub WritesText : Option (List ℕ) → Option (List ℕ) → List ℕ →
 WritesText before now text (Ok x) = Appends before now text
 WritesText before now text (Err WriteFault) = AppendsFront before now text
 WritesText before now text (Err NoMemory) = AppendsFront before now text
-
--- the sink's count of faults after it: WriteFault tells one more, and at every other answer no write failed
-abbrev pub writes_after : {T : Type 0} → Result T GenError → ℕ → ℕ
-writes_after (Ok t) n = n
-writes_after (Err WriteFault) n = next_count n
-writes_after (Err NoMemory) n = n

@@ -66,18 +66,6 @@ module _ {S : Type 0} (m : Meaning S) where
   EndsWith bytes left before now (Err errors.WriteFault) = WroteFront bytes before now
   EndsWith bytes left before now (Err errors.NoMemory) = WroteFront bytes before now
 
--- ---- a write that fails is told
-
--- the sink's count of faults after this error: WriteFault tells one more, and at every other error no write failed
-abbrev pub writes_after_error : ReplayError → ℕ → ℕ
-writes_after_error errors.WriteFault n = next_count n
-writes_after_error _ n = n
-
--- the same of an answer: at Ok no write failed
-abbrev pub writes_after : {T : Type 0} → Result T ReplayError → ℕ → ℕ
-writes_after (Ok t) n = n
-writes_after (Err e) n = writes_after_error e n
-
 -- ---- a read that fails is told
 
 -- The source's count of faults after an answer: ReadFault tells one more, and at Ok and at a bad line no read failed. After a read

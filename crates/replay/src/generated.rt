@@ -1,7 +1,7 @@
 //! The schedule that is drawn from a number, and its run.
 
 ghost use Rattle.std.specs.Prelude.{◌≡◌, ◌≤◌, ◌+◌, ◌++◌, ◌∷◌, [], IfOk, OnOk};
-ghost use Rattle.outside.specs.Causes.{HasCauseFor};
+ghost use Rattle.outside.specs.Causes.{CountsFor};
 ghost use Rattle.world.specs.Actors.{Happens};
 ghost use Rattle.network.specs.LineCounts.{Shows};
 ghost use Rattle.world.specs.WorldSteps.{opening, step};
@@ -10,7 +10,6 @@ ghost use Rattle.replay.specs.Generated.{
   drawn_events,
   drawn_summary,
   first_event,
-  writes_after,
   RunsFrom,
   WritesText,
 };
@@ -208,9 +207,8 @@ fn summarise<H: Host>(
 
 fn write_text<K: Sink>(text: &[u8], sink: &mut K) -> Result<(), GenError>
     ensures writes { WritesText (K.held sink.old) (K.held sink.new) text.now result }
-    ensures cause { HasCauseFor (K.fault_count sink.old) (K.fault_count sink.new)
+    ensures count { CountsFor (K.fault_count sink.old) (K.fault_count sink.new)
         GenError.WriteFault result }
-    ensures count { K.fault_count sink.new ≡ writes_after result (K.fault_count sink.old) }
 {
     match write_all(sink, text) {
         Ok(()) => Ok(()),
@@ -231,9 +229,8 @@ pub fn generate<H: Host, K: Sink>(
     requires limit { count ≤ MAX_DRAWN_EVENTS }
     ensures writes { WritesText (K.held sink.old) (K.held sink.new)
         (drawn_summary H.meaning number count) result }
-    ensures cause { HasCauseFor (K.fault_count sink.old) (K.fault_count sink.new)
+    ensures count { CountsFor (K.fault_count sink.old) (K.fault_count sink.new)
         GenError.WriteFault result }
-    ensures count { K.fault_count sink.new ≡ writes_after result (K.fault_count sink.old) }
 {
     let mut text = Vec::new(alloc);
     summarise::<H>(alloc, number, count, &mut text)?;

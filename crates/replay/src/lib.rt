@@ -27,7 +27,7 @@
 //! Calls: `replay` and `generate`, for `commands`.
 //!
 //! Files: `replayed`, `reading`, `turn`, `writing`; `generated`, `drawing`, `summary`. Definitions:
-//! `specs/Output`, `Outcome` (`EndsWith`, `ReadsTo`, `writes_after`), `Safety`, `Generated`.
+//! `specs/Output`, `Outcome` (`EndsWith`, `ReadsTo`), `Safety`, `Generated`.
 #![tactic(auto)]
 
 mod drawing;

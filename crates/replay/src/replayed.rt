@@ -1,9 +1,9 @@
 ghost use Rattle.std.specs.Prelude.{◌≡◌, ◌≤◌, ◌++◌, false, IsSome, IsTrue, IfOk, OnOk};
 ghost use Rattle.nop_types.specs.Headers.{gives};
-ghost use Rattle.outside.specs.Causes.{HasCauseFor};
+ghost use Rattle.outside.specs.Causes.{CountsFor};
 ghost use Rattle.transcript_text.specs.Transcript.{transcript_line};
 ghost use Rattle.world.specs.WorldSteps.{opening};
-ghost use Rattle.replay.specs.Outcome.{EndsWith, ReadsTo, writes_after};
+ghost use Rattle.replay.specs.Outcome.{EndsWith, ReadsTo};
 ghost use Rattle.replay.specs.Progress.{begins, GoesOn, Start};
 ghost use Rattle.replay.specs.Safety.{RunsSafelyOf};
 
@@ -52,8 +52,8 @@ fn take_events<H: Host, S: Source, K: Sink>(
     ensures ends { EndsWith H.meaning start.bytes (S.left source.new) start.held
         (K.held sink.new) result }
     ensures reads { ReadsTo (S.fault_count source.old) (S.fault_count source.new) result }
-    ensures later { K.fault_count sink.old ≤ K.fault_count sink.new }
-    ensures count { K.fault_count sink.new ≡ writes_after result (K.fault_count sink.old) }
+    ensures count { CountsFor (K.fault_count sink.old) (K.fault_count sink.new)
+        ReplayError.WriteFault result }
 {
     // line 1 was taken, each turn takes one more, and the last one finds the end or a line too many
     for _turn in 0..MAX_LINES {
@@ -79,8 +79,8 @@ fn replay_from<H: Host, S: Source, K: Sink>(
         (K.held sink.new) result }
     ensures safe { OnOk result (RunsSafelyOf H.meaning (S.left source.old)) }
     ensures reads { ReadsTo (S.fault_count source.old) (S.fault_count source.new) result }
-    ensures later { K.fault_count sink.old ≤ K.fault_count sink.new }
-    ensures count { K.fault_count sink.new ≡ writes_after result (K.fault_count sink.old) }
+    ensures count { CountsFor (K.fault_count sink.old) (K.fault_count sink.new)
+        ReplayError.WriteFault result }
 {
     let mut reader = Reader::new(alloc);
     let mut pending = Vec::new(alloc);
@@ -94,7 +94,6 @@ fn replay_from<H: Host, S: Source, K: Sink>(
 
 /// Reads a schedule from the source and writes the transcript of its run with a host of this type,
 /// line by line. What was written before an error stays.
-#[tactic(auto, using(crate::proofs::Causes::counted_cause))]
 pub fn replay<H: Host, S: Source, K: Sink>(
     alloc: Global,
     source: &mut S,
@@ -104,9 +103,8 @@ pub fn replay<H: Host, S: Source, K: Sink>(
         (K.held sink.new) result }
     ensures safe { OnOk result (RunsSafelyOf H.meaning (S.left source.old)) }
     ensures reads { ReadsTo (S.fault_count source.old) (S.fault_count source.new) result }
-    ensures write { HasCauseFor (K.fault_count sink.old) (K.fault_count sink.new)
+    ensures count { CountsFor (K.fault_count sink.old) (K.fault_count sink.new)
         ReplayError.WriteFault result }
-    ensures count { K.fault_count sink.new ≡ writes_after result (K.fault_count sink.old) }
 {
     replay_from::<H, S, K>(alloc, source, sink)
 }

@@ -1,7 +1,7 @@
-ghost use Rattle.std.specs.Prelude.{◌≡◌, ◌≤◌, ◌++◌};
+ghost use Rattle.std.specs.Prelude.{◌≡◌, ◌++◌};
+ghost use Rattle.outside.specs.Causes.{CountsFor, CountsWhere};
 ghost use Rattle.world.specs.Ending.{final_text};
 ghost use Rattle.world.specs.WorldSteps.{step};
-ghost use Rattle.replay.specs.Outcome.{writes_after, writes_after_error};
 ghost use Rattle.replay.specs.Steps.{Writes, Refuses, Stops, Gathers, RefusesFor, TakesEvent};
 
 use crate::error::ReplayError;
@@ -22,9 +22,8 @@ fn refuse<K: Sink>(
 ) -> ReplayError
     ensures refuses { Refuses (K.held sink.old) (K.held sink.new) pending.old.items
         (record { line = line; rule = rule; index_sent = index_sent }) result }
-    ensures later { K.fault_count sink.old ≤ K.fault_count sink.new }
-    ensures count { K.fault_count sink.new
-        ≡ writes_after_error result (K.fault_count sink.old) }
+    ensures count { CountsWhere (K.fault_count sink.old) (K.fault_count sink.new)
+        (result ≡ ReplayError.WriteFault) }
 {
     if error_line(line, rule, index_sent, pending).is_err() {
         return ReplayError::NoMemory;
@@ -38,9 +37,8 @@ fn refuse<K: Sink>(
 /// The reader gave no event: what was gathered is written, and the line that is bad is told.
 pub fn stop<K: Sink>(error: NextError, pending: &mut Vec<u8>, sink: &mut K) -> ReplayError
     ensures stops { Stops (K.held sink.old) (K.held sink.new) pending.old.items error result }
-    ensures later { K.fault_count sink.old ≤ K.fault_count sink.new }
-    ensures count { K.fault_count sink.new
-        ≡ writes_after_error result (K.fault_count sink.old) }
+    ensures count { CountsWhere (K.fault_count sink.old) (K.fault_count sink.new)
+        (result ≡ ReplayError.WriteFault) }
 {
     match error {
         NextError::BadLine { line, rule } => refuse(line, rule, None, pending, sink),
@@ -57,8 +55,8 @@ pub fn stop<K: Sink>(error: NextError, pending: &mut Vec<u8>, sink: &mut K) -> R
 fn gather<K: Sink>(text: &[u8], pending: &mut Vec<u8>, sink: &mut K) -> Result<(), ReplayError>
     ensures gathers { Gathers (K.held sink.old) (K.held sink.new) pending.old.items
         pending.new.items text.now result }
-    ensures later { K.fault_count sink.old ≤ K.fault_count sink.new }
-    ensures count { K.fault_count sink.new ≡ writes_after result (K.fault_count sink.old) }
+    ensures count { CountsFor (K.fault_count sink.old) (K.fault_count sink.new)
+        ReplayError.WriteFault result }
 {
     pending.extend_from_slice(text)?;
     if pending.len() >= GATHERED_BYTES {
@@ -76,9 +74,8 @@ fn refuse_event<K: Sink>(
 ) -> ReplayError
     ensures refuses { RefusesFor (K.held sink.old) (K.held sink.new) pending.old.items line error
         result }
-    ensures later { K.fault_count sink.old ≤ K.fault_count sink.new }
-    ensures count { K.fault_count sink.new
-        ≡ writes_after_error result (K.fault_count sink.old) }
+    ensures count { CountsWhere (K.fault_count sink.old) (K.fault_count sink.new)
+        (result ≡ ReplayError.WriteFault) }
 {
     match error {
         StepError::NoSuchActor => {
@@ -107,8 +104,8 @@ pub fn take_event<H: Host, K: Sink>(
 ) -> Result<(), ReplayError>
     ensures takes { TakesEvent (K.held sink.old) (K.held sink.new) pending.old.items
         pending.new.items line (step H.meaning world.old.state event.now) world.new.state result }
-    ensures later { K.fault_count sink.old ≤ K.fault_count sink.new }
-    ensures count { K.fault_count sink.new ≡ writes_after result (K.fault_count sink.old) }
+    ensures count { CountsFor (K.fault_count sink.old) (K.fault_count sink.new)
+        ReplayError.WriteFault result }
 {
     match world.step(event) {
         Ok(lines) => gather(lines.text.as_slice(), pending, sink),
@@ -125,8 +122,8 @@ pub fn finish<H: Host, K: Sink>(
 ) -> Result<(), ReplayError>
     ensures writes { Writes (K.held sink.old) (K.held sink.new)
         (pending.old.items ++ final_text world.now.state) result }
-    ensures later { K.fault_count sink.old ≤ K.fault_count sink.new }
-    ensures count { K.fault_count sink.new ≡ writes_after result (K.fault_count sink.old) }
+    ensures count { CountsFor (K.fault_count sink.old) (K.fault_count sink.new)
+        ReplayError.WriteFault result }
 {
     final_lines(world, pending)?;
     flush(sink, pending)

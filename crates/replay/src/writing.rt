@@ -1,6 +1,6 @@
-ghost use Rattle.std.specs.Prelude.{◌≡◌, ◌≤◌, [], OnOk};
+ghost use Rattle.std.specs.Prelude.{◌≡◌, [], OnOk};
+ghost use Rattle.outside.specs.Causes.{CountsFor};
 ghost use Rattle.schedule_text.specs.Stepping.{NeedsNoRead};
-ghost use Rattle.replay.specs.Outcome.{writes_after};
 ghost use Rattle.replay.specs.Steps.{Gathers, Writes};
 
 use crate::error::ReplayError;
@@ -14,8 +14,8 @@ pub const GATHERED_BYTES: usize = 0x1_0000;
 pub fn flush<K: Sink>(sink: &mut K, pending: &mut Vec<u8>) -> Result<(), ReplayError>
     ensures writes { Writes (K.held sink.old) (K.held sink.new) pending.old.items result }
     ensures empty { OnOk result (pending.new.items ≡ []) }
-    ensures later { K.fault_count sink.old ≤ K.fault_count sink.new }
-    ensures count { K.fault_count sink.new ≡ writes_after result (K.fault_count sink.old) }
+    ensures count { CountsFor (K.fault_count sink.old) (K.fault_count sink.new)
+        ReplayError.WriteFault result }
 {
     match write_all(sink, pending) {
         Ok(()) => {
@@ -37,8 +37,8 @@ pub fn write_decided<K: Sink>(
     ensures gathers { Gathers (K.held sink.old) (K.held sink.new) pending.old.items
         pending.new.items [] result }
     ensures written { OnOk result (¬ NeedsNoRead reader.now → pending.new.items ≡ []) }
-    ensures later { K.fault_count sink.old ≤ K.fault_count sink.new }
-    ensures count { K.fault_count sink.new ≡ writes_after result (K.fault_count sink.old) }
+    ensures count { CountsFor (K.fault_count sink.old) (K.fault_count sink.new)
+        ReplayError.WriteFault result }
 {
     if !reader.has_line() {
         flush(sink, pending)?;

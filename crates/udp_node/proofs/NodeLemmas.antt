@@ -1,9 +1,10 @@
 -- A node over calls that follow one another.
-use Rattle.std.proofs.Common.{◌≡◌, ℕ, ◌+◌, ◌<◌, List, [], ◌∷◌, length, get_or, take, Result, Ok, Err, ◌∙◌}
+use Rattle.std.proofs.Common.{◌≡◌, ℕ, ◌+◌, ◌<◌, List, [], ◌∷◌, length, get_or, take, Result, Ok, Err, refl, ◌∙◌}
 use Rattle.nop_types.specs.declared.core_trait.Core as cores
 use Rattle.nop_types.specs.declared.output.Out.{Out}
-use Rattle.outside.specs.Causes.{Counts}
+use Rattle.outside.specs.Causes.{CountsFor}
 use Rattle.outside.specs.declared.errors.DeviceError.{DeviceError}
+use Rattle.outside.specs.declared.errors.DeviceError.TheVariants as devices
 use Rattle.outside.specs.declared.link.Link as links
 use Rattle.outside.specs.declared.sink.Sink as sinks
 use Rattle.udp_node.specs.declared.firing.Timer.{Timer}
@@ -12,13 +13,32 @@ use Rattle.udp_node.specs.Effects.{effects, effects_of, Done, Stops}
 use Rattle.udp_node.specs.Folding.{Runs}
 use Rattle.udp_node.specs.Nodes.{Same, Does, Takes, link_side}
 use Rattle.udp_node.specs.Timing.{due_ticks}
+use Rattle.udp_node.specs.Turns.{error_of}
+use Rattle.udp_node.specs.declared.errors.ServeError.{ServeError}
+use Rattle.udp_node.specs.declared.errors.ServeError.TheVariants.{LinkFault, WriteFault}
+use Rattle.outside.proofs.Counts.{counts_none}
 use Rattle.udp_node.proofs.EffectLemmas.{out_done, out_stopped}
 use Rattle.udp_node.proofs.FoldLemmas.{no_timer, timer_ran, timer_stops}
 use Rattle.udp_node.proofs.SendLemmas.{unpolled_then}
 
-pub counts_then : {T : Type 0} (before mid now : ℕ) (result : Result T DeviceError) → Counts {T = Unit {0}} before mid (Ok tt)
-    → Counts mid now result → Counts before now result
-counts_then before mid now result one two = rw one.is at two
+pub counts_then : {T : Type 0} (before mid now : ℕ) (result : Result T DeviceError)
+    → CountsFor {T = Unit {0}} before mid devices.Failed (Ok tt) → CountsFor mid now devices.Failed result
+    → CountsFor before now devices.Failed result
+counts_then before mid now result one two = let same : mid ≡ before = one.others (λ told. cc) in rw same at two
+
+-- an error of a write is told by the call that makes it
+pub write_told : {T U : Type 0} (before now : ℕ) (e : DeviceError) (x : ServeError) → x ≡ error_of e
+    → CountsFor {T = T} before now devices.Failed (Err e) → CountsFor {T = U} before now WriteFault (Err x)
+write_told before now devices.Failed x is one =
+    rw is (record { later = one.later; failed = λ told. one.failed refl; others = λ never. absurd (never refl) })
+write_told before now devices.NoMemory x is one =
+    rw is (record { later = one.later; failed = λ told. absurd cc; others = λ never. one.others (λ told. cc) })
+
+-- and it is none of a poll
+pub no_poll_told : {U : Type 0} (before now : ℕ) (e : DeviceError) (x : ServeError) → x ≡ error_of e → now ≡ before
+    → CountsFor {T = U} before now LinkFault (Err x)
+no_poll_told before now devices.Failed x is same = rw is (counts_none before now _ same (λ told. cc))
+no_poll_told before now devices.NoMemory x is same = rw is (counts_none before now _ same (λ told. cc))
 
 pub same_then : {C L W : Type 0} (link : links.Ghosts L) (x y z : Node C L W) → Same link x y → Same link y z → Same link x z
 same_then link x y z one two = record {

@@ -2,8 +2,9 @@
 use Rattle.std.specs.Prelude.{◌≡◌, ◌≤◌, ◌+◌, ◌-◌, ℕ, min, false, List, Option, Result, IfOk, OnOk}
 use Rattle.nop_types.specs.Given.{Given}
 use Rattle.nop_types.specs.declared.core_trait.Core as cores
-use Rattle.outside.specs.Causes.{Counts, HasCauseFor}
+use Rattle.outside.specs.Causes.{CountsFor}
 use Rattle.outside.specs.declared.errors.DeviceError.{DeviceError}
+use Rattle.outside.specs.declared.errors.DeviceError.TheVariants.{Failed}
 use Rattle.outside.specs.declared.link.Link as links
 use Rattle.outside.specs.declared.sink.Sink as sinks
 use Rattle.udp_node.specs.declared.errors.ServeError.{ServeError}
@@ -15,7 +16,7 @@ use Rattle.udp_node.specs.Effects.{Effect, Carries, WroteText}
 use Rattle.udp_node.specs.Folding.{Runs, TookSome}
 use Rattle.udp_node.specs.NodeRun.{ServesTold}
 use Rattle.udp_node.specs.Sends.{LinkSide, Unpolled, side_of, last_count}
-use Rattle.udp_node.specs.Turns.{TurnEnds, polls_after, writes_after}
+use Rattle.udp_node.specs.Turns.{TurnEnds}
 
 module _ {C L W : Type 0} (link : links.Ghosts L) where
   abbrev pub link_side : Node C L W → LinkSide
@@ -34,23 +35,21 @@ module _ {C L W : Type 0} (link : links.Ghosts L) (sink : sinks.Ghosts W) where
   pub record Does {T : Type 0} (old new : Node C L W) (es : List Effect) (result : Result T DeviceError) : Type 0 where
     pub idle : new.core ≡ old.core
     pub carries : Carries es result (link_side link old) (link_side link new) (sink.held old.sink.now) (sink.held new.sink.now)
-    pub count : Counts (sink.fault_count old.sink.now) (sink.fault_count new.sink.now) result
+    pub count : CountsFor (sink.fault_count old.sink.now) (sink.fault_count new.sink.now) Failed result
     pub unpolled : Unpolled link old.link.now new.link.now
     pub same : Same link old new
 
   -- what the counts of faults of its devices say of a result
   pub record Faults {T : Type 0} (old new : Node C L W) (result : Result T ServeError) : Type 0 where
-    pub poll : HasCauseFor (link.fault_count old.link.now) (link.fault_count new.link.now) LinkFault result
-    pub polls : link.fault_count new.link.now ≡ polls_after result (link.fault_count old.link.now)
-    pub write : HasCauseFor (sink.fault_count old.sink.now) (sink.fault_count new.sink.now) WriteFault result
-    pub writes : sink.fault_count new.sink.now ≡ writes_after result (sink.fault_count old.sink.now)
+    pub polls : CountsFor (link.fault_count old.link.now) (link.fault_count new.link.now) LinkFault result
+    pub writes : CountsFor (sink.fault_count old.sink.now) (sink.fault_count new.sink.now) WriteFault result
 
 module _ {C L W : Type 0} (core : cores.Ghosts C) (link : links.Ghosts L) (sink : sinks.Ghosts W) where
   -- its core took these inputs, and it did what they gave
   pub record Takes {T : Type 0} (old new : Node C L W) (inputs : List Given) (result : Result T DeviceError) : Type 0 where
     pub runs : Runs core.next old.at (core.state old.core.now) (core.state new.core.now) inputs result (link_side link old)
         (link_side link new) (sink.held old.sink.now) (sink.held new.sink.now)
-    pub count : Counts (sink.fault_count old.sink.now) (sink.fault_count new.sink.now) result
+    pub count : CountsFor (sink.fault_count old.sink.now) (sink.fault_count new.sink.now) Failed result
     pub unpolled : Unpolled link old.link.now new.link.now
     pub same : Same link old new
 

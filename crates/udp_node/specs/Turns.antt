@@ -2,7 +2,6 @@
 use Rattle.std.specs.Prelude.{◌≡◌, ℕ, List, [], ◌∷◌, ◌++◌, map, false, Option, Result, Ok, Err}
 use Rattle.nop_types.specs.Given.{Given}
 use Rattle.nop_types.specs.declared.output.Out.{Out}
-use Rattle.outside.specs.Causes.{next_count}
 use Rattle.outside.specs.declared.errors.DeviceError.{DeviceError}
 use Rattle.outside.specs.declared.errors.DeviceError.TheVariants as writes
 use Rattle.outside.specs.declared.link.LinkCall.TheVariants.{Polled}
@@ -20,20 +19,6 @@ use Rattle.udp_node.specs.Timing.{rearmed, due_ticks, packet_of, is_failure, Giv
 abbrev pub error_of : DeviceError → ServeError
 error_of writes.Failed = WriteFault
 error_of writes.NoMemory = NoMemory
-
--- a count of failed writes: it rises by one exactly where one ended the call
-abbrev pub writes_after : {T : Type 0} → Result T ServeError → ℕ → ℕ
-writes_after (Ok t) n = n
-writes_after (Err LinkFault) n = n
-writes_after (Err WriteFault) n = next_count n
-writes_after (Err NoMemory) n = n
-
--- the same of failed polls
-abbrev pub polls_after : {T : Type 0} → Result T ServeError → ℕ → ℕ
-polls_after (Ok t) n = n
-polls_after (Err LinkFault) n = next_count n
-polls_after (Err WriteFault) n = n
-polls_after (Err NoMemory) n = n
 
 module _ {S : Type 0} (next : S → Given → S × List Out) (at : Address) where
   -- the state after the ticks that are due, and what they give

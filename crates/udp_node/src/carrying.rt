@@ -1,6 +1,7 @@
 ghost use Rattle.std.specs.Prelude.{◌∷◌, []};
 ghost use Rattle.nop_types.specs.Given.{given};
-ghost use Rattle.outside.specs.Causes.{Counts};
+ghost use Rattle.outside.specs.Causes.{CountsFor};
+ghost use Rattle.outside.specs.declared.errors.DeviceError.TheVariants as devices;
 ghost use Rattle.transcript_text.specs.Transcript as texts;
 ghost use Rattle.udp_node.specs.Effects.{effects_of, effects, Writes};
 ghost use Rattle.udp_node.specs.Nodes.{Does, Takes};
@@ -15,7 +16,8 @@ use transcript_text::{accept_line, submit_line};
 fn write_submit<W: Sink>(alloc: Global, request: &Request, sink: &mut W) -> Result<(), WriteError>
     ensures line { Writes (texts.submit_line request.now) result (W.held sink.old)
         (W.held sink.new) }
-    ensures count { Counts (W.fault_count sink.old) (W.fault_count sink.new) result }
+    ensures count { CountsFor (W.fault_count sink.old) (W.fault_count sink.new)
+        devices.Failed result }
 {
     let mut line = Vec::new(alloc);
     submit_line(request, &mut line)?;
@@ -31,7 +33,8 @@ fn write_accept<W: Sink>(
 ) -> Result<(), WriteError>
     ensures line { Writes (texts.accept_line client id answer.now) result (W.held sink.old)
         (W.held sink.new) }
-    ensures count { Counts (W.fault_count sink.old) (W.fault_count sink.new) result }
+    ensures count { CountsFor (W.fault_count sink.old) (W.fault_count sink.new)
+        devices.Failed result }
 {
     let mut line = Vec::new(alloc);
     accept_line(client, id, answer, &mut line)?;

@@ -10,8 +10,8 @@
 //!   not done; over any devices, the lines are those of some inputs that the core took.
 //! - `lost`, and the law `counts_failed_sends`: LOST is no more than the link's losses rose by
 //!   (unless they are at their end, 2^64 - 1), and over an observable link exactly that.
-//! - `poll`, `polls`, `write`, `writes`: LinkFault comes where a poll failed and WriteFault where a
-//!   write failed, and only there. `wrote`, `port`: a sink keeps what it held, and a link its port.
+//! - `polls`, `writes`: LinkFault comes where a poll failed and WriteFault where a write failed, and
+//!   only there. `wrote`, `port`: a sink keeps what it held, and a link its port.
 //!
 //! Calls: `serve` with `Address`, `BasePort` and `Served`, for `commands`; `send_to`, `poll_link`,
 //! `Timer` and `rearm_due`, for `one_box`.

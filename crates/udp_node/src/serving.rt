@@ -1,10 +1,9 @@
 ghost use Rattle.std.specs.Prelude.{◌≡◌, ◌≤◌, ◌+◌, ◌-◌, ◌^◌, min, length, false, IfOk, OnOk};
-ghost use Rattle.outside.specs.Causes.{HasCauseFor};
+ghost use Rattle.outside.specs.Causes.{CountsFor};
 ghost use Rattle.udp_node.specs.Effects.{WroteText};
 ghost use Rattle.udp_node.specs.NodeRun.{first_inputs, ServesAfter};
 ghost use Rattle.udp_node.specs.Nodes.{CountsTurns, Faults, Same, TakesTurns};
 ghost use Rattle.udp_node.specs.Folding.{TookSome};
-ghost use Rattle.udp_node.specs.Turns.{polls_after, writes_after};
 ghost use Rattle.udp_node.specs.Sends.{side_of};
 ghost use Rattle.udp_node.specs.declared.errors.ServeError.TheVariants as errors;
 
@@ -89,12 +88,10 @@ pub fn serve<C: Core, L: Link, K: Clock, W: Sink>(
     ensures lost { IfOk result (λ served.
         min (L.loss_count link.old + served.lost) (2 ^ 64 - 1) ≤ L.loss_count link.new) }
     ensures port { L.own_port link.new ≡ L.own_port link.old }
-    ensures poll { HasCauseFor (L.fault_count link.old) (L.fault_count link.new)
+    ensures polls { CountsFor (L.fault_count link.old) (L.fault_count link.new)
         errors.LinkFault result }
-    ensures polls { L.fault_count link.new ≡ polls_after result (L.fault_count link.old) }
-    ensures write { HasCauseFor (W.fault_count sink.old) (W.fault_count sink.new)
+    ensures writes { CountsFor (W.fault_count sink.old) (W.fault_count sink.new)
         errors.WriteFault result }
-    ensures writes { W.fault_count sink.new ≡ writes_after result (W.fault_count sink.old) }
 {
     let mut node = Node {
         alloc,

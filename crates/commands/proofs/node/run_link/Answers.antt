@@ -1,8 +1,9 @@
-use Rattle.std.proofs.Common.{◌∙◌, sym}
+use Rattle.std.proofs.Common.{◌∙◌}
+use Rattle.outside.proofs.Counts.{counts_none}
 use Rattle.udp_node.specs.NodeRun.{first_inputs}
 use Rattle.udp_node.specs.Sends.{side}
 use Rattle.commands.specs.Nodes.{task_of}
-use Rattle.commands.proofs.NodeLemmas.{ends_served, ends_in_line, ends_short, ends_broken, ends_writing, ends_without_memory, ends_in_last, end_writes}
+use Rattle.commands.proofs.NodeLemmas.{ends_served, ends_in_line, ends_short, ends_broken, ends_writing, ends_without_memory, ends_in_last, end_is_no_fault}
 use Rattle.commands.proofs.node.run_link.Goals as goal
 
 pub returns-in-Ok-write_served-clause-run : goal.returns-in-Ok-write_served-clause-run
@@ -79,6 +80,10 @@ returns-in-Err-NoMemory-clause-run g c =
 
 pub returns-in-Ok-write_served-clause-writes : goal.returns-in-Ok-write_served-clause-writes
 returns-in-Ok-write_served-clause-writes g c =
-    c.in-Ok-write_served.ensures.count.is ∙ c.in-Ok.ensures.writes
-    ∙ sym (end_writes c.args.task.now.waits c.in-Ok.served.done (g.K.Sink.fault_count c.args.sink.now) c.end_status.result
-    c.end_status.ensures)
+    counts_none _ _ _ (c.in-Ok-write_served.ensures.count.others (λ told. cc) ∙ c.in-Ok.ensures.writes.others (λ told. cc))
+    (end_is_no_fault c.args.task.now.waits c.in-Ok.served.done c.end_status.result c.end_status.ensures).0
+
+pub returns-in-Ok-write_served-clause-polls : goal.returns-in-Ok-write_served-clause-polls
+returns-in-Ok-write_served-clause-polls g c =
+    counts_none _ _ _ (c.in-Ok.ensures.polls.others (λ told. cc))
+    (end_is_no_fault c.args.task.now.waits c.in-Ok.served.done c.end_status.result c.end_status.ensures).1

@@ -17,7 +17,6 @@ returns-in-Client-clause-ends g c =
           (g.K.Sink.held c.args.sink.now) (g.K.Sink.held c.run_client.new.sink) c.run_client.ensures.ends;
       back = λ is. c.run_client.ensures.back;
       attaches = c.run_client.ensures.attaches;
-      write = c.run_client.ensures.write;
       reads = no_read (g.S.Source.fault_count c.args.source.now) true c.run_client.result c.run_client.ensures.status;
       writes = c.run_client.ensures.writes;
     })

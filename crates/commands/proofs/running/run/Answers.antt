@@ -1,4 +1,5 @@
 use Rattle.std.proofs.Common.{◌+◌, length, refl, inl}
+use Rattle.outside.proofs.Counts.{counts_none}
 use Rattle.commands.proofs.AnswerLemmas.{no_answers}
 use Rattle.commands.proofs.CheckLemmas.{unchecked}
 use Rattle.commands.proofs.ClusterLemmas.{not_served}
@@ -28,7 +29,6 @@ returns-in-Err-clause-ends g c =
       client = no_answers (asked c.args.words.now) held;
       back = λ is. refl {a = ports.attached_before + length ports.before};
       attaches = λ other. refl {a = ports.faults_before};
-      write = λ is. cc;
       reads = inl (refl {a = g.S.Source.fault_count c.args.source.now});
-      writes = refl {a = g.K.Sink.fault_count c.args.sink.now};
+      writes = counts_none (g.K.Sink.fault_count c.args.sink.now) _ _ refl (λ is. cc);
     }

@@ -1,5 +1,6 @@
 use Rattle.std.proofs.Common.{◌≡◌, ◌∙◌, refl, sym, subst, ap, arith, length, map, Some, Err}
 use Rattle.std.specs.Prelude.{slice_get}
+use Rattle.outside.proofs.Counts.{counts_none}
 use Rattle.one_box.specs.Showing.{links_of, AllLostFit, place_of}
 use Rattle.one_box.proofs.AttachingLemmas.{attaching_first, attaching_more, attached_all, places_more, places_all, lost_push}
 use Rattle.one_box.proofs.AttachingLemmas.{room_stays, room_more, holds_stays, holds_more}
@@ -64,7 +65,7 @@ loop-i-preserved g c =
           c.attach_actor.new.nodes.items one.node one.added attached.attached attached.given
           attached.room c.loop-i.invariant.room;
       given = attached.given ∙ c.loop-i.invariant.given;
-      same = c.in_default.ensures.count.is ∙ c.loop-i.invariant.same;
+      same = c.in_default.ensures.count.others (λ told. cc) ∙ c.loop-i.invariant.same;
     }
 
 pub returns-clause-attaches : goal.returns-clause-attaches
@@ -88,4 +89,4 @@ pub returns-clause-room : goal.returns-clause-room
 returns-clause-room g c = c.loop-i.invariant.room
 
 pub returns-clause-count : goal.returns-clause-count
-returns-clause-count g c = record { later = omega (arith, c.loop-i.invariant.same); is = c.loop-i.invariant.same }
+returns-clause-count g c = counts_none _ _ _ c.loop-i.invariant.same (λ told. cc)

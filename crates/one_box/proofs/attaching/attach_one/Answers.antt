@@ -1,4 +1,5 @@
 use Rattle.std.proofs.Common.{refl, ◌∙◌, ap, arith, length}
+use Rattle.outside.proofs.Counts.{counts_after, counts_none}
 use Rattle.one_box.proofs.AttachingLemmas.{given_back}
 use Rattle.one_box.proofs.attaching.attach_one.Goals as goal
 
@@ -32,10 +33,7 @@ returns-in-Err-push-clause-attaches g c = record {
 }
 
 pub returns-in-Err-push-clause-count : goal.returns-in-Err-push-clause-count
-returns-in-Err-push-clause-count g c = record {
-  later = omega (arith, c.in-Ok.ensures.later, c.detach_one.ensures.faults);
-  is = c.detach_one.ensures.faults ∙ c.in-Ok.ensures.count;
-}
+returns-in-Err-push-clause-count g c = counts_none _ _ _ (c.detach_one.ensures.faults ∙ c.in-Ok.ensures.count) (λ told. cc)
 
 pub returns-in-Err-clause-attaches : goal.returns-in-Err-clause-attaches
 returns-in-Err-clause-attaches g c = record {
@@ -44,4 +42,4 @@ returns-in-Err-clause-attaches g c = record {
 }
 
 pub returns-in-Err-clause-count : goal.returns-in-Err-clause-count
-returns-in-Err-clause-count g c = record { later = c.in-Err.ensures.later; is = c.in-Err.ensures.count }
+returns-in-Err-clause-count g c = counts_after _ _ _ c.in-Err.ensures.later c.in-Err.ensures.count

@@ -1,5 +1,6 @@
-use Rattle.std.proofs.Common.{◌≡◌, ◌∙◌, rules}
+use Rattle.std.proofs.Common.{◌≡◌, ◌∙◌, refl, rules}
 use Rattle.nop_types.specs.Checkpoints.{KeepsTo}
+use Rattle.outside.proofs.Counts.{counts_none}
 use Rattle.one_box.specs.Attaching.{lost_by}
 use Rattle.one_box.specs.Showing.{course_of, links_of}
 use Rattle.one_box.proofs.ClusterLemmas.{run_ends, ends_early, caused, no_run, never_link, never_written, other_error, all_back}
@@ -50,8 +51,8 @@ returns-clause-none g c =
     c.run_turns-ran.new.nodes.items c.in-Err.e c.error_of.result c.error_of.ensures c.detach_all.ensures.faults
     c.in-Err.ensures.runs
 
-pub returns-clause-write : goal.returns-clause-write
-returns-clause-write g c = λ is. absurd (never_written c.in-Err.e c.error_of.result c.error_of.ensures is)
+pub returns-clause-writes : goal.returns-clause-writes
+returns-clause-writes g c = counts_none _ _ _ refl (never_written c.in-Err.e c.error_of.result c.error_of.ensures)
 
 pub detach_all-requires : goal.detach_all-requires
 detach_all-requires g c = c.run_turns-ran.ensures.room

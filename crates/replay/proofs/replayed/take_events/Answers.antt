@@ -41,7 +41,8 @@ loop-turn-preserved g c =
       lines = let one = (rw c.in-Ok-Some.field-0-is at c.in-Ok-Some.ensures.line) kept.opened in omega (arith, one, kept.lines);
       most = rw (← c.line.ensures.value) c.line.ensures.most;
       reads = c.in-Ok-Some.ensures.count.others (λ is. cc) ∙ kept.reads;
-      count = omega (arith, kept.count, c.in_ok-write_decided.ensures.count, c.in_ok-take_event-in-Ok-Some.ensures.count);
+      count = c.in_ok-take_event-in-Ok-Some.ensures.count.others (λ told. cc) ∙ c.in_ok-write_decided.ensures.count.others (λ told. cc)
+          ∙ kept.count;
     }
 
 pub returns-in_err-write_decided-clause-ends : goal.returns-in_err-write_decided-clause-ends

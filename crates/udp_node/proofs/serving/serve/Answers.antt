@@ -3,6 +3,9 @@ use Rattle.std.specs.Result.{IfOk}
 use Rattle.std.proofs.lemmas.Result.{IfOk-weaker, on_ok_weaker}
 use Rattle.udp_node.specs.NodeRun.{first_inputs}
 use Rattle.udp_node.specs.Sends.{side_of, last_count}
+use Rattle.outside.proofs.Counts.{counts_then}
+use Rattle.udp_node.specs.declared.serving.Served.{Served}
+use Rattle.udp_node.proofs.NodeLemmas.{no_poll_told, write_told}
 use Rattle.udp_node.proofs.FoldLemmas.{took_then, ran_took, first_outside}
 use Rattle.udp_node.proofs.RunLemmas.{serves_after, serves_stopped, lost_more, lost_joined}
 use Rattle.udp_node.proofs.WritingLemmas.{wrote_then, runs_wrote}
@@ -48,4 +51,24 @@ returns-in-Ok-clause-took g c =
     let first = ran_took _ _ _ _ _ _ _ _ _ (first_outside c.args.first) c.in-Ok.ensures.runs in
     let all = on_ok_weaker c.take_turns.result (took_then _ _ _ _ _ _ _ _ first)
     (rw c.in-Ok.ensures.same.at at c.take_turns.ensures.turns.took) in
+    search (rules, all)
+
+pub returns-in-Ok-clause-polls : goal.returns-in-Ok-clause-polls
+returns-in-Ok-clause-polls g c =
+    let all = counts_then _ _ _ _ c.in-Ok.ensures.unpolled.faults c.take_turns.ensures.faults.polls in
+    search (rules, all)
+
+pub returns-in-Ok-clause-writes : goal.returns-in-Ok-clause-writes
+returns-in-Ok-clause-writes g c =
+    let all = counts_then _ _ _ _ (c.in-Ok.ensures.count.others (λ told. cc)) c.take_turns.ensures.faults.writes in
+    search (rules, all)
+
+pub returns-in-Err-clause-polls : goal.returns-in-Err-clause-polls
+returns-in-Err-clause-polls g c =
+    let all = no_poll_told {U = Served} _ _ _ _ c.error_of.ensures c.in-Err.ensures.unpolled.faults in
+    search (rules, all)
+
+pub returns-in-Err-clause-writes : goal.returns-in-Err-clause-writes
+returns-in-Err-clause-writes g c =
+    let all = write_told {U = Served} _ _ _ _ c.error_of.ensures c.in-Err.ensures.count in
     search (rules, all)

@@ -1,4 +1,5 @@
 use Rattle.std.proofs.Common.{rules, arith, Err, sym, ◌∙◌, refl}
+use Rattle.outside.proofs.Counts.{counts_alike, counts_none, counts_then}
 use Rattle.udp_node.specs.Nodes.{link_side}
 use Rattle.udp_node.proofs.FoldLemmas.{took_nothing, took_then, turn_took}
 use Rattle.udp_node.proofs.NodeLemmas.{same_then}
@@ -69,7 +70,25 @@ loop-taken-preserved g c =
       wrote = wrote_then _ _ _ c.loop-taken.invariant.wrote (turn_wrote _ _ _ _ _ _ _ _ _ _ _ _ _ _ c.take_turn.ensures.turn);
       lost = lost_more _ _ _ _ _ c.loop-taken.invariant.lost turn.done.sends;
       took = took_then _ _ _ _ _ _ _ _ c.loop-taken.invariant.took (turn_took _ _ _ _ _ _ _ _ _ _ _ _ _ turn);
-      polls = c.in_default-take_turn.ensures.faults.polls ∙ c.loop-taken.invariant.polls;
-      writes = c.in_default-take_turn.ensures.faults.writes ∙ c.loop-taken.invariant.writes;
+      polls = c.in_default-take_turn.ensures.faults.polls.others (λ told. cc) ∙ c.loop-taken.invariant.polls;
+      writes = c.in_default-take_turn.ensures.faults.writes.others (λ told. cc) ∙ c.loop-taken.invariant.writes;
       same = same_then g.L.Link _ _ _ c.loop-taken.invariant.same c.in_default-take_turn.ensures.same;
     }
+
+pub returns-in-Err-clause-faults : goal.returns-in-Err-clause-faults
+returns-in-Err-clause-faults g c = record {
+  polls = counts_alike _ _ _ _ (counts_then _ _ _ _ c.loop-taken.invariant.polls c.in-Err.ensures.faults.polls);
+  writes = counts_alike _ _ _ _ (counts_then _ _ _ _ c.loop-taken.invariant.writes c.in-Err.ensures.faults.writes);
+}
+
+pub returns-then-done-clause-faults : goal.returns-then-done-clause-faults
+returns-then-done-clause-faults g c = record {
+  polls = counts_none _ _ _ (c.in_default-take_turn.ensures.faults.polls.others (λ told. cc) ∙ c.loop-taken.invariant.polls) (λ told. cc);
+  writes = counts_none _ _ _ (c.in_default-take_turn.ensures.faults.writes.others (λ told. cc) ∙ c.loop-taken.invariant.writes) (λ told. cc);
+}
+
+pub returns-clause-faults : goal.returns-clause-faults
+returns-clause-faults g c = record {
+  polls = counts_none _ _ _ c.loop-taken.invariant.polls (λ told. cc);
+  writes = counts_none _ _ _ c.loop-taken.invariant.writes (λ told. cc);
+}
