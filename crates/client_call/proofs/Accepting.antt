@@ -14,8 +14,9 @@ use Rattle.nop_types.specs.declared.output.Out.TheVariants.{Send, Submitted, Acc
 use Rattle.nop_types.specs.declared.request.Request.{Request}
 use Rattle.nop_types.specs.declared.datagram.Reply.{Reply}
 use Rattle.transcript_text.specs.Transcript.{submit_line, accept_line}
-use Rattle.client_quorum.specs.ClientSteps.{next, is_done, is_empty}
-use Rattle.client_quorum.specs.Runs.{after, gave, reply_of, replies_of, ops_of, HasNoSubmit, TakesTurns, IsAgreed, Stands, NoneYet, IsOpen as StandsOpen, WasAccepted}
+use Rattle.client_quorum.specs.ClientSteps.{next, is_done}
+use Rattle.client_quorum.specs.OpenRequests.{is_empty, open_requests}
+use Rattle.client_quorum.specs.Runs.{after, gave, reply_of, replies_of, ops_of, HasNoSubmit, TakesTurns, IsAgreed, Stands, NoneYet, Waits, WasAccepted}
 use Rattle.client_quorum.specs.declared.state.ClientState.{ClientState}
 use Rattle.client_quorum.proofs.Received.{accepts_replied}
 use Rattle.client_quorum.proofs.Turns.{takes_turns}
@@ -227,7 +228,7 @@ module _ (config : Configuration) (number : ℕ) (op : List ℕ) (inputs : List 
     pub one : ops_of (gave start inputs) ≡ op ∷ []
     pub done : is_done (after start inputs) ≡ true
 
-  ends_by : (a : Accept) → a.id ≡ (after start inputs).last_id → (after start inputs).pending ≡ None
+  ends_by : (a : Accept) → a.id ≡ (after start inputs).last_id → open_requests (after start inputs) ≡ []
       → Has (gave start inputs) (Accepted (after start inputs).number a.id a.result) → Ends a
   ends_by a id free h =
       let both = submitted_by (after start inputs).number a.id a.result h (ops_of (gave start inputs)) (after start inputs).waiting refl order in
@@ -237,7 +238,7 @@ module _ (config : Configuration) (number : ℕ) (op : List ℕ) (inputs : List 
 
   ends : (a : Accept) → (after start inputs).accepted ≡ Some a → Stands (gave start inputs) (after start inputs) → Ends a
   ends a e (NoneYet last free none) = absurd (none-some a (sym none ∙ e))
-  ends a e (StandsOpen r is id none) = absurd (none-some a (sym none ∙ e))
+  ends a e (Waits r is id none) = absurd (none-some a (sym none ∙ e))
   ends a e (WasAccepted b is id free h) = subst Ends (same_Some b a (sym is ∙ e)) (ends_by b id free h)
 
   pub stands_ended : (a : Accept) → (after start inputs).accepted ≡ Some a → Ends a
@@ -262,7 +263,7 @@ module _ (config : Configuration) (number : ℕ) (op : List ℕ) (inputs : List 
 
   open_by : (after start inputs).accepted ≡ None → Stands (gave start inputs) (after start inputs) → is_done (after start inputs) ≡ false
   open_by e (NoneYet last free none) = rw (free, waits last) refl
-  open_by e (StandsOpen r is id none) = rw is refl
+  open_by e (Waits r is id none) = rw is refl
   open_by e (WasAccepted b is id free h) = absurd (none-some b (sym e ∙ is))
 
   pub is_open : (after start inputs).accepted ≡ None → is_done (after start inputs) ≡ false

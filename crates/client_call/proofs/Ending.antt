@@ -20,7 +20,7 @@ use Rattle.udp_node.specs.declared.errors.ServeError.{ServeError}
 use Rattle.udp_node.specs.declared.errors.ServeError.TheVariants as serves
 use Rattle.udp_node.specs.declared.serving.Served.{Served}
 use Rattle.udp_node.proofs.EffectLemmas.{calls_append}
-use Rattle.client_call.specs.Calls.{caller, request, error_of, IsAccepted, IsOpen, Answers, GivesAccepted, run_of}
+use Rattle.client_call.specs.Calls.{caller, request, error_of, IsAccepted, Answers, GivesAccepted, run_of, NotDone}
 use Rattle.client_call.specs.Calls.{Answered, TurnsEnded, SomeCallsMade, EndsRun, EndsObserved}
 use Rattle.client_call.specs.declared.errors.CallError.{CallError}
 use Rattle.client_call.specs.declared.errors.CallError.TheVariants.{PortFault, LinkFault, Unanswered, NoMemory}
@@ -54,7 +54,7 @@ module _ (at : Address) (number : ℕ) (op : List ℕ) (t : ClientState) (h i : 
       subst (IsAccepted at.config number op) (sym gives)
       (is_accepted at.config number op took.inputs took.outside a (accepted_after (Some a) is))
 
-  open_answer : (o : Option Accept) → t.accepted ≡ o → GivesAccepted o (Err Unanswered) → IsOpen at.config number op
+  open_answer : (o : Option Accept) → t.accepted ≡ o → GivesAccepted o (Err Unanswered) → NotDone at.config number op
   open_answer None is gives = record {
     inputs = took.inputs;
     outside = took.outside;

@@ -51,14 +51,14 @@ pub record IsAccepted (config : Configuration) (number : ℕ) (op result : List 
   pub agreed : IsAgreed config.replicas (replies_of inputs) number 1 result
 
 -- the client took some packets and ticks, and is not done
-pub record IsOpen (config : Configuration) (number : ℕ) (op : List ℕ) : Type 0 where
+pub record NotDone (config : Configuration) (number : ℕ) (op : List ℕ) : Type 0 where
   pub inputs : List Given
   pub outside : AllOutside inputs
   pub open_ : is_done (after (caller config number op) inputs) ≡ false
 
 abbrev pub Answers : Configuration → ℕ → List ℕ → Result (List ℕ) CallError → Type 0
 Answers config number op (Ok result) = IsAccepted config number op result
-Answers config number op (Err Unanswered) = IsOpen config number op
+Answers config number op (Err Unanswered) = NotDone config number op
 Answers config number op _ = ⊤
 
 -- what a client had accepted, if something

@@ -1,8 +1,10 @@
+pub mod Counts
 pub mod Ignoring
 pub mod KeptReplies
+pub mod OpenRequests
 pub mod Quorums
 pub mod Received
+pub mod RowLemmas
 pub mod Short
 pub mod Turns
 pub mod Waits
-pub mod WorkedRows

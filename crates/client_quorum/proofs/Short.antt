@@ -1,5 +1,5 @@
 -- What a client keeps is no quorum.
-use Rattle.std.proofs.Common.{◌≡◌, ℕ, ◌≤◌, Bool, true, false, cond, Option, Some, None, refl, sym, ap, subst, ◌∙◌, inl, inr, arith, List}
+use Rattle.std.proofs.Common.{◌≡◌, ℕ, ◌≤◌, Bool, true, false, cond, None, refl, sym, ap, subst, ◌∙◌, inl, inr, arith, List}
 use Rattle.std.proofs.Common.{[], ◌∷◌, ◌++◌, length}
 use Rattle.std.specs.Prelude.{◌==◌, not, filter}
 use Rattle.std.proofs.lemmas.Option.{none-some}
@@ -8,14 +8,17 @@ use Rattle.nop_types.specs.Given.{Given}
 use Rattle.nop_types.specs.Lists.{Has}
 use Rattle.nop_types.specs.declared.view.View.{View}
 use Rattle.nop_types.specs.declared.datagram.Reply.{Reply}
+use Rattle.nop_types.specs.declared.output.Out.{Out}
 use Rattle.lemmas.proofs.Members.{Has-none, Has-from_filter, Has-push_cases}
 use Rattle.client_quorum.specs.declared.state.ClientState.{ClientState}
-use Rattle.client_quorum.specs.ClientSteps.{opening, next, kept, accept_if}
+use Rattle.client_quorum.specs.ClientSteps.{opening, next, kept}
 use Rattle.client_quorum.specs.KeptReplies.{HasOneEach, keep_reply, matches, quorum_of}
+use Rattle.client_quorum.specs.Rows.{Row, Rests, SaysBusy, Opens, Repeats, Keeps, Accepts}
 use Rattle.client_quorum.specs.Runs.{after, HasQuorum}
 use Rattle.client_quorum.proofs.KeptReplies.{kept_one_each}
 use Rattle.client_quorum.proofs.Quorums.{is_matched, matched, gets_quorum}
-use Rattle.client_quorum.proofs.WorkedRows.{row_does}
+use Rattle.client_quorum.proofs.OpenRequests.{quorum_here}
+use Rattle.client_quorum.proofs.RowLemmas.{row_of}
 
 -- one that fails the test adds nothing
 without_last : (m : Reply → Bool) (xs : List Reply) (p : Reply) → m p ≡ false → filter m (xs ++ p ∷ []) ≡ filter m xs
@@ -93,24 +96,26 @@ module _ (n : ℕ) (s : ClientState) (short : Short n s) (p : Reply) where
           none-some z.0 (sym e ∙ z.1)
       at false m = short.none v slot result (before n s.replies p v slot result m q)
 
-  accept_short : (o : Option Reply) → quorum_of s.config.replicas (keep_reply s.replies p) p.view p.slot ≡ o
-      → Short n (accept_if (kept s p) p.id o).0
-  accept_short None e = record {
+  keeps_short : quorum_of s.config.replicas (keep_reply s.replies p) p.view p.slot ≡ None → Short n (kept s p)
+  keeps_short e = record {
     replicas = short.replicas;
     one_each = kept_one_each p s.replies short.one_each;
     none = still_none (subst (λ (m : ℕ). quorum_of m (keep_reply s.replies p) p.view p.slot ≡ None) short.replicas e);
   }
-  accept_short (Some z) e = record { replicas = short.replicas; one_each = none_each; none = none_empty n }
 
-step_short : (n : ℕ) (s : ClientState) (x : Given) → Short n s → Short n (next s x).0
-step_short n s x short = row_does (λ y. Short n y.0) s x
-    (λ outs q. short)
-    (λ op waiting none from. record { replicas = short.replicas; one_each = none_each; none = none_empty n })
-    (λ p e has o is. accept_short n s short p o is)
+row_short : (n : ℕ) (s : ClientState) (x : Given) → Short n s → (y : ClientState × List Out) → Row s x y → Short n y.0
+row_short n s x short y Rests = short
+row_short n s x short y (SaysBusy op is busy) = short
+row_short n s x short y (Opens op waiting may from) =
+    record { replicas = short.replicas; one_each = none_each; none = none_empty n }
+row_short n s x short y (Repeats is) = short
+row_short n s x short y (Keeps p has e quorum) = keeps_short n s short p (sym (quorum_here s p e) ∙ quorum)
+row_short n s x short y (Accepts p leaders has e quorum) =
+    record { replicas = short.replicas; one_each = none_each; none = none_empty n }
 
 short_after : (n : ℕ) (xs : List Given) (s : ClientState) → Short n s → Short n (after s xs)
 short_after n [] s short = short
-short_after n (x ∷ xs) s short = short_after n xs (next s x).0 (step_short n s x short)
+short_after n (x ∷ xs) s short = short_after n xs (next s x).0 (row_short n s x short (next s x) (row_of s x))
 
 pub keeps_no_quorum : (config : Configuration) (number : ℕ) (ops : List (List ℕ)) (inputs : List Given) (v : View) (slot : ℕ)
     (result : List ℕ) → HasQuorum config.replicas (after (opening config number ops) inputs).replies v slot result → ⊥

@@ -1,27 +1,22 @@
 -- A client takes turns, and uses each id once.
 use Rattle.std.proofs.Common.{◌≡◌, ℕ, zero, suc, ◌+◌, ◌<◌, ◌≤◌, Bool, true, false, cond, Option, Some, None, refl, sym, ap, subst, ◌∙◌}
-use Rattle.std.proofs.Common.{arith, List, [], ◌∷◌, ◌++◌}
-use Rattle.std.specs.Prelude.{Result, Ok, Err, slice_get, ◌&&◌, ◌==◌, nat_lt}
+use Rattle.std.proofs.Common.{arith, List, [], ◌∷◌, ◌++◌, map}
+use Rattle.std.specs.Prelude.{slice_get, nat_lt, ◌^◌, ◌-◌}
 use Rattle.std.proofs.lemmas.Bool.{and_parts, eqb-true}
 use Rattle.std.proofs.lemmas.Option.{none-some, same_Some}
 use Rattle.nop_types.specs.Configuration.{Configuration}
-use Rattle.nop_types.specs.Given.{Given, Packet, Ticked, Submit}
-use Rattle.nop_types.specs.declared.input.Tick.{Tick}
-use Rattle.nop_types.specs.declared.input.Tick.TheVariants as ticks
+use Rattle.nop_types.specs.Given.{Given}
 use Rattle.nop_types.specs.declared.output.Out.{Out}
 use Rattle.nop_types.specs.declared.output.Out.TheVariants.{Send, Submitted, Accepted, Busy, Trimmed}
 use Rattle.nop_types.specs.declared.request.Request.{Request}
 use Rattle.nop_types.specs.declared.datagram.Reply.{Reply}
-use Rattle.nop_types.specs.declared.datagram.Datagram.{Datagram}
-use Rattle.nop_types.specs.declared.datagram.Datagram.TheVariants as datagrams
-use Rattle.oum_codec.specs.declared.bad.Bad.{Bad}
-use Rattle.oum_codec.specs.Reading.{reading}
 use Rattle.client_quorum.specs.declared.state.ClientState.{ClientState}
-use Rattle.client_quorum.specs.ClientSteps.{opening, next, on_tick, on_datagram, has_none, can_submit, request_of, begin, submit_if}
-use Rattle.client_quorum.specs.ClientSteps.{first_of, after_first, submit_first, submit_waiting_if, is_of, is_expected, kept, accepts}
-use Rattle.client_quorum.specs.ClientSteps.{accept_if, reply_if, retry_of}
-use Rattle.client_quorum.specs.KeptReplies.{quorum_of}
-use Rattle.client_quorum.specs.Runs.{gave, TakesTurns}
+use Rattle.client_quorum.specs.ClientSteps.{opening, next, request_of, begin, sent, is_expected, kept, accepts}
+use Rattle.client_quorum.specs.OpenRequests.{has_room, is_of, is_open, listed, open_requests}
+use Rattle.client_quorum.specs.Rows.{Row, Rests, SaysBusy, Opens, Repeats, Keeps, Accepts}
+use Rattle.client_quorum.specs.Runs.{gave, has_none, TakesTurns}
+use Rattle.client_quorum.proofs.OpenRequests.{expected_is_open, room_is_none}
+use Rattle.client_quorum.proofs.RowLemmas.{row_of}
 
 -- ---- a client takes turns
 
@@ -30,23 +25,28 @@ abbrev pub IsTidy : ClientState → Type 0
 IsTidy s = (r : Request) → s.pending ≡ Some r → r.id ≡ s.last_id
 
 -- an expected reply is for the open request
-pub open_of : (s : ClientState) (id : ℕ) → IsTidy s → is_of id s.pending ≡ true → (has_none s.pending ≡ false) × (id ≡ s.last_id)
-open_of s id tidy = at s.pending refl
+pub open_of : (s : ClientState) (p : Reply) → IsTidy s → is_expected s p ≡ true → (has_none s.pending ≡ false) × (p.id ≡ s.last_id)
+unfolding is_open
+open_of s p tidy e = at s.pending refl (expected_is_open s p e)
   where
-    at : (o : Option Request) → s.pending ≡ o → is_of id o ≡ true → (has_none o ≡ false) × (id ≡ s.last_id)
+    at : (o : Option Request) → s.pending ≡ o → is_of p.id o ≡ true → (has_none o ≡ false) × (p.id ≡ s.last_id)
     at None e h = absurd cc
-    at (Some r) e h = (refl, sym (eqb-true r.id id h) ∙ tidy r e)
+    at (Some r) e h = (refl, sym (eqb-true r.id p.id h) ∙ tidy r e)
 
 module _ (xs : List Given) (rest : (t : ClientState) → IsTidy t → TakesTurns t.number t.pending t.last_id (gave t xs)) (s : ClientState)
     (tidy : IsTidy s) where
-  -- the outputs of a row, and those of the inputs that follow
-  abbrev Goes : ClientState × List Out → Type 0
-  Goes y = TakesTurns s.number s.pending s.last_id (y.1 ++ gave y.0 xs)
+  again : (o : Option Request) → TakesTurns s.number o s.last_id (gave s xs)
+      → TakesTurns s.number o s.last_id (map sent (listed o) ++ gave s xs)
+  again None h = h
+  again (Some r) h = (refl, h)
 
-  begin_goes : (op : List ℕ) (waiting : List (List ℕ)) → has_none s.pending ≡ true
-      → Goes (begin (record s { waiting = waiting }) (request_of s op))
-  begin_goes op waiting none = (
-    none,
+  -- the outputs of a row, and those of the inputs that follow
+  row_goes : (x : Given) (y : ClientState × List Out) → Row s x y → TakesTurns s.number s.pending s.last_id (y.1 ++ gave y.0 xs)
+  unfolding open_requests
+  row_goes x y Rests = rest s tidy
+  row_goes x y (SaysBusy op is busy) = (refl, rest s tidy)
+  row_goes x y (Opens op waiting may from) = (
+    ap has_none (room_is_none s (and_parts (has_room s) (nat_lt s.last_id (2 ^ 64 - 1)) may).0),
     refl,
     refl,
     (
@@ -55,52 +55,15 @@ module _ (xs : List Given) (rest : (t : ClientState) → IsTidy t → TakesTurns
           (λ r e. ap (λ (q : Request). q.id) (sym (same_Some (request_of s op) r e))),
     ),
   )
-
-  submit_goes : (op : List ℕ) (b : Bool) → can_submit s ≡ b → Goes (submit_if b s (request_of s op))
-  submit_goes op true e = begin_goes op s.waiting (and_parts (has_none s.pending) _ e).0
-  submit_goes op false e = (refl, rest s tidy)
-
-  first_goes : has_none s.pending ≡ true → (o : Option (List ℕ)) → Goes (submit_first o s)
-  first_goes none None = rest s tidy
-  first_goes none (Some op) = begin_goes op (after_first s.waiting) none
-
-  waiting_goes : (b : Bool) → can_submit s ≡ b → Goes (submit_waiting_if b s)
-  waiting_goes true e = first_goes (and_parts (has_none s.pending) _ e).0 (first_of s.waiting)
-  waiting_goes false e = rest s tidy
-
-  accept_goes : (p : Reply) → has_none s.pending ≡ false → p.id ≡ s.last_id → (o : Option Reply) → Goes (accept_if (kept s p) p.id o)
-  accept_goes p held id None = rest (kept s p) tidy
-  accept_goes p held id (Some leaders) = (held, refl, id, rest (accepts (kept s p) p.id leaders) (λ r e. absurd (none-some r e)))
-
-  reply_goes : (p : Reply) (b : Bool) → is_expected s p ≡ b → Goes (reply_if b s p)
-  reply_goes p true e =
-      let mine = (and_parts (p.client == s.number) (is_of p.id s.pending && nat_lt p.replica s.config.replicas) e).1 in
-      let held = open_of s p.id tidy (and_parts (is_of p.id s.pending) (nat_lt p.replica s.config.replicas) mine).0 in
-      accept_goes p held.0 held.1 (quorum_of s.config.replicas (kept s p).replies p.view p.slot)
-  reply_goes p false e = rest s tidy
-
-  again : (o : Option Request) → TakesTurns s.number o s.last_id (gave s xs) → TakesTurns s.number o s.last_id (retry_of o ++ gave s xs)
-  again None h = h
-  again (Some r) h = (refl, h)
-
-  tick_goes : (tick : Tick) → Goes (on_tick s tick)
-  tick_goes ticks.Next = waiting_goes (can_submit s) refl
-  tick_goes ticks.Retry = again s.pending (rest s tidy)
-  tick_goes _ = rest s tidy
-
-  packet_goes : (d : Result Datagram Bad) → Goes (on_datagram s d)
-  packet_goes (Ok (datagrams.Reply p)) = reply_goes p (is_expected s p) refl
-  packet_goes _ = rest s tidy
-
-  row_goes : (x : Given) → Goes (next s x)
-  unfolding next
-  row_goes (Packet bytes) = packet_goes (reading bytes)
-  row_goes (Ticked tick) = tick_goes tick
-  row_goes (Submit op) = submit_goes op (can_submit s) refl
+  row_goes x y (Repeats is) = again s.pending (rest s tidy)
+  row_goes x y (Keeps p has e quorum) = rest (kept s p) tidy
+  row_goes x y (Accepts p leaders has e quorum) =
+      let held = open_of s p tidy e in
+      (held.0, refl, held.1, rest (accepts (kept s p) p.id leaders) (λ r e. absurd (none-some r e)))
 
 turns_from : (xs : List Given) (s : ClientState) → IsTidy s → TakesTurns s.number s.pending s.last_id (gave s xs)
 turns_from [] s tidy = tt
-turns_from (x ∷ xs) s tidy = row_goes xs (λ t h. turns_from xs t h) s tidy x
+turns_from (x ∷ xs) s tidy = row_goes xs (λ t h. turns_from xs t h) s tidy x (next s x) (row_of s x)
 
 pub takes_turns : (config : Configuration) (number : ℕ) (ops : List (List ℕ)) (inputs : List Given)
     → TakesTurns number None 0 (gave (opening config number ops) inputs)

@@ -1,29 +1,5 @@
 -- The step table of the client.
-use Rattle.std.specs.Prelude.{
-  ℕ,
-  ◌+◌,
-  ◌-◌,
-  ◌^◌,
-  ◌<◌,
-  ◌≤◌,
-  length,
-  IfSome,
-  List,
-  [],
-  ◌∷◌,
-  Bool,
-  true,
-  false,
-  Option,
-  Some,
-  None,
-  Result,
-  Ok,
-  Err,
-  nat_lt,
-  ◌==◌,
-  ◌&&◌,
-}
+use Rattle.std.specs.Prelude.{ℕ, ◌+◌, ◌-◌, ◌^◌, ◌<◌, ◌≤◌, length, IfSome, List, map, [], ◌∷◌, Bool, true, false, Option, Some, None, Result, Ok, nat_lt, ◌==◌, ◌&&◌}
 use Rattle.nop_types.specs.declared.limits.TheConstants.{MAX_RESULT_BYTES}
 use Rattle.nop_types.specs.Configuration.{Configuration}
 use Rattle.nop_types.specs.Given.{Given, Packet, Ticked, Submit}
@@ -42,6 +18,7 @@ use Rattle.oum_codec.specs.declared.bad.Bad.{Bad}
 use Rattle.oum_codec.specs.Reading.{reading}
 use Rattle.oum_codec.specs.Spelling.{spelling}
 use Rattle.client_quorum.specs.KeptReplies.{AreKept, keep_reply, quorum_of}
+use Rattle.client_quorum.specs.OpenRequests.{has_room, is_empty, is_open, open_requests}
 use Rattle.client_quorum.specs.declared.state.ClientState.{ClientState}
 
 -- the result of an acceptance is within its limit
@@ -59,19 +36,15 @@ abbrev pub opening : Configuration → ℕ → List (List ℕ) → ClientState
 opening config number ops =
     record { config = config; number = number; last_id = 0; pending = None; replies = []; accepted = None; waiting = ops }
 
-abbrev pub has_none : Option Request → Bool
-has_none None = true
-has_none (Some r) = false
-
 -- the request, to all sequencers
 abbrev pub sent : Request → Out
 sent r = Send Sequencers (spelling (datagrams.Request r))
 
 -- ---- an op is submitted
 
--- no request is pending, and an id is left
+-- there is room for one more open request, and an id is left
 abbrev pub can_submit : ClientState → Bool
-can_submit s = has_none s.pending && nat_lt s.last_id (2 ^ 64 - 1)
+can_submit s = has_room s && nat_lt s.last_id (2 ^ 64 - 1)
 
 abbrev pub request_of : ClientState → List ℕ → Request
 request_of s op = record { client = s.number; id = s.last_id + 1; op = op }
@@ -90,10 +63,6 @@ abbrev pub submit : ClientState → List ℕ → ClientState × List Out
 submit s op = submit_if (can_submit s) s (request_of s op)
 
 -- ---- the tick Next
-
-abbrev pub is_empty : List (List ℕ) → Bool
-is_empty [] = true
-is_empty (op ∷ ops) = false
 
 abbrev pub first_of : List (List ℕ) → Option (List ℕ)
 first_of [] = None
@@ -117,13 +86,9 @@ submit_waiting s = submit_waiting_if (can_submit s) s
 
 -- ---- a reply comes
 
-abbrev pub is_of : ℕ → Option Request → Bool
-is_of id None = false
-is_of id (Some r) = r.id == id
-
--- it is for this client, the pending id, and from a replica of the configuration
+-- it is for this client, an open id, and from a replica of the configuration
 abbrev pub is_expected : ClientState → Reply → Bool
-is_expected s p = (p.client == s.number) && (is_of p.id s.pending && nat_lt p.replica s.config.replicas)
+is_expected s p = (p.client == s.number) && (is_open s p.id && nat_lt p.replica s.config.replicas)
 
 abbrev pub kept : ClientState → Reply → ClientState
 kept s p = record s { replies = keep_reply s.replies p }
@@ -147,12 +112,9 @@ reply s p = reply_if (is_expected s p) s p
 
 -- ---- the tick Retry
 
-abbrev pub retry_of : Option Request → List Out
-retry_of None = []
-retry_of (Some r) = sent r ∷ []
-
+-- each open request is sent again
 abbrev pub retry : ClientState → ClientState × List Out
-retry s = (s, retry_of s.pending)
+retry s = (s, map sent (open_requests s))
 
 -- ---- all rows
 
@@ -176,6 +138,6 @@ next s (Submit op) = submit s op
 abbrev pub timers : List (Tick × ℕ)
 timers = (ticks.Next, 0) ∷ (ticks.Retry, 200) ∷ []
 
--- nothing is pending or waiting
+-- nothing is open or waiting
 abbrev pub is_done : ClientState → Bool
-is_done s = has_none s.pending && is_empty s.waiting
+is_done s = is_empty (open_requests s) && is_empty s.waiting

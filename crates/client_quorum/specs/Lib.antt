@@ -1,4 +1,6 @@
 pub mod ClientSteps
 pub mod Ignoring
 pub mod KeptReplies
+pub mod OpenRequests
+pub mod Rows
 pub mod Runs

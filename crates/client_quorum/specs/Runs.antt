@@ -1,5 +1,5 @@
 -- Runs of a client over any inputs, and what they give.
-use Rattle.std.specs.Prelude.{◌≡◌, ℕ, ◌+◌, ⊤, List, [], ◌∷◌, ◌++◌, true, false, Option, Some, None, Result, Ok, Err, filter, length, ◌/◌}
+use Rattle.std.specs.Prelude.{◌≡◌, ℕ, ◌+◌, ⊤, List, [], ◌∷◌, ◌++◌, Bool, true, false, Option, Some, None, Result, Ok, filter, length, ◌/◌}
 use Rattle.std.specs.Prelude.{◌≤◌, ◌<◌}
 use Rattle.nop_types.specs.Given.{Given, Packet, Ticked, Submit}
 use Rattle.nop_types.specs.Lists.{Has}
@@ -15,8 +15,9 @@ use Rattle.nop_types.specs.declared.datagram.Datagram.TheVariants as datagrams
 use Rattle.oum_codec.specs.declared.bad.Bad.{Bad}
 use Rattle.oum_codec.specs.Reading.{reading}
 use Rattle.client_quorum.specs.declared.state.ClientState.{ClientState}
-use Rattle.client_quorum.specs.ClientSteps.{next, has_none, sent}
+use Rattle.client_quorum.specs.ClientSteps.{next, sent}
 use Rattle.client_quorum.specs.KeptReplies.{HasOneEach, matches}
+use Rattle.client_quorum.specs.OpenRequests.{open_requests}
 
 -- the state after some inputs
 abbrev pub after : ClientState → List Given → ClientState
@@ -81,6 +82,10 @@ pub record IsAgreed (n : ℕ) (came : List Reply) (client id : ℕ) (result : Li
 
 -- ---- one request after the other
 
+abbrev pub has_none : Option Request → Bool
+has_none None = true
+has_none (Some r) = false
+
 -- the open request is sent
 abbrev pub SendsOpen : Option Request → Out → Type 0
 SendsOpen None out = ⊥
@@ -109,6 +114,12 @@ ops_of (Accepted client id result ∷ outs) = ops_of outs
 ops_of (Busy client ∷ outs) = ops_of outs
 ops_of (Trimmed first entries ∷ outs) = ops_of outs
 
+-- how many requests are accepted
+abbrev pub accept_count : List Out → ℕ
+accept_count [] = 0
+accept_count (Accepted client id result ∷ outs) = 1 + accept_count outs
+accept_count (_ ∷ outs) = accept_count outs
+
 -- no op comes from outside
 abbrev pub HasNoSubmit : List Given → Type 0
 HasNoSubmit [] = ⊤
@@ -123,7 +134,7 @@ EndsWith xs rest = (front : List (List ℕ)) × (xs ≡ front ++ rest)
 -- how the last request stands, after these outputs
 pub data Stands (outs : List Out) (s : ClientState) : Type 0 where
   -- none was submitted
-  NoneYet : s.last_id ≡ 0 → s.pending ≡ None → s.accepted ≡ None → Stands outs s
-  IsOpen : (r : Request) → s.pending ≡ Some r → r.id ≡ s.last_id → s.accepted ≡ None → Stands outs s
-  WasAccepted : (a : Accept) → s.accepted ≡ Some a → a.id ≡ s.last_id → s.pending ≡ None → Has outs (Accepted s.number a.id a.result)
-      → Stands outs s
+  NoneYet : s.last_id ≡ 0 → open_requests s ≡ [] → s.accepted ≡ None → Stands outs s
+  Waits : (r : Request) → open_requests s ≡ r ∷ [] → r.id ≡ s.last_id → s.accepted ≡ None → Stands outs s
+  WasAccepted : (a : Accept) → s.accepted ≡ Some a → a.id ≡ s.last_id → open_requests s ≡ []
+      → Has outs (Accepted s.number a.id a.result) → Stands outs s

@@ -121,6 +121,7 @@ impl Core for Client {
         None
     }
 
+    #[tactic(auto, unfolding(crate::specs::OpenRequests::open_requests))]
     fn done(&self) -> bool {
         self.state.pending.is_none() && self.state.waiting.is_empty()
     }

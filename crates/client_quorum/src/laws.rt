@@ -1,6 +1,6 @@
 //! What a client does over any inputs.
 
-ghost use Rattle.std.specs.Prelude.{◌≡◌, ◌↔◌, ℕ, List, true, false, None, Some, ◌++◌, ◌∷◌, [], slice_get, length};
+ghost use Rattle.std.specs.Prelude.{◌≡◌, ◌↔◌, ◌<◌, ℕ, List, true, false, None, Some, ◌++◌, ◌∷◌, [], slice_get, length};
 ghost use Rattle.nop_types.specs.Configuration.{Configuration};
 ghost use Rattle.nop_types.specs.Given.{Given, Ticked};
 ghost use Rattle.nop_types.specs.Lists.{Has};
@@ -10,11 +10,39 @@ ghost use Rattle.nop_types.specs.declared.datagram.Reply.{Reply};
 ghost use Rattle.nop_types.specs.declared.request.Request.{Request};
 ghost use Rattle.nop_types.specs.declared.output.Out.TheVariants.{Submitted, Accepted};
 ghost use Rattle.client_quorum.specs.declared.state.ClientState.{ClientState};
-ghost use Rattle.client_quorum.specs.ClientSteps.{opening, next, reply, is_expected};
+ghost use Rattle.client_quorum.specs.ClientSteps.{accepts, is_done, is_expected, kept, next};
+ghost use Rattle.client_quorum.specs.ClientSteps.{opening, reply, submitted};
 ghost use Rattle.client_quorum.specs.Ignoring.{is_tick_for, IsIgnored, IgnoresPacket};
 ghost use Rattle.client_quorum.specs.KeptReplies.{HasOneEach, keep_reply};
-ghost use Rattle.client_quorum.specs.Runs.{after, gave, replies_of, ops_of, HasNoSubmit, HasQuorum, IsAgreed};
+ghost use Rattle.client_quorum.specs.OpenRequests.{has_room, is_open, kept_for, open_requests, WordsAgree};
+ghost use Rattle.client_quorum.specs.Rows.{IsClosed, IsKept, IsOpened, Row};
+ghost use Rattle.client_quorum.specs.Runs.{accept_count, after, gave, replies_of, ops_of, HasNoSubmit, HasQuorum, IsAgreed};
 ghost use Rattle.client_quorum.specs.Runs.{EndsWith, Stands, TakesTurns};
+
+/// Each step is a row: nothing happens, the client says that it is busy, an op is submitted, the open requests are sent again, or a
+/// reply is kept, or accepts a result.
+pub fn steps_are_rows()
+    ensures { (s : ClientState) (x : Given) → Row s x (next s x) }
+{}
+
+/// Only a submission opens a request: it is the last one then. A reply is kept for its own request, and an acceptance closes its own.
+/// Where a row does none of the three, the state stays.
+pub fn rows_move_open_requests()
+    ensures none { (config : Configuration) (number : ℕ) (ops : List (List ℕ)) →
+        open_requests (opening config number ops) ≡ [] }
+    ensures empty { (config : Configuration) (number : ℕ) (ops : List (List ℕ)) (id : ℕ) →
+        kept_for (opening config number ops) id ≡ [] }
+    ensures opens { (s : ClientState) (r : Request) (waiting : List (List ℕ)) →
+        has_room s ≡ true → IsOpened s (submitted (record s { waiting = waiting }) r) r }
+    ensures keeps { (s : ClientState) (p : Reply) → is_open s p.id ≡ true → IsKept s (kept s p) p }
+    ensures closes { (s : ClientState) (id : ℕ) (p : Reply) → is_open s id ≡ true →
+        IsClosed s (accepts s id p) id p.result }
+{}
+
+/// What the words on open requests say of one another.
+pub fn words_agree()
+    ensures { (s : ClientState) → WordsAgree s }
+{}
 
 /// A reply for the pending client and id makes the client accept a result exactly where f + 1 kept replies, this one with
 /// them, are of its view and slot, and the leader's is one of them with that result.
@@ -82,6 +110,18 @@ pub fn knows_the_last_request()
         (inputs : List Given) →
         Stands (gave (opening config number ops) inputs)
         (after (opening config number ops) inputs) }
+{}
+
+/// A client to which no op comes is done exactly where as many results were accepted as it had ops.
+pub fn is_done_when_all_are_accepted()
+    ensures done { (config : Configuration) (number : ℕ) (ops : List (List ℕ))
+        (inputs : List Given) →
+        HasNoSubmit inputs → is_done (after (opening config number ops) inputs) ≡ true →
+        accept_count (gave (opening config number ops) inputs) ≡ length ops }
+    ensures not_done { (config : Configuration) (number : ℕ) (ops : List (List ℕ))
+        (inputs : List Given) →
+        HasNoSubmit inputs → is_done (after (opening config number ops) inputs) ≡ false →
+        accept_count (gave (opening config number ops) inputs) < length ops }
 {}
 
 /// What is kept is never a quorum: with the reply that makes it one, the request is accepted.

@@ -12,13 +12,19 @@
 //!   `uses_each_id_once`). Ops that wait are submitted in order; where no other op comes, none is
 //!   lost (`submits_waiting_ops_in_order`). `accepted` is the acceptance of the last request, or
 //!   None (`knows_the_last_request`).
+//! - Each step is a row (`steps_are_rows`). Which requests are open, whether one more may be, and
+//!   what is kept for each is said in words (`specs/OpenRequests`); what rows do to these
+//!   (`rows_move_open_requests`), and how they hang together (`words_agree`), is all that is known
+//!   of them above.
+//! - Where no other op comes, it is done exactly when all its ops are accepted
+//!   (`is_done_when_all_are_accepted`).
 //! - What is not for it changes and sends nothing (`ignores_what_is_for_others`): malformed bytes,
 //!   a datagram that is no reply of a replica to its open request, and a tick for others.
 //!
 //! Calls: `Client::new`, `step` and others by the trait, `state`, `accepted`, `can_submit`.
 //!
 //! Files: `state`, `replies`, `rows`, `client`. Definitions: `specs/ClientSteps` (`next`),
-//! `KeptReplies`.
+//! `OpenRequests`, `Rows`, `KeptReplies`.
 #![tactic(auto)]
 
 mod client;
@@ -32,8 +38,9 @@ mod waiting;
 pub use client::Client;
 pub use laws::{
     accepts_exactly_at_a_quorum, accepts_what_replicas_replied, ignores_what_is_for_others,
-    keeps_no_quorum, knows_the_last_request, submits_waiting_ops_in_order, takes_turns,
-    uses_each_id_once,
+    is_done_when_all_are_accepted, keeps_no_quorum, knows_the_last_request,
+    rows_move_open_requests, steps_are_rows, submits_waiting_ops_in_order, takes_turns,
+    uses_each_id_once, words_agree,
 };
 pub use pending::Pending;
 pub use replies::Replies;

@@ -1,7 +1,7 @@
 ghost use Rattle.std.specs.Prelude.{◌≡◌, None, Some, IfSome};
 ghost use Rattle.std.specs.Option.{option_copied};
 ghost use Rattle.nop_types.specs.Ranges.{RequestFits};
-ghost use Rattle.client_quorum.specs.ClientSteps.{has_none, is_of};
+ghost use Rattle.client_quorum.specs.OpenRequests.{is_empty, is_of, listed};
 
 use nop_types::Request;
 use std::marker::Model;
@@ -48,7 +48,7 @@ impl Pending {
     }
 
     pub fn is_none(&self) -> bool
-        ensures { result ≡ has_none self.now }
+        ensures { result ≡ is_empty (listed self.now) }
     {
         self.request.is_none()
     }

@@ -9,6 +9,7 @@ use nop_types::{Accept, Datagram, Dest, Input, NoMemory, Op, Out, Outbox, Reply,
 use oum_codec::{read_datagram, send_datagram};
 use std::alloc::Global;
 
+#[tactic(auto, unfolding(crate::specs::OpenRequests::has_room, crate::specs::OpenRequests::open_requests))]
 pub(crate) fn can_submit(state: &ClientState) -> bool
     ensures { result ≡ can_submit state.now }
 {
@@ -86,6 +87,7 @@ fn submit_waiting(alloc: Global, state: &mut ClientState, out: &mut Outbox) -> R
     }
 }
 
+#[tactic(auto, unfolding(crate::specs::OpenRequests::is_open))]
 fn is_expected(state: &ClientState, came: &Reply) -> bool
     ensures { result ≡ is_expected state.now came.now }
 {
@@ -123,7 +125,8 @@ fn reply(state: &mut ClientState, came: Reply, out: &mut Outbox) -> Result<(), N
     })
 }
 
-/// The pending request is sent again.
+/// The open request is sent again.
+#[tactic(auto, unfolding(crate::specs::OpenRequests::open_requests))]
 fn retry(alloc: Global, state: &ClientState, out: &mut Outbox) -> Result<(), NoMemory>
     ensures { OnOk result (out.new ≡ out.old ++ (retry state.now).1) }
 {

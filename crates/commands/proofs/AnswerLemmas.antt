@@ -1,10 +1,9 @@
 -- A client's accept lines, whatever its link tells.
 use Rattle.std.proofs.Common.{◌≡◌, ℕ, ◌<◌, Bool, true, false, List, [], ◌∷◌, ◌++◌, Option, Some, None, refl, ap, ◌∙◌, arith, length, inl, inr}
 use Rattle.client_quorum.specs.ClientSteps as client
-use Rattle.client_quorum.specs.Runs.{after, gave, HasNoSubmit}
+use Rattle.client_quorum.specs.Runs.{accept_count, after, gave, HasNoSubmit}
 use Rattle.client_quorum.specs.declared.state.ClientState.{ClientState}
-use Rattle.commands.specs.Answers.{accept_count, open_count}
-use Rattle.commands.proofs.OpenOps.{all_accepted, some_open}
+use Rattle.client_quorum.proofs.Counts.{all_accepted, some_open}
 use Rattle.command_line.specs.declared.command.Command.{Command}
 use Rattle.command_line.specs.declared.command.Command.TheVariants.{Replay, Gen, Node, Sequencer, Controller, Client, Cluster, Check}
 use Rattle.command_line.specs.declared.command.Site.{Site}
@@ -41,20 +40,17 @@ was_open true is = absurd cc
 was_open false is = refl
 
 module _ (id : ℕ) (site : Site) (ops : List (List ℕ)) where
-  opens : open_count (client.opening site.config id ops) ≡ length ops
-  opens = omega arith
-
   accepted : (losses losses_now : ℕ) (h i : Option (List ℕ)) → LastLine (client_task id site ops) losses losses_now statuses.Done h i
       → WroteAccepts (address_of site (actors.Client id)) (length ops) h i
   accepted losses losses_now h i l =
       let s : ClientState = client.opening site.config id ops in
       let done : client.is_done (after s l.inputs) ≡ true = rw (state_is s l.inputs) at (was_done _ l.ends) in
-      let count = all_accepted s l.inputs (free l.inputs l.outside) done in
+      let count = all_accepted site.config id ops l.inputs (free l.inputs l.outside) done in
       record {
         outs = (folded client.next s l.inputs).1;
         taken = l.taken;
         lost = l.lost;
-        accepts = ap accept_count (outs_are s l.inputs) ∙ count ∙ opens;
+        accepts = ap accept_count (outs_are s l.inputs) ∙ count;
         line = l.line;
       }
 
@@ -63,10 +59,9 @@ module _ (id : ℕ) (site : Site) (ops : List (List ℕ)) where
   lacking losses losses_now h i l =
       let s : ClientState = client.opening site.config id ops in
       let open_ : client.is_done (after s l.inputs) ≡ false = rw (state_is s l.inputs) at (was_open _ l.ends) in
-      let count = some_open s l.inputs (free l.inputs l.outside) open_ in
-      let all = opens in (
+      let count = some_open site.config id ops l.inputs (free l.inputs l.outside) open_ in (
         accept_count (gave s l.inputs),
-        omega (arith, count, all),
+        count,
         record {
           outs = (folded client.next s l.inputs).1;
           taken = l.taken;

@@ -28,7 +28,7 @@
 //! `run_in_memory` is `run` over devices in memory that never fail, where `complete` has no premise.
 //!
 //! Files: `running`; `check`; `node_commands`, `node`, `cluster`; `in_memory`. Definitions:
-//! `specs/Words` (`asked`), `Runs`, `Ending`, `Checks`, `Tasks`, `Nodes`, `Clusters`, `Answers`.
+//! `specs/Words` (`asked`), `Runs`, `Ending`, `Checks`, `Tasks`, `Nodes`, `Clusters`.
 #![tactic(auto)]
 
 mod check;

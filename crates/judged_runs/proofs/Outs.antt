@@ -1,5 +1,5 @@
 -- What actors tell of their steps: only clients submit, requests of their own with an id and the op that they were given.
-use Rattle.std.proofs.Common.{◌≡◌, ◌+◌, ◌≤◌, ◌<◌, ◌^◌, ℕ, Bool, true, false, Option, Some, None, refl, arith, length}
+use Rattle.std.proofs.Common.{◌≡◌, ◌+◌, ◌≤◌, ◌<◌, ◌^◌, ℕ, Bool, true, false, Option, Some, None, subst, inl, inr, map, arith, length}
 use Rattle.std.proofs.Common.{List, [], ◌∷◌, ◌++◌}
 use Rattle.std.specs.Prelude.{◌-◌, ⊤, nat_lt, nat_le, ◌==◌, Result, Ok, Err}
 use Rattle.std.specs.List.{AllByRecursion}
@@ -15,7 +15,6 @@ use Rattle.nop_types.specs.declared.input.Tick.TheVariants as ticks
 use Rattle.nop_types.specs.declared.datagram.Datagram.{Datagram}
 use Rattle.nop_types.specs.declared.datagram.Datagram.TheVariants as datagrams
 use Rattle.nop_types.specs.declared.datagram.Fragment.{Fragment}
-use Rattle.nop_types.specs.declared.datagram.Reply.{Reply}
 use Rattle.nop_types.specs.declared.datagram.Stamped.{Stamped}
 use Rattle.nop_types.specs.declared.output.Dest.{Dest}
 use Rattle.nop_types.specs.declared.output.Out.{Out}
@@ -30,7 +29,9 @@ use Rattle.fragments.specs.Cutting.{sends_of}
 use Rattle.fragments.specs.Joining.{taken}
 use Rattle.client_quorum.specs.declared.state.ClientState.{ClientState}
 use Rattle.client_quorum.specs.ClientSteps as client
-use Rattle.client_quorum.specs.KeptReplies.{quorum_of}
+use Rattle.client_quorum.specs.OpenRequests.{has_room, open_requests}
+use Rattle.client_quorum.specs.Rows.{Row, Rests, SaysBusy, Opens, Repeats, Keeps, Accepts}
+use Rattle.client_quorum.proofs.RowLemmas.{row_of}
 use Rattle.sequencer.specs.declared.state.SequencerState.{SequencerState}
 use Rattle.sequencer.specs.SequencerSteps as sequencer
 use Rattle.session_control.specs.declared.state.ControllerState.{ControllerState}
@@ -220,10 +221,9 @@ module _ (c : Configuration) (k : ℕ) (within : k < c.clients) (s : ClientState
   own : s.number < c.clients
   own = omega (arith, is.number)
 
-  submit_tells : (b : Bool) → client.can_submit s ≡ b → (op : List ℕ) → IsOp op
-      → ClientTells c k (client.submit_if b s (client.request_of s op))
-  submit_tells true may op fits =
-      let left = ltb-true s.last_id (2 ^ 64 - 1) (and_parts (client.has_none s.pending) (nat_lt s.last_id (2 ^ 64 - 1)) may).1 in
+  submit_tells : (op : List ℕ) → client.can_submit s ≡ true → IsOp op → ClientTells c k (client.begin s (client.request_of s op))
+  submit_tells op can fits =
+      let left = ltb-true s.last_id (2 ^ 64 - 1) (and_parts (has_room s) (nat_lt s.last_id (2 ^ 64 - 1)) can).1 in
       record {
         tells = (
           record { client = own; low = omega arith; id = omega (arith, left); bytes = fits.bytes; short = fits.short },
@@ -231,39 +231,22 @@ module _ (c : Configuration) (k : ℕ) (within : k < c.clients) (s : ClientState
         );
         stays = record { number = is.number; waits = is.waits };
       }
-  submit_tells false may op fits = record { tells = (own, tt); stays = is }
 
-  first_tells : (ops : List (List ℕ)) → ops ≡ [] → ClientTells c k (client.submit_first (client.first_of ops) s)
-  first_tells [] none = quiet_client
-  first_tells (op ∷ ops) none = absurd cc
+  retry_tells : (qs : List Request) → OutsAre c (map client.sent qs)
+  retry_tells [] = tt
+  retry_tells (q ∷ qs) = (tt, retry_tells qs)
 
-  waiting_tells : (b : Bool) → ClientTells c k (client.submit_waiting_if b s)
-  waiting_tells true = first_tells s.waiting is.waits
-  waiting_tells false = quiet_client
-
-  retry_tells : (o : Option Request) → OutsAre c (client.retry_of o)
-  retry_tells None = tt
-  retry_tells (Some r) = (tt, tt)
-
-  client_tick_tells : (t : Tick) → ClientTells c k (client.on_tick s t)
-  client_tick_tells ticks.Next = waiting_tells (client.can_submit s)
-  client_tick_tells ticks.Retry = record { tells = retry_tells s.pending; stays = is }
-  client_tick_tells _ = quiet_client
-
-  accept_tells : (id : ℕ) (p : Reply) (o : Option Reply) → ClientTells c k (client.accept_if (client.kept s p) id o)
-  accept_tells id p None = record { tells = tt; stays = record { number = is.number; waits = is.waits } }
-  accept_tells id p (Some q) = record { tells = (tt, tt); stays = record { number = is.number; waits = is.waits } }
-
-  reply_tells : (b : Bool) (p : Reply) → ClientTells c k (client.reply_if b s p)
-  reply_tells true p = accept_tells p.id p (quorum_of (client.kept s p).config.replicas (client.kept s p).replies p.view p.slot)
-  reply_tells false p = quiet_client
-
-  answer_tells : (r : Result Datagram Bad) → ClientTells c k (client.on_datagram s r)
-  answer_tells (Ok (datagrams.Reply p)) = reply_tells (client.is_expected s p) p
-  answer_tells _ = quiet_client
+  row_tells : (i : Given) → GivenIs i → (y : ClientState × List Out) → Row s i y → ClientTells c k y
+  row_tells i fits y Rests = quiet_client
+  row_tells i fits y (SaysBusy op of busy) = record { tells = (own, tt); stays = is }
+  row_tells i fits y (Opens op waiting can (inl (of, left))) = absurd (let none = is.waits in cc)
+  row_tells i fits y (Opens op waiting can (inr (of, same))) =
+      subst (λ (ops : List (List ℕ)). ClientTells c k (client.begin (record s { waiting = ops }) (client.request_of s op))) same
+      (submit_tells op can (subst GivenIs of fits))
+  row_tells i fits y (Repeats of) = record { tells = retry_tells (open_requests s); stays = is }
+  row_tells i fits y (Keeps p has e quorum) = record { tells = tt; stays = record { number = is.number; waits = is.waits } }
+  row_tells i fits y (Accepts p leaders has e quorum) =
+      record { tells = (tt, tt); stays = record { number = is.number; waits = is.waits } }
 
   pub client_tells : (i : Given) → GivenIs i → ClientTells c k (client.next s i)
-  unfolding client.next
-  client_tells (Packet bytes) fits = answer_tells (reading bytes)
-  client_tells (Ticked tick) fits = client_tick_tells tick
-  client_tells (Submit op) fits = submit_tells (client.can_submit s) refl op fits
+  client_tells i fits = row_tells i fits (client.next s i) (row_of s i)

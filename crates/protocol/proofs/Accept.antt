@@ -1,7 +1,7 @@
 -- The move of a client that accepts a result.
 use Rattle.std.proofs.Common.{◌≡◌, ℕ, ◌+◌, ◌*◌, ◌<◌, ◌≤◌, true, false, Some, None, refl, sym, ap, subst, ◌∙◌, inl, inr, arith, List, []}
 use Rattle.std.proofs.Common.{◌∷◌, length, map, take}
-use Rattle.std.specs.Prelude.{◌⊎◌, ◌==◌, ◌&&◌, ◌/◌, nat_le, filter, find, count_by, if◌then◌else◌}
+use Rattle.std.specs.Prelude.{◌⊎◌, ◌==◌, ◌&&◌, ◌/◌, not, nat_le, filter, find, count_by, if◌then◌else◌}
 use Rattle.std.proofs.lemmas.Bool.Decides.{nat_tests}
 use Rattle.std.proofs.lemmas.List.{length-map}
 use Rattle.std.proofs.lemmas.List.Sums.{length-filter}
@@ -19,15 +19,18 @@ use Rattle.lemmas.proofs.Members.{Has-append_cases, Has-one, Has-none, Has-from_
 use Rattle.lemmas.proofs.Prefixes.{Has-prefix, IsPrefixOf-take}
 use Rattle.started_views.specs.Past.{HadLog, LeaderHad}
 use Rattle.started_views.specs.Quorums.{counts, Quorum}
-use Rattle.std.proofs.lemmas.Bool.{eqb-true, and_parts}
+use Rattle.std.proofs.lemmas.Bool.{cases_eq, eqb-true, and_parts}
 use Rattle.lemmas.proofs.Views.{is_view-true}
 use Rattle.client_quorum.specs.declared.state.ClientState.{ClientState}
 use Rattle.client_quorum.specs.ClientSteps.{accepts}
 use Rattle.client_quorum.specs.KeptReplies.{matches, is_leaders, quorum_of}
+use Rattle.client_quorum.specs.OpenRequests.{open_requests, IsOpen, is_open, kept_for}
+use Rattle.client_quorum.specs.Rows.{IsClosed}
+use Rattle.client_quorum.proofs.OpenRequests.{closes, kept_is_open, open_has}
 use Rattle.protocol.specs.Conf.{Conf}
 use Rattle.protocol.specs.Evolves.{Evolves}
 use Rattle.protocol.specs.Moves.{accept, MayAccept}
-use Rattle.protocol.specs.Invariant.{IsUsed, Replied, Accepted, KeptReply, GoodLines, GoodClient, Inv}
+use Rattle.protocol.specs.Invariant.{IsUsed, Replied, Accepted, GoodLines, GoodClient, Inv}
 use Rattle.protocol.proofs.Facts.{counts_filter, counts_member}
 use Rattle.protocol.proofs.Growing.{Kept}
 use Rattle.protocol.proofs.Outside.{outside_keeps}
@@ -84,22 +87,20 @@ module _ {S : Type 0} (m : Meaning S) (f : ℕ) (c : Conf) (inv : Inv m f c) (k 
   good : GoodClient f c k s
   good = inv.clients k
 
-  its : KeptReply f c.replies s p
-  its = good.kept p may.kept
+  abbrev its : List Reply
+  its = kept_for s p.id
 
-  chosen : Chosen s.config.replicas s.replies p.view p.slot leaders
-  chosen = chosen_from s.config.replicas s.replies p.view p.slot leaders may.enough
+  chosen : Chosen s.config.replicas its p.view p.slot leaders
+  chosen = chosen_from s.config.replicas its p.view p.slot leaders may.enough
 
   abbrev matching : List Reply
-  matching = filter (matches p.view p.slot) s.replies
+  matching = filter (matches p.view p.slot) its
 
   -- a kept reply of this view and slot is one for the client and id
-  replied : (y : Reply) (r : ℕ) → Has s.replies y → y.view ≡ p.view → y.slot ≡ p.slot → y.replica ≡ r
+  replied : (y : Reply) (r : ℕ) → Has its y → y.view ≡ p.view → y.slot ≡ p.slot → y.replica ≡ r
       → Replied c.replies p.view p.slot s.number p.id r
   replied y r i at_view at_slot by =
-      let t = good.kept y i in
-      let same : Some t.request ≡ Some its.request = sym t.pending ∙ its.pending in
-      let id : t.request.id ≡ its.request.id = (let e : t.request ≡ its.request = cc in ap (λ (q : Request). q.id) e) in
+      let t = good.kept p.id y i in
       record {
         reply = y;
         sent = t.sent;
@@ -107,7 +108,7 @@ module _ {S : Type 0} (m : Meaning S) (f : ℕ) (c : Conf) (inv : Inv m f c) (k 
         at_view = at_view;
         at_slot = at_slot;
         of_client = t.client;
-        of_id = t.id ∙ id ∙ sym its.id;
+        of_id = t.id;
       }
 
   quorum : Quorum f (Replied c.replies p.view p.slot s.number p.id)
@@ -117,20 +118,20 @@ module _ {S : Type 0} (m : Meaning S) (f : ℕ) (c : Conf) (inv : Inv m f c) (k 
       arith,
       chosen.enough,
       good.replicas,
-      length-filter (matches p.view p.slot) s.replies,
+      length-filter (matches p.view p.slot) its,
       length-map matching
           (λ (y : Reply). y.replica),
     );
-    once = λ r. let a = counts_filter (λ (y : Reply). y.replica) (matches p.view p.slot) s.replies r in omega (arith, a, good.once r);
-    within = λ r h. let y = member r h in subst (λ (i : ℕ). i < 2 * f + 1) y.2 (good.kept y.0 y.1.0).replica;
+    once = λ r. let a = counts_filter (λ (y : Reply). y.replica) (matches p.view p.slot) its r in omega (arith, a, good.once p.id r);
+    within = λ r h. let y = member r h in subst (λ (i : ℕ). i < 2 * f + 1) y.2 (good.kept p.id y.0 y.1.0).replica;
     holds = λ r h. let y = member r h in let e = matched p.view p.slot y.0 y.1.1 in replied y.0 r y.1.0 e.0 e.1 y.2;
   }
     where
       member : (r : ℕ) → 1 ≤ counts r (map (λ (y : Reply). y.replica) matching)
-          → (y : Reply) × (Has s.replies y × (matches p.view p.slot y ≡ true)) × (y.replica ≡ r)
+          → (y : Reply) × (Has its y × (matches p.view p.slot y ≡ true)) × (y.replica ≡ r)
       member r h =
           let g = counts_member (λ (y : Reply). y.replica) matching r h in
-          (g.0, Has-from_filter (matches p.view p.slot) g.0 s.replies g.1, g.2)
+          (g.0, Has-from_filter (matches p.view p.slot) g.0 its g.1, g.2)
 
   leads : leaders.replica ≡ leader_of p.view (2 * f + 1)
   leads = chosen.leads ∙ ap (λ (v : View). leader_of v s.config.replicas) chosen.at_view ∙ ap (leader_of p.view) good.replicas
@@ -138,7 +139,7 @@ module _ {S : Type 0} (m : Meaning S) (f : ℕ) (c : Conf) (inv : Inv m f c) (k 
   accepted_now : Accepted f c (length c.lines) s.number p.id leaders.result
   unfolding replied
   accepted_now =
-      let t = inv.replies leaders (good.kept leaders chosen.member).sent in
+      let t = inv.replies leaders (good.kept p.id leaders chosen.member).sent in
       let led : LeaderHad f c.past p.view t.log = subst (λ (i : ℕ). HadLog c.past i p.view t.log) leads
       (subst (λ (v : View). HadLog c.past leaders.replica v t.log) chosen.at_view t.had) in
       let log = inv.logs (leader_of p.view (2 * f + 1)) p.view t.log led in
@@ -168,11 +169,18 @@ module _ {S : Type 0} (m : Meaning S) (f : ℕ) (c : Conf) (inv : Inv m f c) (k 
   last_ids : (i : ℕ) → (c.clients i).last_id ≤ (d.clients i).last_id
   last_ids = put-all (λ i t. (c.clients i).last_id ≤ t.last_id) c.clients k (accepts s p.id leaders) (omega arith) (λ i a. omega arith)
 
+  id_open : is_open s p.id ≡ true
+  id_open = kept_is_open s p.id p may.kept
+
+  -- the request that it is for
+  asked : (q : Request) × IsOpen s q × (q.id ≡ p.id)
+  asked = open_has s p.id id_open
+
   low_id : IsUsed (c.clients s.number) p.id
   low_id =
-      let q = good.pending its.request its.pending in
-      let used = inv.lines.submitted_ids its.request q.submitted in
-      let e : IsUsed s p.id = record { low = omega (arith, used.low, its.id); high = omega (arith, its.id, q.id) } in
+      let q = good.opened asked.0 asked.1 in
+      let used = inv.lines.submitted_ids asked.0 q.submitted in
+      let e : IsUsed s p.id = record { low = omega (arith, used.low, asked.2); high = omega (arith, asked.2, q.low) } in
       subst (λ (i : ℕ). IsUsed (c.clients i) p.id) (sym good.number) e
 
   -- it was not accepted before
@@ -182,7 +190,7 @@ module _ {S : Type 0} (m : Meaning S) (f : ℕ) (c : Conf) (inv : Inv m f c) (k 
       let same_client : s.number ≡ client = cc in
       let same_id : p.id ≡ id = cc in
       let at : Has c.lines (Accept k id other) = subst (λ (n : ℕ). Has c.lines (Accept n id other)) (sym same_client ∙ good.number) i in
-      inv.lines.accepted_done k id other at its.request its.pending (sym its.id ∙ same_id)
+      inv.lines.accepted_done k id other at asked.0 asked.1 (asked.2 ∙ same_id)
 
   line_from : (client id : ℕ) (result : List ℕ) → Has d.lines (Accept client id result)
       → Has c.lines (Accept client id result) ⊎ ((client ≡ k) × (id ≡ p.id))
@@ -195,12 +203,22 @@ module _ {S : Type 0} (m : Meaning S) (f : ℕ) (c : Conf) (inv : Inv m f c) (k 
         inr (same_client ∙ good.number, same_id)
   ]
 
+  after : IsClosed s (accepts s p.id leaders) p.id leaders.result
+  after = closes s p.id leaders id_open
+
+  -- what is open still was open, and has another id
+  open_from : (q : Request) → IsOpen (accepts s p.id leaders) q → IsOpen s q × (not (q.id == p.id) ≡ true)
+  open_from q i = Has-from_filter (λ x. not (x.id == p.id)) q (open_requests s) (subst (λ (l : List Request). Has l q) after.requests i)
+
   abbrev Done : ℕ → ClientState → Type 0
-  Done i t = (id : ℕ) (result : List ℕ) → Has d.lines (Accept i id result) → (q : Request) → t.pending ≡ Some q → q.id ≡ id → ⊥
+  Done i t = (id : ℕ) (result : List ℕ) → Has d.lines (Accept i id result) → (q : Request) → IsOpen t q → q.id ≡ id → ⊥
 
   done : (i : ℕ) → Done i (d.clients i)
   done = put-all Done c.clients k (accepts s p.id leaders)
-      (λ id result h q e same. absurd cc)
+      (λ id result h q i same. elim (line_from k id result h) [
+        | inl old ↦ inv.lines.accepted_done k id result old q (open_from q i).0 same
+        | inr (t, u) ↦ let apart = (open_from q i).1 in grind (arith, nat_tests, apart, same, u)
+      ])
       (λ i a id result h q e same. elim (line_from i id result h) [
         | inl old ↦ inv.lines.accepted_done i id result old q e same
         | inr (t, u) ↦ a t
@@ -235,14 +253,34 @@ module _ {S : Type 0} (m : Meaning S) (f : ℕ) (c : Conf) (inv : Inv m f c) (k 
     ];
   }
 
-  good_client : GoodClient f d k (accepts s p.id leaders)
-  good_client = record {
-    number = good.number;
-    replicas = good.replicas;
-    pending = λ q e. absurd cc;
-    kept = λ y i. absurd (Has-none y i);
-    once = λ i. omega arith;
-  }
+  kept_from : (id : ℕ) (y : Reply) → Has (kept_for (accepts s p.id leaders) id) y → Has (kept_for s id) y
+  kept_from id y i = elim (cases_eq id p.id) [
+    | inl e ↦
+        let at : Has (kept_for (accepts s p.id leaders) p.id) y =
+        subst (λ (n : ℕ). Has (kept_for (accepts s p.id leaders) n) y) e i in
+        absurd (Has-none y (subst (λ (l : List Reply). Has l y) after.here at))
+    | inr a ↦ subst (λ (l : List Reply). Has l y) (after.others id a) i
+  ]
+
+  once : (id r : ℕ) → counts r (map (λ (y : Reply). y.replica) (kept_for (accepts s p.id leaders) id)) ≤ 1
+  once id r = elim (cases_eq id p.id) [
+    | inl e ↦
+        subst (λ (n : ℕ). counts r (map (λ (y : Reply). y.replica) (kept_for (accepts s p.id leaders) n)) ≤ 1) (sym e)
+        (subst (λ (l : List Reply). counts r (map (λ (y : Reply). y.replica) l) ≤ 1) (sym after.here) (omega arith))
+    | inr a ↦
+        subst (λ (l : List Reply). counts r (map (λ (y : Reply). y.replica) l) ≤ 1) (sym (after.others id a)) (good.once id r)
+  ]
+
+  good_client : Evolves f c d → GoodClient f d k (accepts s p.id leaders)
+  good_client ev =
+      let g = client_lasts m f c d ev k s good in
+      record {
+        number = g.number;
+        replicas = g.replicas;
+        opened = λ q i. g.opened q (open_from q i).0;
+        kept = λ id y i. g.kept id y (kept_from id y i);
+        once = once;
+      }
 
   pub accept_keeps : Kept m f c d
   accept_keeps = outside_keeps m f c inv (record {
@@ -272,6 +310,6 @@ module _ {S : Type 0} (m : Meaning S) (f : ℕ) (c : Conf) (inv : Inv m f c) (k 
         installed_once = inv.installed_once;
         controllers = inv.controllers;
         lines = good_lines ev;
-        clients = put-all (GoodClient f d) c.clients k (accepts s p.id leaders) good_client
+        clients = put-all (GoodClient f d) c.clients k (accepts s p.id leaders) (good_client ev)
             (λ i a. client_lasts m f c d ev i (c.clients i) (inv.clients i));
       })

@@ -1,11 +1,13 @@
 -- The opening meets what holds of each world.
-use Rattle.std.proofs.Common.{◌≡◌, ℕ, zero, suc, ◌+◌, ◌*◌, ◌≤◌, Bool, true, false, Some, refl, sym, subst, arith, inl, []}
+use Rattle.std.proofs.Common.{◌≡◌, ℕ, zero, suc, ◌+◌, ◌*◌, ◌≤◌, Bool, true, false, Some, refl, sym, subst, arith, inl, List, [], map}
 use Rattle.std.specs.Prelude.{◌==◌, if◌then◌else◌}
 use Rattle.nop_types.specs.Configuration.{Configuration}
 use Rattle.nop_types.specs.declared.view.View.{View}
+use Rattle.nop_types.specs.declared.request.Request.{Request}
 use Rattle.nop_types.specs.declared.request.Entry.{Entry}
 use Rattle.nop_types.specs.declared.request.Entry.TheVariants.{NoOp, Req}
-use Rattle.nop_types.specs.Lists.{slot_of}
+use Rattle.nop_types.specs.declared.datagram.Reply.{Reply}
+use Rattle.nop_types.specs.Lists.{Has, slot_of}
 use Rattle.nop_types.specs.Meaning.{Meaning}
 use Rattle.nop_types.specs.Sessions.{opening_session}
 use Rattle.nop_types.specs.Views.{AtMost, first_view, leader_of}
@@ -19,6 +21,8 @@ use Rattle.lemmas.proofs.Slots.{slot_of-within}
 use Rattle.lemmas.proofs.Prefixes.{IsPrefixOf-refl}
 use Rattle.lemmas.proofs.Views.{AtMost-refl}
 use Rattle.protocol.specs.Conf.{Conf, HasOwner, opening}
+use Rattle.client_quorum.proofs.OpenRequests.{opening_keeps_none, opening_opens_none}
+use Rattle.started_views.specs.Quorums.{counts}
 use Rattle.protocol.specs.Invariant.{GoodSequencer, GoodLog, Own, Inv}
 use Rattle.protocol.specs.Laws.{OpeningMeets}
 use Rattle.protocol.specs.Member.{fresh}
@@ -120,9 +124,9 @@ module _ {S : Type 0} (m : Meaning S) (f : ℕ) (config : Configuration) (count 
     clients = λ k. record {
       number = refl;
       replicas = count;
-      pending = λ q e. absurd cc;
-      kept = λ p i. absurd (Has-none p i);
-      once = λ r. omega arith;
+      opened = λ q i. absurd (Has-none q (subst (λ (l : List Request). Has l q) (opening_opens_none config k []) i));
+      kept = λ id p i. absurd (Has-none p (subst (λ (l : List Reply). Has l p) (opening_keeps_none config k [] id) i));
+      once = λ id r. subst (λ (l : List Reply). counts r (map (λ p. p.replica) l) ≤ 1) (sym (opening_keeps_none config k [] id)) (omega arith);
     };
   }
 

@@ -6,6 +6,7 @@ use Rattle.nop_types.specs.declared.request.Entry.TheVariants.{Req}
 use Rattle.nop_types.specs.Meaning.{Meaning}
 use Rattle.nop_types.specs.Views.{AtMost, Below, first_view, outranks}
 use Rattle.gap_agree.specs.Votes.{with_vote}
+use Rattle.client_quorum.specs.OpenRequests.{has_room, open_requests, is_open, kept_for}
 use Rattle.execution_laws.proofs.Accounts.{kept_for-insert}
 use Rattle.protocol.specs.Conf.{opening, last_normals}
 use Rattle.protocol.specs.Runs.{run, MayAll}
@@ -56,7 +57,7 @@ to_itself v = record { leader = omega arith; session = omega arith }
 
 module _ {S : Type 0} (m : Meaning S) where
   gap_allowed : MayAll m 1 (opening (three 1 2)) (gap_run m)
-  unfolding with_vote
+  unfolding with_vote has_room open_requests is_open kept_for
   gap_allowed =
       also refl
       (also refl
@@ -102,6 +103,7 @@ module _ {S : Type 0} (m : Meaning S) where
   gap_run_ends = (gap_allowed, gap_ends)
 
   session_allowed : MayAll m 1 (opening (three 2 1)) (session_run m)
+  unfolding has_room open_requests is_open kept_for
   session_allowed =
       also (record { own = refl; later = omega arith })
       (also (record { own = refl; later = omega arith })
@@ -144,7 +146,7 @@ module _ {S : Type 0} (m : Meaning S) where
   session_run_ends = (session_allowed, session_ends)
 
   sync_allowed : MayAll m 1 (opening (three 1 1)) (sync_run m)
-  unfolding with_vote
+  unfolding with_vote has_room open_requests is_open kept_for
   sync_allowed =
       also refl
       (also (record { sent = (0, refl); session = omega arith })

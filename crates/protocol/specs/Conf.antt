@@ -1,5 +1,5 @@
 -- The actors, what was sent, and the past beside them.
-use Rattle.std.specs.Prelude.{◌⊎◌, ◌≡◌, ◌+◌, ◌*◌, ℕ, Bool, true, List, [], ◌++◌, Some}
+use Rattle.std.specs.Prelude.{◌⊎◌, ◌≡◌, ◌+◌, ◌*◌, ℕ, Bool, true, List, [], ◌++◌}
 use Rattle.lemmas.specs.Functions.{put}
 use Rattle.nop_types.specs.Configuration.{Configuration}
 use Rattle.nop_types.specs.declared.view.View.{View}
@@ -29,10 +29,6 @@ pub record Control : Type 0 where
 pub record Install : Type 0 where
   pub sequencer : ℕ
   pub session : ℕ
-
--- a request that a client waits for; so far there is at most one
-abbrev pub IsOpen : ClientState → Request → Type 0
-IsOpen s r = s.pending ≡ Some r
 
 -- each list has all that was ever sent, the newest first; the lines have the oldest first
 pub record Conf : Type 0 where

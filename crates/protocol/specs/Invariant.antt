@@ -1,5 +1,6 @@
 -- What holds of the actors and their past in each world of a run. What speaks of old things is said positively, so that it lasts.
 use Rattle.std.specs.Prelude.{◌≡◌, ◌⊎◌, ◌≤◌, ◌<◌, ◌+◌, ◌-◌, ◌*◌, ℕ, false, List, Option, length, map, take, Some, None, slice_get}
+use Rattle.nop_types.specs.declared.limits.TheConstants.{WINDOW}
 use Rattle.nop_types.specs.declared.view.View.{View}
 use Rattle.nop_types.specs.declared.replica_state.Phase.{Phase}
 use Rattle.nop_types.specs.declared.replica_state.Phase.TheVariants.{Normal, Change}
@@ -18,6 +19,7 @@ use Rattle.nop_types.specs.Sessions.{home}
 use Rattle.nop_types.specs.Stamps.{WasStamped}
 use Rattle.nop_types.specs.Views.{AtMost, Below, Comparable, first_view, leader_of}
 use Rattle.execution_laws.specs.Legality.{SubmittedOnce}
+use Rattle.client_quorum.specs.OpenRequests.{IsOpen, kept_for}
 use Rattle.client_quorum.specs.declared.state.ClientState.{ClientState}
 use Rattle.gap_agree.specs.Agreement.{Agreement}
 use Rattle.log_merge.specs.Starting.{Start, start_of}
@@ -28,7 +30,7 @@ use Rattle.started_views.specs.Past.{Entered, Past, Standing, HadLog, LeaderHad,
 use Rattle.started_views.specs.Quorums.{counts, Quorum}
 use Rattle.started_views.specs.Settled.{Certificate}
 use Rattle.view_change.specs.Gathering.{IsOfSender}
-use Rattle.protocol.specs.Conf.{Conf, Control, Install, DidSay, Settled, WasSubmitted, Owns, HasOwner, IsOpen}
+use Rattle.protocol.specs.Conf.{Conf, Control, Install, DidSay, Settled, WasSubmitted, Owns, HasOwner}
 use Rattle.protocol.specs.Member.{Member, PlainGathering, standing}
 use Rattle.protocol.specs.Said.{Said, GapCommit, GapRep}
 use Rattle.protocol.specs.Truth.{TrueWord}
@@ -229,29 +231,28 @@ pub record GoodLines (f : ℕ) (c : Conf) : Type 0 where
       → IsOpen (c.clients client) q → q.id ≡ id → ⊥
   pub grounds : (k client id : ℕ) (result : List ℕ) → slice_get c.lines k ≡ Some (Accept client id result) → Accepted f c k client id result
 
--- the open request was sent
-pub record GoodPending (c : Conf) (k last_id : ℕ) (q : Request) : Type 0 where
+-- an open request was sent, and its id is near the last one
+pub record GoodOpen (c : Conf) (k last_id : ℕ) (q : Request) : Type 0 where
   pub client : q.client ≡ k
-  pub id : q.id ≡ last_id
+  pub low : q.id ≤ last_id
+  pub near : last_id < q.id + WINDOW
   pub submitted : WasSubmitted c.lines q
   pub sent : Has c.requests q
 
--- a reply that a client keeps was sent by a replica for the pending request
-pub record KeptReply (f : ℕ) (replies : List Reply) (s : ClientState) (p : Reply) : Type 0 where
+-- a reply that a client keeps for an id was sent by a replica, for the client and the id
+pub record KeptReply (f : ℕ) (replies : List Reply) (number asked : ℕ) (p : Reply) : Type 0 where
   pub sent : Has replies p
   pub replica : p.replica < 2 * f + 1
-  pub client : p.client ≡ s.number
-  pub request : Request
-  pub pending : IsOpen s request
-  pub id : p.id ≡ request.id
+  pub client : p.client ≡ number
+  pub id : p.id ≡ asked
 
 pub record GoodClient (f : ℕ) (c : Conf) (k : ℕ) (s : ClientState) : Type 0 where
   pub number : s.number ≡ k
   pub replicas : s.config.replicas ≡ 2 * f + 1
-  pub pending : (q : Request) → IsOpen s q → GoodPending c k s.last_id q
-  pub kept : (p : Reply) → Has s.replies p → KeptReply f c.replies s p
+  pub opened : (q : Request) → IsOpen s q → GoodOpen c k s.last_id q
+  pub kept : (id : ℕ) (p : Reply) → Has (kept_for s id) p → KeptReply f c.replies s.number id p
   -- at most one of a replica
-  pub once : (r : ℕ) → counts r (map (λ p. p.replica) s.replies) ≤ 1
+  pub once : (id r : ℕ) → counts r (map (λ p. p.replica) (kept_for s id)) ≤ 1
 
 -- ---- all of it
 

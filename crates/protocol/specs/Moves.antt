@@ -18,8 +18,9 @@ use Rattle.nop_types.specs.Sessions.{home}
 use Rattle.nop_types.specs.Slots.{set_slot, laid}
 use Rattle.nop_types.specs.Views.{AtMost, Below, leader_of}
 use Rattle.execution_laws.specs.Legality.{IsOtherLine}
-use Rattle.client_quorum.specs.ClientSteps.{has_none, request_of, submitted, is_expected, kept, accepts}
+use Rattle.client_quorum.specs.ClientSteps.{request_of, submitted, is_expected, kept, accepts}
 use Rattle.client_quorum.specs.KeptReplies.{quorum_of}
+use Rattle.client_quorum.specs.OpenRequests.{has_room, kept_for}
 use Rattle.gap_agree.specs.Agreement.{Agreement, begun, counted}
 use Rattle.gap_agree.specs.Votes.{vote_of}
 use Rattle.log_merge.specs.Starting.{start_of, start_point}
@@ -360,7 +361,7 @@ submit c k op waiting =
     }
 
 abbrev pub MaySubmit : Conf → ℕ → Type 0
-MaySubmit c k = has_none (c.clients k).pending ≡ true
+MaySubmit c k = has_room (c.clients k) ≡ true
 
 -- a reply is kept
 abbrev pub keep : Conf → ℕ → Reply → Conf
@@ -379,8 +380,8 @@ accept c k p leaders =
     }
 
 pub record MayAccept (c : Conf) (k : ℕ) (p leaders : Reply) : Type 0 where
-  pub kept : Has (c.clients k).replies p
-  pub enough : quorum_of (c.clients k).config.replicas (c.clients k).replies p.view p.slot ≡ Some leaders
+  pub kept : Has (kept_for (c.clients k) p.id) p
+  pub enough : quorum_of (c.clients k).config.replicas (kept_for (c.clients k) p.id) p.view p.slot ≡ Some leaders
 
 -- ---- lines that neither submit nor accept
 

@@ -11,6 +11,7 @@ use Rattle.nop_types.specs.Stamps.{WasStamped}
 use Rattle.nop_types.specs.Views.{leader_of}
 use Rattle.lemmas.proofs.Prefixes.{IsPrefixOf-take, Has-prefix}
 use Rattle.lemmas.proofs.Slots.{Has-slot_of}
+use Rattle.client_quorum.proofs.OpenRequests.{kept_is_open, open_has}
 use Rattle.log_merge.specs.Starting.{Start}
 use Rattle.started_views.specs.Past.{Entered, HadLog, LeaderHad, IsStart}
 use Rattle.protocol.specs.Conf.{Conf, WasSubmitted, Owns, HasOwner}
@@ -101,7 +102,7 @@ module _ {S : Type 0} (m : Meaning S) (f : ℕ) (c : Conf) (inv : Inv m f c) whe
   requests_submitted = record {
     sent = inv.requests;
     stamped = λ p i. (inv.stamps p i).submitted;
-    opened = λ k q e. ((inv.clients k).pending q e).submitted;
+    opened = λ k q i. ((inv.clients k).opened q i).submitted;
     queued = λ r number q l e. stamped (c.replicas r).receiver.session number q ((inv.own r l).queue.queued number q e);
     logged = λ r l. had r (c.replicas r).last_normal (c.replicas r).log (inv.current r l);
     had = had;
@@ -128,9 +129,10 @@ module _ {S : Type 0} (m : Meaning S) (f : ℕ) (c : Conf) (inv : Inv m f c) whe
     queued = λ r number q l e.
         let own = inv.own r l in
         subst (λ (s : ℕ). WasStamped c.stamps s number q) own.queue.session (own.queue.queued number q e);
-    replies = λ k p i. ((inv.clients k).kept p i).sent;
-    expected = λ k p i.
-        let t = (inv.clients k).kept p i in
-        let waits = (inv.clients k).pending t.request t.pending in
-        (t.request, t.pending, record { same_client = waits.client ∙ sym (inv.clients k).number ∙ sym t.client; same_id = sym t.id });
+    replies = λ k id p i. ((inv.clients k).kept id p i).sent;
+    expected = λ k id p i.
+        let t = (inv.clients k).kept id p i in
+        let q = open_has (c.clients k) id (kept_is_open (c.clients k) id p i) in
+        let its = (inv.clients k).opened q.0 q.1 in
+        (q.0, q.1, record { same_client = its.client ∙ sym (inv.clients k).number ∙ sym t.client; same_id = q.2 ∙ sym t.id });
   }

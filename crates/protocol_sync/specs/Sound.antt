@@ -17,6 +17,7 @@ use Rattle.nop_types.specs.Meaning.{Meaning}
 use Rattle.nop_types.specs.Sessions.{home}
 use Rattle.nop_types.specs.Stamps.{WasStamped}
 use Rattle.nop_types.specs.Views.{AtMost, Below, Comparable, first_view, leader_of}
+use Rattle.client_quorum.specs.OpenRequests.{IsOpen, kept_for}
 use Rattle.gap_agree.specs.Agreement.{Agreement}
 use Rattle.log_merge.specs.Starting.{Start, start_of}
 use Rattle.started_views.specs.Logs.{SameTo}
@@ -25,7 +26,7 @@ use Rattle.started_views.specs.Quorums.{Quorum, Others}
 use Rattle.started_views.specs.Settled.{Certificate}
 use Rattle.sync_points.specs.Synchronisation.{Round}
 use Rattle.view_change.specs.Gathering.{IsOfSender}
-use Rattle.protocol.specs.Conf.{Conf, DidSay, Settled, WasSubmitted, Owns, IsOpen}
+use Rattle.protocol.specs.Conf.{Conf, DidSay, Settled, WasSubmitted, Owns}
 use Rattle.protocol.specs.Invariant.{Replied}
 use Rattle.protocol.specs.Member.{Member, PlainGathering}
 use Rattle.protocol.specs.Said.{Said, Found, GapCommit, GapRep, ViewChange, StartView, SyncPrepare, SyncRep, SyncCommit}
@@ -84,8 +85,8 @@ pub record RequestsAreSubmitted (f : ℕ) (c : Conf) : Type 0 where
 pub record KeptWasSent (f : ℕ) (c : Conf) : Type 0 where
   pub queued : (r number : ℕ) (q : Request) → r < 2 * f + 1 → finite.get (c.replicas r).receiver.queued number ≡ Some q
       → WasStamped c.stamps (c.replicas r).view.session number q
-  pub replies : (k : ℕ) (p : Reply) → Has (c.clients k).replies p → Has c.replies p
-  pub expected : (k : ℕ) (p : Reply) → Has (c.clients k).replies p → (q : Request) × IsOpen (c.clients k) q × IsOf p.client p.id q
+  pub replies : (k id : ℕ) (p : Reply) → Has (kept_for (c.clients k) id) p → Has c.replies p
+  pub expected : (k id : ℕ) (p : Reply) → Has (kept_for (c.clients k) id) p → (q : Request) × IsOpen (c.clients k) q × IsOf p.client p.id q
 
 -- ---- what is synchronised
 

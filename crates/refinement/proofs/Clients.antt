@@ -1,13 +1,12 @@
 -- Each row of a client's step table is a list of moves.
-use Rattle.std.proofs.Common.{◌≡◌, ℕ, Bool, true, false, Option, Some, None, refl, sym, ap, subst, ◌∙◌, inl, inr, List, [], ◌∷◌, ◌++◌}
+use Rattle.std.proofs.Common.{◌≡◌, ℕ, true, Some, refl, sym, ap, subst, ◌∙◌, inl, inr, List, [], ◌∷◌}
+use Rattle.std.proofs.Common.{◌++◌, map}
 use Rattle.std.specs.Prelude.{◌^◌, ◌-◌, Result, Ok, not, filter, ◌==◌, nat_lt}
 use Rattle.std.proofs.lemmas.Bool.{and_parts}
 use Rattle.nop_types.specs.Given.{Given, Packet, Ticked, Submit}
 use Rattle.nop_types.specs.Lines as lines
 use Rattle.nop_types.specs.Lists.{Has}
 use Rattle.nop_types.specs.Meaning.{Meaning}
-use Rattle.nop_types.specs.declared.input.Tick.{Tick}
-use Rattle.nop_types.specs.declared.input.Tick.TheVariants as ticks
 use Rattle.nop_types.specs.declared.output.Dest.TheVariants.{Sequencers}
 use Rattle.nop_types.specs.declared.output.Out.{Out}
 use Rattle.nop_types.specs.declared.output.Out.TheVariants.{Send, Submitted, Accepted, Busy}
@@ -17,18 +16,22 @@ use Rattle.nop_types.specs.declared.datagram.Datagram.{Datagram}
 use Rattle.nop_types.specs.declared.datagram.Datagram.TheVariants as datagrams
 use Rattle.lemmas.specs.Functions.{put}
 use Rattle.lemmas.proofs.Functions.{put-here}
-use Rattle.lemmas.proofs.Members.{Has-append_right, Has-first, Has-rest, Has-cases, Has-one}
+use Rattle.lemmas.proofs.Members.{Has-append_right, Has-first, Has-rest, Has-cases, Has-none, Has-one}
 use Rattle.oum_codec.specs.declared.bad.Bad.{Bad}
 use Rattle.oum_codec.specs.Reading.{reading}
 use Rattle.client_quorum.specs.declared.state.ClientState.{ClientState}
-use Rattle.client_quorum.specs.ClientSteps.{has_none, sent, can_submit, request_of, begin, submit_if, submit, first_of, after_first}
-use Rattle.client_quorum.specs.ClientSteps.{submit_first, submit_waiting_if, submit_waiting, is_expected, kept, accepts, accept_if}
-use Rattle.client_quorum.specs.ClientSteps.{reply_if, reply, retry_of, retry, on_datagram, on_tick, next}
-use Rattle.client_quorum.specs.KeptReplies.{keep_reply, quorum_of}
+use Rattle.client_quorum.specs.ClientSteps.{sent, can_submit, request_of, begin, is_expected, kept, accepts, next}
+use Rattle.client_quorum.specs.OpenRequests.{has_room, kept_for, open_requests}
+use Rattle.client_quorum.specs.KeptReplies.{quorum_of}
+use Rattle.client_quorum.specs.Rows.{Row, Rests, SaysBusy, Opens, Repeats, Keeps, Accepts, quorum_with}
+use Rattle.client_quorum.specs.Runs.{reply_in, reply_of}
+use Rattle.client_quorum.proofs.OpenRequests as client
+use Rattle.client_quorum.proofs.OpenRequests.{expected_is_open}
+use Rattle.client_quorum.proofs.RowLemmas.{row_of}
 use Rattle.protocol.specs.Conf.{Conf}
 use Rattle.protocol.specs.Invariant.{Inv}
 use Rattle.protocol.specs.Runs as moves
-use Rattle.protocol.specs.Runs.{happens, run}
+use Rattle.protocol.specs.Runs.{happens}
 use Rattle.refinement.specs.Clients.{requests_in, with_client, ClientReaches, ClientsReach}
 use Rattle.refinement.specs.Datagrams.{Arrived, MayCome, AllCarry}
 use Rattle.refinement.specs.Lines.{lines_in}
@@ -58,18 +61,15 @@ module _ {S : Type 0} (m : Meaning S) (f : ℕ) (c : Conf) (k : ℕ) (inv : Inv 
 
   -- ---- an op is submitted
 
-  has_none_from : can_submit s ≡ true → has_none s.pending ≡ true
-  has_none_from e = (and_parts (has_none s.pending) (nat_lt s.last_id (2 ^ 64 - 1)) e).0
-
-  submits : (op : List ℕ) (waiting : List (List ℕ)) → has_none s.pending ≡ true
+  submits : (op : List ℕ) (waiting : List (List ℕ)) → can_submit s ≡ true
       → ClientReaches m f c k (begin (record s { waiting = waiting }) (request_of s op))
-  submits op waiting none =
+  submits op waiting can =
       let r = request_of s op in
       let outs : List Out = Submitted r ∷ sent r ∷ [] in
       let d = with_client c k (begin (record s { waiting = waiting }) r) in
       record {
         moves = moves.Submit k op waiting ∷ [];
-        may = (none, tt);
+        may = ((and_parts (has_room s) (nat_lt s.last_id (2 ^ 64 - 1)) can).0, tt);
         ends = refl;
         sends = λ dest bytes h. elim (Has-cases (Send dest bytes) (Submitted r) (sent r ∷ []) h) [
           | inl e ↦ absurd cc
@@ -83,31 +83,12 @@ module _ {S : Type 0} (m : Meaning S) (f : ℕ) (c : Conf) (k : ℕ) (inv : Inv 
         first = refl;
       }
 
-  submit_by : (op : List ℕ) (b : Bool) → can_submit s ≡ b → ClientReaches m f c k (submit_if b s (request_of s op))
-  submit_by op true e = submits op s.waiting (has_none_from e)
-  submit_by op false e = rests (Busy s.number ∷ []) refl refl (λ dest bytes h.
-      absurd (let same = Has-one (Send dest bytes) (Busy s.number) h in cc))
-
-  submit_reaches : (op : List ℕ) → ClientReaches m f c k (submit s op)
-  submit_reaches op = submit_by op (can_submit s) refl
-
-  -- ---- the tick Next
-
-  submit_first_by : (o : Option (List ℕ)) → can_submit s ≡ true → ClientReaches m f c k (submit_first o s)
-  submit_first_by None e = still
-  submit_first_by (Some op) e = submits op (after_first s.waiting) (has_none_from e)
-
-  submit_waiting_by : (b : Bool) → can_submit s ≡ b → ClientReaches m f c k (submit_waiting_if b s)
-  submit_waiting_by true e = submit_first_by (first_of s.waiting) e
-  submit_waiting_by false e = still
-
-  submit_waiting_reaches : ClientReaches m f c k (submit_waiting s)
-  submit_waiting_reaches = submit_waiting_by (can_submit s) refl
-
   -- ---- a reply comes
 
-  kept_there : (p : Reply) → Has (keep_reply s.replies p) p
-  kept_there p = Has-append_right (filter (λ x. not (x.replica == p.replica)) s.replies) (p ∷ []) p (0, refl)
+  kept_there : (p : Reply) → is_expected s p ≡ true → Has (kept_for (kept s p) p.id) p
+  kept_there p e =
+      subst (λ (l : List Reply). Has l p) (sym (client.keeps s p (expected_is_open s p e)).here)
+      (Has-append_right (filter (λ x. not (x.replica == p.replica)) (kept_for s p.id)) (p ∷ []) p (0, refl))
 
   -- the reply is kept
   keeps : (p : Reply) → Has c.replies p → is_expected s p ≡ true → ClientReaches m f c k (kept s p, [])
@@ -123,8 +104,8 @@ module _ {S : Type 0} (m : Meaning S) (f : ℕ) (c : Conf) (k : ℕ) (inv : Inv 
 
   -- and a leader's result is accepted
   accepts_result : (p leaders : Reply) → Has c.replies p → is_expected s p ≡ true
-      → quorum_of s.config.replicas (kept s p).replies p.view p.slot ≡ Some leaders
-      → ClientReaches m f c k (accept_if (kept s p) p.id (Some leaders))
+      → quorum_with s p ≡ Some leaders
+      → ClientReaches m f c k (accepts (kept s p) p.id leaders, Accepted s.number p.id leaders.result ∷ [])
   accepts_result p leaders came expected enough =
       let b = happens m f c (moves.Keep k p) in
       let here : b.clients k ≡ kept s p = put-here c.clients k (kept s p) in
@@ -136,8 +117,9 @@ module _ {S : Type 0} (m : Meaning S) (f : ℕ) (c : Conf) (k : ℕ) (inv : Inv 
           record { sent = came; expected = expected },
           (
             record {
-              kept = subst (λ (t : ClientState). Has t.replies p) (sym here) (kept_there p);
-              enough = subst (λ (t : ClientState). quorum_of t.config.replicas t.replies p.view p.slot ≡ Some leaders) (sym here) enough;
+              kept = subst (λ (t : ClientState). Has (kept_for t p.id) p) (sym here) (kept_there p expected);
+              enough = subst (λ (t : ClientState). quorum_of t.config.replicas (kept_for t p.id) p.view p.slot ≡ Some leaders)
+                  (sym here) enough;
             },
             tt,
           ),
@@ -155,44 +137,43 @@ module _ {S : Type 0} (m : Meaning S) (f : ℕ) (c : Conf) (k : ℕ) (inv : Inv 
         first = tt;
       }
 
-  accept_by : (p : Reply) → Has c.replies p → is_expected s p ≡ true → (o : Option Reply)
-      → quorum_of s.config.replicas (kept s p).replies p.view p.slot ≡ o → ClientReaches m f c k (accept_if (kept s p) p.id o)
-  accept_by p came expected None e = keeps p came expected
-  accept_by p came expected (Some leaders) e = accepts_result p leaders came expected e
-
-  reply_by : (p : Reply) → Has c.replies p → (b : Bool) → is_expected s p ≡ b → ClientReaches m f c k (reply_if b s p)
-  reply_by p came true e = accept_by p came e (quorum_of s.config.replicas (kept s p).replies p.view p.slot) refl
-  reply_by p came false e = still
-
-  reply_reaches : (p : Reply) → Has c.replies p → ClientReaches m f c k (reply s p)
-  reply_reaches p came = reply_by p came (is_expected s p) refl
-
   -- ---- the tick Retry
 
-  retry_by : (o : Option Request) → s.pending ≡ o → ClientReaches m f c k (s, retry_of o)
-  retry_by None e = still
-  retry_by (Some r) e =
-      rests (sent r ∷ []) refl refl (one_carries c Sequencers (datagrams.Request r) tt ((inv.clients k).pending r e).sent)
+  sent_none : (qs : List Request) → (requests_in (map sent qs) ≡ []) × (lines_in (map sent qs) ≡ [])
+  sent_none [] = (refl, refl)
+  sent_none (q ∷ qs) = sent_none qs
 
-  retry_reaches : ClientReaches m f c k (retry s)
-  retry_reaches = retry_by s.pending refl
+  sent_carry : (qs : List Request) → ((q : Request) → Has qs q → Has c.requests q) → AllCarry c (map sent qs)
+  sent_carry [] all dest bytes h = none_carry c dest bytes h
+  sent_carry (q ∷ qs) all dest bytes h = elim (Has-cases (Send dest bytes) (sent q) (map sent qs) h) [
+    | inl e ↦ one_carries c Sequencers (datagrams.Request q) tt (all q (Has-first q q qs refl)) dest bytes (0, ap Some (sym e))
+    | inr rest ↦ sent_carry qs (λ r i. all r (Has-rest r q qs i)) dest bytes rest
+  ]
 
   -- ---- all rows
 
-  datagram_reaches : (x : Result Datagram Bad) → ((d : Datagram) → x ≡ Ok d → Arrived c d) → ClientReaches m f c k (on_datagram s x)
-  datagram_reaches (Ok (datagrams.Reply p)) came = reply_reaches p (came (datagrams.Reply p) refl).sent
-  datagram_reaches _ came = still
+  row_reaches : (i : Given) → ((p : Reply) → Has (reply_of i) p → Has c.replies p) → (y : ClientState × List Out) → Row s i y
+      → ClientReaches m f c k y
+  row_reaches i came y Rests = still
+  row_reaches i came y (SaysBusy op is busy) = rests (Busy s.number ∷ []) refl refl (λ dest bytes h.
+      absurd (let same = Has-one (Send dest bytes) (Busy s.number) h in cc))
+  row_reaches i came y (Opens op waiting can from) = submits op waiting can
+  row_reaches i came y (Repeats is) =
+      let none = sent_none (open_requests s) in
+      rests (map sent (open_requests s)) none.0 none.1 (sent_carry (open_requests s) (λ q h. ((inv.clients k).opened q h).sent))
+  row_reaches i came y (Keeps p has e quorum) = keeps p (came p has) e
+  row_reaches i came y (Accepts p leaders has e quorum) = accepts_result p leaders (came p has) e quorum
 
-  tick_reaches : (tick : Tick) → ClientReaches m f c k (on_tick s tick)
-  tick_reaches ticks.Next = submit_waiting_reaches
-  tick_reaches ticks.Retry = retry_reaches
-  tick_reaches _ = still
+  reply_came : (x : Result Datagram Bad) → ((d : Datagram) → x ≡ Ok d → Arrived c d) → (p : Reply) → Has (reply_in x) p → Has c.replies p
+  reply_came (Ok (datagrams.Reply q)) came p h =
+      subst (λ (r : Reply). Has c.replies r) (sym (Has-one p q h)) (came (datagrams.Reply q) refl).sent
+  reply_came _ came p h = absurd (Has-none p h)
 
-  input_reaches : (i : Given) → MayCome c i → ClientReaches m f c k (next s i)
-  unfolding next
-  input_reaches (Packet bytes) came = datagram_reaches (reading bytes) came
-  input_reaches (Ticked tick) came = tick_reaches tick
-  input_reaches (Submit op) came = submit_reaches op
+  came_in : (i : Given) → MayCome c i → (p : Reply) → Has (reply_of i) p → Has c.replies p
+  came_in (Packet bytes) came p h = reply_came (reading bytes) came p h
+  came_in (Ticked tick) came p h = absurd (Has-none p h)
+  came_in (Submit op) came p h = absurd (Has-none p h)
 
 pub clients_reach : {S : Type 0} (m : Meaning S) → ClientsReach m
-clients_reach m f c k i inv came = input_reaches m f c k inv i came
+clients_reach m f c k i inv came =
+    row_reaches m f c k inv i (came_in m f c k inv i came) (next (c.clients k) i) (row_of (c.clients k) i)

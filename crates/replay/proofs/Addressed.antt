@@ -1,6 +1,6 @@
 -- What actors send goes to actors of the configuration, and what clients submit is theirs.
 use Rattle.std.proofs.Common.{◌≡◌, ◌≤◌, ◌<◌, ◌+◌, ℕ, Bool, true, false, Option, Some, None, refl, sym, ap, subst, arith}
-use Rattle.std.proofs.Common.{List, [], ◌∷◌, ◌++◌, inl, inr}
+use Rattle.std.proofs.Common.{List, [], ◌∷◌, ◌++◌, inl, inr, map}
 use Rattle.std.specs.Prelude.{⊤, nat_lt, nat_le, ◌==◌, ◌&&◌, ◌||◌, Result, Ok, slice_index}
 use Rattle.std.specs.Int.{w32, w64}
 use Rattle.std.specs.List.{AllByRecursion}
@@ -35,7 +35,9 @@ use Rattle.fragments.specs.Cutting.{sends_of}
 use Rattle.lemmas.proofs.Members.{Has-none, Has-cases}
 use Rattle.client_quorum.specs.declared.state.ClientState.{ClientState}
 use Rattle.client_quorum.specs.ClientSteps as client
-use Rattle.client_quorum.specs.KeptReplies.{quorum_of}
+use Rattle.client_quorum.specs.OpenRequests.{open_requests}
+use Rattle.client_quorum.specs.Rows.{Row, SaysBusy, Opens, Repeats, Accepts}
+use Rattle.client_quorum.proofs.RowLemmas.{row_of}
 use Rattle.sequencer.specs.declared.state.SequencerState.{SequencerState}
 use Rattle.sequencer.specs.SequencerSteps as sequencer
 use Rattle.session_control.specs.declared.state.ControllerState.{ControllerState}
@@ -229,45 +231,19 @@ module _ (c : Configuration) (s : ClientState) (own : s.number < c.clients) wher
   request_goes : (r : Request) → IsAddressed c Sequencers (spelling (datagrams.Request r))
   request_goes r = record { goes = tt; names = other_kind c kinds.REQUEST (request_bytes r) refl }
 
-  submit_goes : (b : Bool) (op : List ℕ) → OutsGo c (client.submit_if b s (client.request_of s op)).1
-  submit_goes true op = (own, (request_goes (client.request_of s op), tt))
-  submit_goes false op = (tt, tt)
+  retry_goes : (qs : List Request) → OutsGo c (map client.sent qs)
+  retry_goes [] = tt
+  retry_goes (q ∷ qs) = (request_goes q, retry_goes qs)
 
-  first_goes : (o : Option (List ℕ)) → OutsGo c (client.submit_first o s).1
-  first_goes None = tt
-  first_goes (Some op) = (own, (request_goes (client.request_of s op), tt))
-
-  waiting_goes : (b : Bool) → OutsGo c (client.submit_waiting_if b s).1
-  waiting_goes true = first_goes (client.first_of s.waiting)
-  waiting_goes false = tt
-
-  retry_goes : (o : Option Request) → OutsGo c (client.retry_of o)
-  retry_goes None = tt
-  retry_goes (Some r) = (request_goes r, tt)
-
-  tick_goes : (t : Tick) → OutsGo c (client.on_tick s t).1
-  tick_goes ticks.Next = waiting_goes (client.can_submit s)
-  tick_goes ticks.Retry = retry_goes s.pending
-  tick_goes _ = tt
-
-  accept_goes : (t : ClientState) (id : ℕ) (o : Option Reply) → OutsGo c (client.accept_if t id o).1
-  accept_goes t id None = tt
-  accept_goes t id (Some p) = (tt, tt)
-
-  reply_goes : (b : Bool) (p : Reply) → OutsGo c (client.reply_if b s p).1
-  reply_goes true p =
-      accept_goes (client.kept s p) p.id (quorum_of (client.kept s p).config.replicas (client.kept s p).replies p.view p.slot)
-  reply_goes false p = tt
-
-  answer_goes : (r : Result Datagram Bad) → OutsGo c (client.on_datagram s r).1
-  answer_goes (Ok (datagrams.Reply p)) = reply_goes (client.is_expected s p) p
-  answer_goes _ = tt
+  row_goes : (i : Given) (y : ClientState × List Out) → Row s i y → OutsGo c y.1
+  row_goes i y (Opens op waiting can from) = (own, (request_goes (client.request_of s op), tt))
+  row_goes i y (Repeats is) = retry_goes (open_requests s)
+  row_goes i y (Accepts p leaders has e quorum) = (tt, tt)
+  row_goes i y (SaysBusy op is busy) = (tt, tt)
+  row_goes i y _ = tt
 
   pub client_goes : (i : Given) → OutsGo c (client.next s i).1
-  unfolding client.next
-  client_goes (Packet bytes) = answer_goes (reading bytes)
-  client_goes (Ticked tick) = tick_goes tick
-  client_goes (Submit op) = submit_goes (client.can_submit s) op
+  client_goes i = row_goes i (client.next s i) (row_of s i)
 
 -- ---- controllers
 

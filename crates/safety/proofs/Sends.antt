@@ -1,5 +1,5 @@
 -- What an actor that is no replica sends is no fragment, and its lines are those of which the whole world speaks.
-use Rattle.std.proofs.Common.{◌≡◌, ℕ, ◌+◌, Bool, true, false, cond, List, [], ◌∷◌, Option, Some, None, refl, ap}
+use Rattle.std.proofs.Common.{◌≡◌, ℕ, ◌+◌, Bool, true, false, cond, List, [], ◌∷◌, Option, Some, None, map, refl, ap}
 use Rattle.std.specs.Prelude.{Result, Ok, Err, not, filter, ⊤}
 use Rattle.nop_types.specs.Given.{Given, Packet, Ticked, Submit}
 use Rattle.nop_types.specs.Lines.{Line}
@@ -20,7 +20,9 @@ use Rattle.oum_codec.specs.Fixed.{request_fields_at, request_in_range, stamped_f
 use Rattle.oum_codec.specs.Reading.{◌>>=◌, fields_of, sized, reading, request_of, stamped_of, reply_of, install_of, ping_of}
 use Rattle.oum_codec.specs.Spelling.{spelling, request_bytes, stamped_bytes, reply_bytes, install_bytes, ping_bytes}
 use Rattle.client_quorum.specs.ClientSteps as client
-use Rattle.client_quorum.specs.KeptReplies.{quorum_of}
+use Rattle.client_quorum.specs.OpenRequests.{open_requests}
+use Rattle.client_quorum.specs.Rows.{Row, Opens, Repeats}
+use Rattle.client_quorum.proofs.RowLemmas.{row_of}
 use Rattle.client_quorum.specs.declared.state.ClientState.{ClientState}
 use Rattle.sequencer.specs.SequencerSteps as sequencer
 use Rattle.sequencer.specs.declared.state.SequencerState.{SequencerState}
@@ -136,47 +138,17 @@ lines_spoken from n (outs.Trimmed first entries ∷ rest) = lines_spoken from n 
 
 -- ---- clients
 
-begun : (s : ClientState) (r : Request) → AreOther (client.begin s r).1
-begun s r = (request_is r, tt)
+retry_sends : (qs : List Request) → AreOther (map client.sent qs)
+retry_sends [] = tt
+retry_sends (q ∷ qs) = (request_is q, retry_sends qs)
 
-submits : (b : Bool) (s : ClientState) (r : Request) → AreOther (client.submit_if b s r).1
-submits true s r = begun s r
-submits false s r = tt
-
-first_sends : (o : Option (List ℕ)) (s : ClientState) → AreOther (client.submit_first o s).1
-first_sends None s = tt
-first_sends (Some op) s = (request_is _, tt)
-
-waiting_sends : (b : Bool) (s : ClientState) → AreOther (client.submit_waiting_if b s).1
-waiting_sends true s = first_sends (client.first_of s.waiting) s
-waiting_sends false s = tt
-
-accept_sends : (s : ClientState) (id : ℕ) (o : Option Reply) → AreOther (client.accept_if s id o).1
-accept_sends s id None = tt
-accept_sends s id (Some p) = tt
-
-reply_sends : (b : Bool) (s : ClientState) (p : Reply) → AreOther (client.reply_if b s p).1
-reply_sends true s p = accept_sends (client.kept s p) p.id (quorum_of s.config.replicas (client.kept s p).replies p.view p.slot)
-reply_sends false s p = tt
-
-retry_sends : (o : Option Request) → AreOther (client.retry_of o)
-retry_sends None = tt
-retry_sends (Some r) = (request_is r, tt)
-
-client_reads : (s : ClientState) (r : Result Datagram Bad) → AreOther (client.on_datagram s r).1
-client_reads s (Ok (datagrams.Reply p)) = reply_sends (client.is_expected s p) s p
-client_reads s _ = tt
-
-client_ticks : (s : ClientState) (tick : Tick) → AreOther (client.on_tick s tick).1
-client_ticks s ticks.Next = waiting_sends (client.can_submit s) s
-client_ticks s ticks.Retry = retry_sends s.pending
-client_ticks s _ = tt
+row_sends : (s : ClientState) (i : Given) (y : ClientState × List Out) → Row s i y → AreOther y.1
+row_sends s i y (Opens op waiting can from) = (request_is _, tt)
+row_sends s i y (Repeats is) = retry_sends (open_requests s)
+row_sends s i y _ = tt
 
 client_sends : (s : ClientState) (i : Given) → AreOther (client.next s i).1
-unfolding client.next
-client_sends s (Packet bytes) = client_reads s (reading bytes)
-client_sends s (Ticked tick) = client_ticks s tick
-client_sends s (Submit op) = submits (client.can_submit s) s (client.request_of s op)
+client_sends s i = row_sends s i (client.next s i) (row_of s i)
 
 -- ---- sequencers
 
