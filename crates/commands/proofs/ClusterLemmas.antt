@@ -1,7 +1,7 @@
 -- How a cluster in one process ends.
-use Rattle.std.proofs.Common.{arith, ◌≡◌, ℕ, List, Bool, true, Option, Some, None, Result, Ok, refl, subst, inl, inr}
+use Rattle.std.proofs.Common.{arith, ◌≡◌, ℕ, List, Bool, true, Option, Some, Result, Ok, refl, subst, inl, inr}
 use Rattle.command_line.specs.declared.command.Command.{Command}
-use Rattle.command_line.specs.declared.command.Command.TheVariants.{Replay, Gen, Node, Sequencer, Controller, Client, Cluster, Check}
+use Rattle.command_line.specs.declared.command.Command.TheVariants.{Cluster}
 use Rattle.command_line.specs.declared.command.Site.{Site}
 use Rattle.nop_types.specs.Meaning.{Meaning}
 use Rattle.one_box.specs.declared.boxed.Boxed.{Boxed}

@@ -7,8 +7,7 @@ use Rattle.replay.specs.Generated.{drawn_summary}
 use Rattle.replay.specs.Outcome.{IsDone, IsMalformed, IsInterrupted, WroteFront}
 use Rattle.commands.specs.Words.{usage_line}
 use Rattle.commands.specs.declared.status.Status.{Status}
-use Rattle.commands.specs.declared.status.Status.TheVariants.{Done, Malformed, Usage, ReadFault, WriteFault, LinkFault, NoMemory}
-use Rattle.commands.specs.declared.status.Status.TheVariants.{Unanswered, Refuted}
+use Rattle.commands.specs.declared.status.Status.TheVariants.{Done, Malformed, Usage, ReadFault, WriteFault, NoMemory}
 
 module _ {S : Type 0} (m : Meaning S) where
   -- some line is bad

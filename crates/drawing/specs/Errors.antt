@@ -1,5 +1,5 @@
 -- What the errors of the parts become.
-use Rattle.std.specs.Prelude.{ℕ, ⊤, List, ◌++◌, None, Some, Result, Ok, Err, codes, decimal}
+use Rattle.std.specs.Prelude.{ℕ, ⊤, List, ◌++◌, None, Some, codes, decimal}
 use Rattle.outside.specs.declared.errors.DeviceError.{DeviceError}
 use Rattle.outside.specs.declared.errors.DeviceError.TheVariants as devices
 use Rattle.schedule_text.specs.declared.next_error.NextError.{NextError}

@@ -5,7 +5,7 @@ use Rattle.nop_types.specs.declared.request.Entry.{Entry}
 use Rattle.nop_types.specs.declared.request.Entry.TheVariants.{Req}
 use Rattle.nop_types.specs.Meaning.{Meaning}
 use Rattle.nop_types.specs.Lists.{Has, slot_of}
-use Rattle.nop_types.specs.Lines.{Line, Dead, Submit, Accept, Busy, Send}
+use Rattle.nop_types.specs.Lines.{Line, Submit, Accept}
 use Rattle.nop_types.specs.Execution.{result_at}
 use Rattle.nop_types.specs.Legality.{IsOf, IsSubmittedBefore, AcceptedOnce}
 

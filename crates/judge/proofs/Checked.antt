@@ -21,7 +21,7 @@ use Rattle.transcript_reader.specs.declared.check_error.CheckError.{CheckError}
 use Rattle.transcript_reader.specs.declared.check_error.CheckError.TheVariants as errors
 use Rattle.transcript_rows.specs.Rows.{row_text}
 use Rattle.transcript_rows.specs.declared.row.Row.{Row}
-use Rattle.transcript_rows.specs.declared.row.Row.TheVariants.{Dead, Submit, Accept, Busy, Sent, State, Slot, Member, End}
+use Rattle.transcript_rows.specs.declared.row.Row.TheVariants.{Dead, End}
 
 -- ---- counts
 

@@ -5,7 +5,7 @@ use Rattle.judge.specs.declared.broken.Broken.{Broken}
 use Rattle.judge.specs.declared.broken.Broken.TheVariants as broken
 use Rattle.judge.specs.declared.tally.Tally.{Tally}
 use Rattle.nop_types.specs.Legality.{Legal}
-use Rattle.nop_types.specs.Lines.{Line, Dead, Submit, Accept, Busy, Send}
+use Rattle.nop_types.specs.Lines.{Line, Submit, Accept}
 use Rattle.nop_types.specs.Meaning.{Meaning}
 use Rattle.nop_types.specs.declared.request.Request.{Request}
 use Rattle.transcript_reader.specs.Reading.{Went, IsInterrupted, IsRefused}

@@ -1,6 +1,6 @@
 -- Lines as text, and how many of them are sends and accepts.
 use Rattle.std.specs.Prelude.{◌≡◌, ◌+◌, ◌++◌, List, count_by, Bool, true, false}
-use Rattle.nop_types.specs.Lines.{Line, Dead, Submit, Accept, Busy, Send}
+use Rattle.nop_types.specs.Lines.{Line, Accept, Send}
 use Rattle.transcript_text.specs.Transcript.{lines_text}
 use Rattle.network.specs.declared.lines.Lines.{Lines}
 use Rattle.network.specs.declared.lines.Tally.{Tally}

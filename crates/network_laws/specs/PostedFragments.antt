@@ -1,5 +1,5 @@
 -- The fragments among what a replica posts.
-use Rattle.std.specs.Prelude.{◌≡◌, ℕ, ◌+◌, List, [], ◌∷◌, ◌++◌, map, Result, Ok, Err}
+use Rattle.std.specs.Prelude.{◌≡◌, ℕ, ◌+◌, List, [], ◌∷◌, ◌++◌, map, Result, Ok}
 use Rattle.std.specs.List.{range_with_len}
 use Rattle.nop_types.specs.declared.datagram.Fragment.{Fragment}
 use Rattle.nop_types.specs.declared.datagram.Datagram.{Datagram}

@@ -2,7 +2,7 @@
 use Rattle.std.specs.Prelude.{◌≡◌, ℕ, ◌<◌, ◌≤◌, List, [], ◌∷◌, ⊤}
 use Rattle.nop_types.specs.declared.output.Actor.TheVariants as actors
 use Rattle.nop_types.specs.declared.output.Dest.{Dest}
-use Rattle.nop_types.specs.declared.output.Dest.TheVariants.{Replicas, Sequencers, One}
+use Rattle.nop_types.specs.declared.output.Dest.TheVariants.{Replicas, One}
 use Rattle.nop_types.specs.declared.peer.Peer.{Peer}
 use Rattle.replica_state.specs.declared.sending.Sending.{Sending}
 use Rattle.replica_state.specs.declared.sending.Sending.TheVariants.{ToClient, ToReplicas, Trims}

@@ -1,7 +1,6 @@
 -- The parts of messages are told by their bytes: a fragment's kind and count stand where `IsPart` reads them.
-use Rattle.std.proofs.Common.{◌≡◌, ◌≢◌, ◌↔◌, ℕ, ◌+◌, ◌<◌, ◌≤◌, ◌^◌, List, [], ◌∷◌, ◌++◌, length, take, drop, Some, refl, sym, ap, subst, ◌∙◌, arith}
-use Rattle.std.specs.Int.{w16, w64, from_be_bytes}
-use Rattle.std.proofs.lemmas.List.{length-append}
+use Rattle.std.proofs.Common.{◌≡◌, ◌≢◌, ◌↔◌, ℕ, ◌<◌, ◌≤◌, ◌^◌, [], ◌∷◌, length, take, drop, refl, sym, ap, ◌∙◌, arith}
+use Rattle.std.specs.Int.{w16, from_be_bytes}
 use Rattle.nop_types.specs.Parts.{IsPart}
 use Rattle.nop_types.specs.Ranges.{DatagramFits, FragmentFits}
 use Rattle.nop_types.specs.declared.datagram.Datagram.{Datagram}
@@ -9,7 +8,7 @@ use Rattle.nop_types.specs.declared.datagram.Datagram.TheVariants as datagrams
 use Rattle.nop_types.specs.declared.datagram.Fragment.{Fragment}
 use Rattle.oum_codec.specs.Numbers.{be_bytes}
 use Rattle.oum_codec.specs.Spelling.{IsPartOfSeveral, spelling}
-use Rattle.oum_codec.proofs.Numbers.{wide16, wide64}
+use Rattle.oum_codec.proofs.Numbers.{wide16}
 
 -- where the count stands
 count_here : (f : Fragment) → take 2 (drop 15 (spelling (datagrams.Fragment f))) ≡ be_bytes w16 f.count

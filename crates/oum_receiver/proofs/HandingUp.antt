@@ -5,7 +5,7 @@ use Rattle.nop_types.specs.declared.request.Request.{Request}
 use Rattle.nop_types.specs.declared.datagram.Stamped.{Stamped}
 use Rattle.nop_types.specs.Lists.{Has}
 use Rattle.oum_receiver.specs.declared.verdict.Verdict.{Verdict}
-use Rattle.oum_receiver.specs.declared.verdict.Verdict.TheVariants.{Queued, Old, Terminated, Full}
+use Rattle.oum_receiver.specs.declared.verdict.Verdict.TheVariants.{Queued}
 use Rattle.oum_receiver.specs.Front.{Front, Nothing, Message, Dropped}
 use Rattle.oum_receiver.specs.Receiving.{Receiving, opened, verdict_of, judged, offered, front_of, front_taken, advanced}
 use Rattle.nop_types.specs.Stamps.{WasStamped}

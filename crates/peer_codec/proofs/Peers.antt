@@ -6,8 +6,7 @@ use Rattle.std.proofs.lemmas.List.{append-nil, nil_from_length}
 use Rattle.nop_types.specs.Ranges.{PeerFits}
 use Rattle.nop_types.specs.declared.peer.Peer.{Peer}
 use Rattle.nop_types.specs.declared.peer.Body.{Body}
-use Rattle.nop_types.specs.declared.peer.Body.TheVariants.{SlotLookup, Found, GapCommit, GapRep, ViewChangeReq, ViewChange, StartView}
-use Rattle.nop_types.specs.declared.peer.Body.TheVariants.{SyncPrepare, SyncRep, SyncCommit}
+use Rattle.nop_types.specs.declared.peer.Body.TheVariants.{SlotLookup}
 use Rattle.oum_codec.specs.Numbers.{IsBytes}
 use Rattle.oum_codec.specs.Spelling.{view_bytes}
 use Rattle.oum_codec.proofs.Steps.{bind_ok, ok_is, passed_ok}

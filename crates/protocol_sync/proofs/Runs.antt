@@ -23,8 +23,8 @@ use Rattle.protocol.specs.Moves as moves
 use Rattle.protocol.specs.Moves.{say, say_all, waiting, logged, appended, entered, enter_as}
 use Rattle.protocol.specs.Replies.{reply_to}
 use Rattle.protocol.specs.Runs.{Act, Queue, TakeFront, Fill, OpenGap, CountGapVote, WriteGap, AddGap, Enter, KeepChange, OpenView, Adopt}
-use Rattle.protocol.specs.Runs.{Say, Overlay, Obey, OpenSync, CountSyncVote, RepeatCommit, Move, Acts, MoveTo, Installed, Install, Stamp}
-use Rattle.protocol.specs.Runs.{Submit, Keep, Accept, Tell, happens, May, run, MayAll}
+use Rattle.protocol.specs.Runs.{Say, Overlay, Obey, OpenSync, CountSyncVote, RepeatCommit, Move, Acts}
+use Rattle.protocol.specs.Runs.{happens, May, run, MayAll}
 use Rattle.protocol.specs.Said.{Said, Word, Plain, Found, GapCommit, GapRep, ViewChange, StartView, SyncPrepare, SyncRep, SyncCommit, says}
 use Rattle.protocol_sync.specs.Synced.{GoodSync, Sync}
 use Rattle.protocol.specs.Truth.{Begun, MayRepeat}

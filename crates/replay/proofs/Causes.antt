@@ -1,5 +1,5 @@
 -- An error of a device is told only where a count of faults rose.
-use Rattle.std.proofs.Common.{◌≡◌, ℕ, ◌≤◌, Option, List, [], ◌++◌, refl, subst, ap, ◌∙◌, arith, inl, inr}
+use Rattle.std.proofs.Common.{◌≡◌, ℕ, Option, List, [], ◌++◌, refl, subst, ap, ◌∙◌, inl, inr}
 use Rattle.std.specs.Prelude.{Result, Ok, Err, IsErrOf}
 use Rattle.outside.specs.Causes.{CountsFor, next_count}
 use Rattle.schedule_text.specs.declared.next_error.NextError.{NextError}

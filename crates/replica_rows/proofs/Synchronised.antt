@@ -34,7 +34,7 @@ use Rattle.log_merge.proofs.WholeLogs.{kept_is_plain, merged_point}
 use Rattle.oum_receiver.specs.Front.{Front, Nothing, Message, Dropped}
 use Rattle.oum_receiver.specs.Receiving.{front_of}
 use Rattle.replica_log.proofs.Adopted.{adopted_near, adopted_point, overlaid_point, length-spliced}
-use Rattle.slot_lookup.specs.Answer.{Answer, Below, Found, GapAgain, Begin, answer_of}
+use Rattle.slot_lookup.specs.Answer.{Answer, Found, Begin, answer_of}
 use Rattle.slot_lookup.specs.Answer as answers
 use Rattle.view_change.specs.Gathering.{Gathering, teller, counted, has_sender}
 use Rattle.replica_state.specs.declared.state.ReplicaState.{ReplicaState}

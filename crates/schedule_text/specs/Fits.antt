@@ -2,7 +2,7 @@
 use Rattle.std.specs.Prelude.{◌≤◌, ⊤, length, List, [], ◌∷◌}
 use Rattle.nop_types.specs.declared.limits.TheConstants.{MAX_OP_BYTES}
 use Rattle.schedule_text.specs.declared.event.Event.{Event}
-use Rattle.schedule_text.specs.declared.event.Event.TheVariants.{Submit, Deliver, Tick, Install, Crash, Junk}
+use Rattle.schedule_text.specs.declared.event.Event.TheVariants.{Submit}
 
 -- an op that is submitted has at most 640 bytes
 abbrev pub EventFits : Event → Type 0

@@ -1,6 +1,6 @@
 -- No session and number is stamped twice.
 use Rattle.std.proofs.Common.{◌≡◌, ◌≤◌, ◌+◌, ℕ, zero, suc, List, [], ◌∷◌, ◌++◌, refl, ap, sym, subst, ◌∙◌, Some, None, Bool, true, false}
-use Rattle.std.proofs.Common.{cond, Result, Ok, Err, arith}
+use Rattle.std.proofs.Common.{cond, Result, Ok, arith}
 use Rattle.std.specs.Prelude.{slice_get, nat_lt, ◌==◌}
 use Rattle.std.proofs.lemmas.Option.{none-some, same_Some}
 use Rattle.nop_types.specs.Given.{Given, Packet, Ticked, Submit}

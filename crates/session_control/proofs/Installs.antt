@@ -1,6 +1,6 @@
 -- Each Install that is sent is of the last move.
 use Rattle.std.proofs.Common.{◌≡◌, ◌≤◌, ◌<◌, ◌+◌, ℕ, zero, suc, List, [], ◌∷◌, ◌++◌, refl, ap, sym, subst, ◌∙◌, Option, Some, None}
-use Rattle.std.proofs.Common.{Bool, true, false, Result, Ok, Err, IsTrue, arith}
+use Rattle.std.proofs.Common.{Bool, true, false, Result, Ok, IsTrue, arith}
 use Rattle.std.specs.Prelude.{◌==◌, nat_lt, nat_le}
 use Rattle.std.proofs.lemmas.Option.{none-some}
 use Rattle.std.proofs.lemmas.Grind.{common_steps}

@@ -1,6 +1,6 @@
 -- The sessions of the moves rise and are the controller's own, and the last move is what the state has.
 use Rattle.std.proofs.Common.{◌≡◌, ◌≢◌, ◌≤◌, ◌<◌, ◌+◌, ℕ, zero, suc, List, [], ◌∷◌, ◌++◌, refl, ap, sym, subst, ◌∙◌, Option, Some, None}
-use Rattle.std.proofs.Common.{Bool, true, false, cond, Result, Ok, Err, arith}
+use Rattle.std.proofs.Common.{Bool, true, false, cond, Result, Ok, arith}
 use Rattle.std.specs.Prelude.{◌==◌, slice_get, nat_lt, nat_le}
 use Rattle.std.proofs.lemmas.Option.{none-some, same_Some}
 use Rattle.nop_types.specs.Configuration.{Configuration}

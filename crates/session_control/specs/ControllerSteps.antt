@@ -1,5 +1,5 @@
 -- The step table of the controller.
-use Rattle.std.specs.Prelude.{◌≡◌, ℕ, ◌+◌, ◌*◌, ◌-◌, ◌^◌, ◌%◌, ◌<◌, List, [], ◌∷◌, Bool, true, false, Result, Ok, Err, IsTrue, nat_lt}
+use Rattle.std.specs.Prelude.{◌≡◌, ℕ, ◌+◌, ◌*◌, ◌-◌, ◌^◌, ◌%◌, ◌<◌, List, [], ◌∷◌, Bool, true, false, Result, Ok, IsTrue, nat_lt}
 use Rattle.std.specs.Prelude.{nat_le, ◌==◌, ◌&&◌, Option, Some, None, cond, max}
 use Rattle.nop_types.specs.Configuration.{Configuration, is_configuration}
 use Rattle.nop_types.specs.Ranges.{SessionFits}

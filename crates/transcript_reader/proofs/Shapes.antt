@@ -13,7 +13,7 @@ use Rattle.transcript_reader.specs.Transcripts.{is_event, is_state, members, sai
 use Rattle.transcript_reader.specs.declared.part.Part.{Part}
 use Rattle.transcript_reader.specs.declared.part.Part.TheVariants.{Events, States, Members, Over}
 use Rattle.transcript_rows.specs.declared.row.Row.{Row}
-use Rattle.transcript_rows.specs.declared.row.Row.TheVariants.{Dead, Submit, Accept, Busy, Sent, State, Slot, Member, End}
+use Rattle.transcript_rows.specs.declared.row.Row.TheVariants.{State, Slot, Member, End}
 
 abbrev pub ending : Part → List Row
 ending Events = []

@@ -9,7 +9,7 @@ use Rattle.transcript_reader.specs.declared.part.Part.{Part}
 use Rattle.transcript_reader.specs.declared.part.Part.TheVariants.{Events, States, Members, Over}
 use Rattle.transcript_reader.specs.declared.taken.Taken.{Taken}
 use Rattle.transcript_rows.specs.declared.row.Row.{Row}
-use Rattle.transcript_rows.specs.declared.row.Row.TheVariants.{Dead, Submit, Accept, Busy, Sent, State, Slot, Member, End}
+use Rattle.transcript_rows.specs.declared.row.Row.TheVariants.{State, Slot, Member, End}
 
 pub record SoFar : Type 0 where
   pub part : Part

@@ -15,7 +15,7 @@ use Rattle.outside.specs.declared.errors.DeviceError.{DeviceError}
 use Rattle.udp_node.specs.declared.address.Address.{Address}
 use Rattle.udp_node.specs.declared.firing.Timer.{Timer}
 use Rattle.outside.specs.declared.link.PollAnswer.{PollAnswer}
-use Rattle.outside.specs.declared.link.PollAnswer.TheVariants.{Received, Nothing, Failure}
+use Rattle.outside.specs.declared.link.PollAnswer.TheVariants.{Received}
 use Rattle.udp_node.specs.NodeRun.{first_inputs}
 use Rattle.udp_node.specs.Effects.{effects, lines, Done, Stops}
 use Rattle.udp_node.specs.Folding.{folded, Ran, AllOutside, TookSome}

@@ -1,5 +1,5 @@
 -- Parts are sent one by one.
-use Rattle.std.proofs.Common.{◌≡◌, ◌⊎◌, ℕ, ◌+◌, ◌-◌, ◌<◌, ◌≤◌, min, Bool, true, false, List, [], length, drop, refl, sym, ap, ◌∙◌, add_assoc, arith, inl, inr}
+use Rattle.std.proofs.Common.{◌≡◌, ◌⊎◌, ℕ, ◌+◌, ◌-◌, ◌<◌, ◌≤◌, Bool, true, false, List, [], length, drop, refl, sym, ap, ◌∙◌, arith, inl, inr}
 use Rattle.std.specs.Prelude.{◌&&◌, ◌==◌, map, nat_lt, None, Some, Option, slice_get}
 use Rattle.std.specs.List.{All, list_all}
 use Rattle.std.proofs.Math.Nat.{add-zero}
@@ -10,7 +10,7 @@ use Rattle.std.proofs.lemmas.List.Sums.{list_all-from_AllPass}
 use Rattle.udp_ports.specs.declared.backlog.Waiting.{Waiting}
 use Rattle.udp_ports.specs.declared.flow.TheConstants.{MOST_AT_ONCE}
 use Rattle.udp_ports.proofs.EachDone.{none_changes}
-use Rattle.udp_ports.specs.Sending.{Outgoing, in_turn, release_count, released, resting, sent, turn_begun}
+use Rattle.udp_ports.specs.Sending.{Outgoing, in_turn, release_count, released, resting, sent}
 
 -- i parts were sent in this turn, some of them in vain
 pub record IsReleasing (first now : Outgoing) (i lost : ℕ) : Type 0 where

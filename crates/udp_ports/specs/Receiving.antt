@@ -1,5 +1,5 @@
 -- The parts that came, and the acknowledgements that are owed for them.
-use Rattle.std.specs.Prelude.{ℕ, ◌+◌, ◌-◌, ◌/◌, ◌%◌, ◌^◌, ◌&&◌, min, max, nat_le, nat_lt, Bool, if◌then◌else◌, List, map, slice_index_or, slice_set}
+use Rattle.std.specs.Prelude.{ℕ, ◌+◌, ◌-◌, ◌/◌, ◌%◌, ◌^◌, ◌&&◌, min, max, nat_le, nat_lt, Bool, if◌then◌else◌, map, slice_index_or, slice_set}
 use Rattle.std.specs.Prelude.{count_by, Option, Some, None}
 use Rattle.udp_ports.specs.declared.acks.Ack.{Ack}
 use Rattle.udp_ports.specs.declared.flow.TheConstants.{FIRST_WINDOW, MOST_IN_FLIGHT}
