@@ -11,8 +11,11 @@ use Rattle.transcript_text.specs.Transcript.{actor_text}
 -- the fields of its line without an op and without malformed bytes
 abbrev pub shown_fields : Event → List (List ℕ)
 shown_fields (events.Submit client op) = actor_text (actors.Client client) ∷ []
+shown_fields (events.Deliver index actor) = event_fields (events.Deliver index actor)
+shown_fields (events.Tick actor tick) = event_fields (events.Tick actor tick)
+shown_fields (events.Install controller sequencer) = event_fields (events.Install controller sequencer)
+shown_fields (events.Crash actor) = event_fields (events.Crash actor)
 shown_fields (events.Junk actor bytes) = actor_text actor ∷ []
-shown_fields x = event_fields x
 
 abbrev pub shown_text : Event → List ℕ
 shown_text e = event_word e ++ flat_map after_space (shown_fields e)
