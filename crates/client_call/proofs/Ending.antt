@@ -35,7 +35,7 @@ outs_are s [] = refl
 outs_are s (x ∷ xs) = ap (λ os. (next s x).1 ++ os) (outs_are (next s x).0 xs)
 
 module _ (at : Address) (number : ℕ) (op : List ℕ) (t : ClientState) (h i : Option (List ℕ))
-    (took : TookSome next at (caller at.config number op) t h i) where
+    (took : TookSome next at [] (caller at.config number op) t h i) where
   abbrev start : ClientState
   start = caller at.config number op
 

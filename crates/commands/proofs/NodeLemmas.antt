@@ -39,7 +39,7 @@ last_is r turns lost works same =
 module _ {S : Type 0} (k : NodeTask S) (losses losses_now : ℕ) (served : Served) (last : S) (h i j : Option (List ℕ))
     (most : served.turns ≤ k.turns) (spent : served.done ≡ false → served.turns ≡ k.turns)
     (counted : min (losses + served.lost) last_count ≤ losses_now) (told : served.done ≡ k.is_done last)
-    (took : TookSome k.next k.at k.opening last h i) (wrote : Appends i j (served_line served.turns served.lost)) where
+    (took : TookSome k.next k.at k.first k.opening last h i) (wrote : Appends i j (served_line served.turns served.lost)) where
   last_line : (s : Status) → s ≡ end_status k.waits served.done → (s ≡ statuses.Unanswered → served.turns ≡ k.turns)
       → LastLine k losses losses_now s h j
   last_line s is all = record {
@@ -51,7 +51,7 @@ module _ {S : Type 0} (k : NodeTask S) (losses losses_now : ℕ) (served : Serve
     all = all;
     counted = counted;
     ends = is ∙ ap (end_status k.waits) (told ∙ ap k.is_done took.state);
-    line = Appends-trans h i j (lines (effects k.at (folded k.next k.opening took.inputs).1)) (served_line served.turns served.lost)
+    line = Appends-trans h i j (lines (effects k.at (folded k.next k.opening (k.first ++ took.inputs)).1)) (served_line served.turns served.lost)
         took.written wrote;
   }
 

@@ -122,8 +122,8 @@ RunTold k (Some answers) (Some values) s a b h i = RunEnds k.waits (run_of k ans
 
 -- ---- the last line over any link and clock
 
--- The core took some packets and ticks, the lines of what it gave were written, and then the last line. That says no more turns than
--- there were, and all of them where a client is unanswered, and no more losses than the link counted in the run, unless its count
+-- The core took the first inputs and then some packets and ticks, the lines of what it gave were written, and then the last line. That
+-- says no more turns than there were, and all of them where a client is unanswered, and no more losses than the link counted in the run, unless its count
 -- stands at the end of 64 bits. The status tells whether the core is done.
 pub record LastLine {S : Type 0} (k : NodeTask S) (losses losses_now : ℕ) (s : Status) (h i : Option (List ℕ)) : Type 0 where
   pub inputs : List Given
@@ -133,8 +133,8 @@ pub record LastLine {S : Type 0} (k : NodeTask S) (losses losses_now : ℕ) (s :
   pub most : taken ≤ k.turns
   pub all : s ≡ statuses.Unanswered → taken ≡ k.turns
   pub counted : min (losses + lost) last_count ≤ losses_now
-  pub ends : s ≡ end_status k.waits (k.is_done (folded k.next k.opening inputs).0)
-  pub line : Appends h i (lines (effects k.at (folded k.next k.opening inputs).1) ++ served_line taken lost)
+  pub ends : s ≡ end_status k.waits (k.is_done (folded k.next k.opening (k.first ++ inputs)).0)
+  pub line : Appends h i (lines (effects k.at (folded k.next k.opening (k.first ++ inputs)).1) ++ served_line taken lost)
 
 -- by its status
 abbrev pub EndsInLine : {S : Type 0} → NodeTask S → ℕ → ℕ → Status → Option (List ℕ) → Option (List ℕ) → Type 0

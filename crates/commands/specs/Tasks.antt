@@ -8,7 +8,7 @@ use Rattle.command_line.specs.declared.command.Command.{Command}
 use Rattle.command_line.specs.declared.command.Command.TheVariants.{Gen, Node, Sequencer, Controller, Client}
 use Rattle.command_line.specs.declared.command.Site.{Site}
 use Rattle.nop_types.specs.Meaning.{Meaning}
-use Rattle.nop_types.specs.declared.input.Tick.{Tick}
+use Rattle.nop_types.specs.Given.{Given, Ticked}
 use Rattle.nop_types.specs.declared.input.Tick.TheVariants.{Install}
 use Rattle.nop_types.specs.declared.output.Actor.{Actor}
 use Rattle.nop_types.specs.declared.output.Actor.TheVariants as actors
@@ -43,15 +43,15 @@ sequencer_task id site =
     task_of sequencer.next never_done [] (sequencer.opening id)
     (address_of site (actors.Sequencer id)) (first_inputs None) site.turns false
 
-abbrev pub install_tick : Option ℕ → Option Tick
-install_tick None = None
-install_tick (Some j) = Some (Install j)
+abbrev pub install_order : Option ℕ → Option Given
+install_order None = None
+install_order (Some j) = Some (Ticked (Install j))
 
--- the install order is a tick before the first turn
+-- the install order comes before the first turn
 abbrev pub controller_task : Site → ℕ → Option ℕ → NodeTask ControllerState
 controller_task site number install =
     task_of controller.next never_done controller.timers (controller.opening site.config number)
-    (address_of site (actors.Controller number)) (first_inputs (install_tick install)) site.turns false
+    (address_of site (actors.Controller number)) (first_inputs (install_order install)) site.turns false
 
 -- the client waits until its ops are accepted
 abbrev pub client_task : ℕ → Site → List (List ℕ) → NodeTask ClientState

@@ -1,6 +1,7 @@
 //! A run of a core over the ports, and its last line.
 
-ghost use Rattle.std.specs.Prelude.{◌≡◌, ◌≤◌, ◌++◌, decimal, length, OnOk};
+ghost use Rattle.std.specs.Prelude.{◌≡◌, ◌≤◌, ◌++◌, decimal, length, option_map, OnOk};
+ghost use Rattle.nop_types.specs.Given.{given};
 ghost use Rattle.outside.specs.Causes.{CountsFor, CountsWhere};
 ghost use Rattle.udp_node.specs.Effects.{Writes};
 ghost use Rattle.udp_node.specs.NodeRun.{first_inputs};
@@ -9,15 +10,15 @@ ghost use Rattle.commands.specs.Nodes.{served_line, end_status, task_of, EndsInL
 ghost use Rattle.outside.specs.declared.errors.DeviceError.TheVariants as devices;
 
 use crate::status::Status;
-use nop_types::{Core, NoMemory, Tick};
+use nop_types::{Core, Input, NoMemory};
 use outside::{AttachError, Clock, Link, Ports, Sink, WriteError, write_all};
 use std::alloc::Global;
 use udp_node::{Address, ServeError, Served, serve};
 
-/// What a node runs: the tick before its first turn, the most turns, and whether it waits for its core to be done.
+/// What a node runs: the input before its first turn, the most turns, and whether it waits for its core to be done.
 #[derive(Clone, Copy)]
-pub(crate) struct Task {
-    pub(crate) first: Option<Tick>,
+pub(crate) struct Task<'a> {
+    pub(crate) first: Option<Input<'a>>,
     pub(crate) turns: u64,
     pub(crate) waits: bool,
 }
@@ -77,20 +78,20 @@ fn run_link<C: Core, L: Link, T: Clock, K: Sink>(
     alloc: Global,
     core: &mut C,
     at: &Address,
-    task: &Task,
+    task: &Task<'_>,
     link: &mut L,
     clock: &mut T,
     sink: &mut K,
 ) -> Status
     requires timers { length C.timers ≤ 255 }
     ensures run { RunTold (task_of C.next C.is_done C.timers (C.state core.old) at.now
-        (first_inputs task.now.first) task.now.turns task.now.waits)
+        (first_inputs (option_map given task.now.first)) task.now.turns task.now.waits)
         (L.answers link.old) (T.values clock.old) result
         (side (L.trace link.old) 0 (L.loss_count link.old))
         (side (L.trace link.new) 0 (L.loss_count link.new)) (K.held sink.old) (K.held sink.new) }
     ensures status { IsNodeStatus task.now.waits result }
     ensures last { EndsInLine (task_of C.next C.is_done C.timers (C.state core.old) at.now
-        (first_inputs task.now.first) task.now.turns task.now.waits)
+        (first_inputs (option_map given task.now.first)) task.now.turns task.now.waits)
         (L.loss_count link.old) (L.loss_count link.new) result
         (K.held sink.old) (K.held sink.new) }
     ensures port { L.own_port link.new ≡ L.own_port link.old }
@@ -119,7 +120,7 @@ pub(crate) fn run_core<C: Core, P: Ports, T: Clock, K: Sink>(
     alloc: Global,
     core: &mut C,
     at: &Address,
-    task: &Task,
+    task: &Task<'_>,
     ports: &mut P,
     clock: &mut T,
     sink: &mut K,
@@ -127,7 +128,7 @@ pub(crate) fn run_core<C: Core, P: Ports, T: Clock, K: Sink>(
     requires timers { length C.timers ≤ 255 }
     ensures { NodeEndsOver P.L.Link P.Ports T.Clock K.Sink
         (task_of C.next C.is_done C.timers (C.state core.old) at.now
-        (first_inputs task.now.first) task.now.turns task.now.waits)
+        (first_inputs (option_map given task.now.first)) task.now.turns task.now.waits)
         ports.old ports.new clock.old sink.old sink.new result }
 {
     match ports.attach(at.port_of(at.own)) {

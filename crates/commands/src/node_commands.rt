@@ -1,15 +1,16 @@
 //! The commands that run a node.
 
-ghost use Rattle.std.specs.Prelude.{◌≡◌, ◌<◌, false, true};
+ghost use Rattle.std.specs.Prelude.{◌≡◌, ◌<◌, false, option_map, true};
+ghost use Rattle.nop_types.specs.Given.{given};
 ghost use Rattle.nop_types.specs.declared.limits.TheConstants.{MAX_SEQUENCERS, MAX_CONTROLLERS};
 ghost use Rattle.commands.specs.Nodes.{NodeEndsOver};
-ghost use Rattle.commands.specs.Tasks.{install_tick, replica_task, sequencer_task, controller_task, client_task};
+ghost use Rattle.commands.specs.Tasks.{install_order, replica_task, sequencer_task, controller_task, client_task};
 
 use crate::node::{Task, run_core};
 use crate::status::Status;
 use client_quorum::Client;
 use command_line::{Ops, Site};
-use nop_types::{Actor, Host, NoMemory, Tick};
+use nop_types::{Actor, Host, Input, NoMemory, Tick};
 use outside::{Clock, Ports, Sink};
 use replica_core::Replica;
 use sequencer::Sequencer;
@@ -29,8 +30,8 @@ fn address(site: &Site, own: Actor) -> Address
 }
 
 /// What a node runs that ends with its turns.
-fn endless(site: &Site, first: Option<Tick>) -> Task
-    ensures { result ≡ record { first = first; turns = site.now.turns; waits = false } }
+fn endless<'a>(site: &Site, first: Option<Input<'a>>) -> Task<'a>
+    ensures { result ≡ record { first = first.entry; turns = site.now.turns; waits = false } }
 {
     Task {
         first,
@@ -87,12 +88,12 @@ pub(crate) fn run_sequencer<P: Ports, T: Clock, K: Sink>(
     }
 }
 
-/// The tick that installs a sequencer.
-fn install(j: Option<u8>) -> Option<Tick>
-    ensures { result ≡ install_tick j }
+/// The order to install a sequencer.
+fn install(j: Option<u8>) -> Option<Input<'static>>
+    ensures { option_map given result ≡ install_order j }
 {
     match j {
-        Some(j) => Some(Tick::Install(j)),
+        Some(j) => Some(Input::Tick(Tick::Install(j))),
         None => None,
     }
 }

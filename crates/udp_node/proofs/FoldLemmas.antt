@@ -16,7 +16,6 @@ use Rattle.udp_node.specs.declared.address.Address.{Address}
 use Rattle.udp_node.specs.declared.firing.Timer.{Timer}
 use Rattle.outside.specs.declared.link.PollAnswer.{PollAnswer}
 use Rattle.outside.specs.declared.link.PollAnswer.TheVariants.{Received}
-use Rattle.udp_node.specs.NodeRun.{first_inputs}
 use Rattle.udp_node.specs.Effects.{effects, lines, Done, Stops}
 use Rattle.udp_node.specs.Folding.{folded, Ran, AllOutside, TookSome}
 use Rattle.udp_node.specs.Sends.{LinkSide}
@@ -96,15 +95,12 @@ pub packet_outside : (p : PollAnswer) → AllOutside (packet_of p)
 packet_outside (Received datagram) = tt
 packet_outside _ = tt
 
-pub first_outside : (tick : Option Tick) → AllOutside (first_inputs tick)
-first_outside None = tt
-first_outside (Some tick) = tt
-
-pub took_nothing : {S : Type 0} (next : S → Given → S × List Out) (at : Address) (s : S) (h : Option (List ℕ)) → TookSome next at s s h h
+pub took_nothing : {S : Type 0} (next : S → Given → S × List Out) (at : Address) (s : S) (h : Option (List ℕ))
+    → TookSome next at [] s s h h
 took_nothing next at s h = record { inputs = []; outside = tt; state = refl; written = Appends_none h }
 
 pub took_then : {S : Type 0} (next : S → Given → S × List Out) (at : Address) (s t u : S) (h i j : Option (List ℕ))
-    → TookSome next at s t h i → TookSome next at t u i j → TookSome next at s u h j
+    → TookSome next at [] s t h i → TookSome next at [] t u i j → TookSome next at [] s u h j
 took_then next at s t u h i j one two =
     let state : u ≡ (folded next (folded next s one.inputs).0 two.inputs).0 = rw one.state at two.state in
     let written : Appends i j (lines (effects at (folded next (folded next s one.inputs).0 two.inputs).1)) = rw one.state at two.written in
@@ -118,13 +114,24 @@ took_then next at s t u h i j one two =
           (lines (effects at (folded next (folded next s one.inputs).0 two.inputs).1)) one.written written);
     }
 
-pub ran_took : {S : Type 0} (next : S → Given → S × List Out) (at : Address) (s t : S) (is : List Given) (a b : LinkSide)
-    (h i : Option (List ℕ)) → AllOutside is → Ran next at s t is a b h i → TookSome next at s t h i
-ran_took next at s t is a b h i out ran = record { inputs = is; outside = out; state = ran.state; written = ran.done.lines }
+pub took_after : {S : Type 0} (next : S → Given → S × List Out) (at : Address) (s t u : S) (first : List Given) (a b : LinkSide)
+    (h i j : Option (List ℕ)) → Ran next at s t first a b h i → TookSome next at [] t u i j → TookSome next at first s u h j
+took_after next at s t u first a b h i j ran two =
+    let state : u ≡ (folded next (folded next s first).0 two.inputs).0 = rw ran.state at two.state in
+    let written : Appends i j (lines (effects at (folded next (folded next s first).0 two.inputs).1)) = rw ran.state at two.written in
+    record {
+      inputs = two.inputs;
+      outside = two.outside;
+      state = rw (state_append next s first two.inputs) state;
+      written =
+          rw (effects_then next at s first two.inputs, lines_append (effects at (folded next s first).1))
+          (Appends-trans h i j (lines (effects at (folded next s first).1))
+          (lines (effects at (folded next (folded next s first).0 two.inputs).1)) ran.done.lines written);
+    }
 
 pub turn_took : {S : Type 0} (next : S → Given → S × List Out) (at : Address) (s t : S) (now : ℕ) (ts us : List Timer)
     (o later : Option (List PollAnswer)) (a b : LinkSide) (h i : Option (List ℕ)) → Turned next at s t now ts us o later a b h i
-    → TookSome next at s t h i
+    → TookSome next at [] s t h i
 turn_took next at s t now ts us o later a b h i turn = record {
   inputs = due_ticks now ts ++ packet_of turn.answer;
   outside = outside_append (due_ticks now ts) (packet_of turn.answer) (due_outside now ts) (packet_outside turn.answer);

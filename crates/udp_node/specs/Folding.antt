@@ -31,9 +31,10 @@ module _ {S : Type 0} (next : S → Given → S × List Out) where
   Runs at s t inputs (Ok r) a b before now = Ran at s t inputs a b before now
   Runs at s t inputs (Err e) a b before now = Stops (effects at (folded s inputs).1) e a b before now
 
-  -- whatever the link and the clock tell: the core took some packets and ticks, and the lines of what it gave were written
-  pub record TookSome (at : Address) (s t : S) (before now : Option (List ℕ)) : Type 0 where
+  -- whatever the link and the clock tell: the core took the first inputs and then some packets and ticks, and the lines of what it gave
+  -- were written
+  pub record TookSome (at : Address) (first : List Given) (s t : S) (before now : Option (List ℕ)) : Type 0 where
     pub inputs : List Given
     pub outside : AllOutside inputs
-    pub state : t ≡ (folded s inputs).0
-    pub written : Appends before now (lines (effects at (folded s inputs).1))
+    pub state : t ≡ (folded s (first ++ inputs)).0
+    pub written : Appends before now (lines (effects at (folded s (first ++ inputs)).1))

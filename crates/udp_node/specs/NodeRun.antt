@@ -1,7 +1,7 @@
 -- The run of a node, over what its clock and its link tell.
 use Rattle.std.specs.Prelude.{◌≡◌, ℕ, zero, suc, ◌+◌, max, List, [], ◌∷◌, ◌++◌, Bool, true, false, map, drop, Option, Some, None, Result}
 use Rattle.std.specs.Prelude.{Ok, Err, ⊤}
-use Rattle.nop_types.specs.Given.{Given, Ticked}
+use Rattle.nop_types.specs.Given.{Given}
 use Rattle.nop_types.specs.declared.input.Tick.{Tick}
 use Rattle.nop_types.specs.declared.output.Out.{Out}
 use Rattle.outside.specs.Clocks.{next_value, later_values}
@@ -60,9 +60,9 @@ module _ {S : Type 0} (next : S → Given → S × List Out) (is_done : S → Bo
       with_effects (effects at (folded next s first).1) (node_run timers turns (folded next s first).0 answers values)
 
 -- the inputs before the first turn
-abbrev pub first_inputs : Option Tick → List Given
+abbrev pub first_inputs : Option Given → List Given
 first_inputs None = []
-first_inputs (Some tick) = Ticked tick ∷ []
+first_inputs (Some input) = input ∷ []
 
 -- how the run was served
 pub record ServedRun (r : NodeRun) (served : Served) (a b : LinkSide) (h i : Option (List ℕ)) : Type 0 where

@@ -1,5 +1,5 @@
 -- What a node does over its devices, and what of it stays as it was.
-use Rattle.std.specs.Prelude.{◌≡◌, ◌≤◌, ◌+◌, ◌-◌, ℕ, min, false, List, Option, Result, IfOk, OnOk}
+use Rattle.std.specs.Prelude.{◌≡◌, ◌≤◌, ◌+◌, ◌-◌, ℕ, min, false, List, [], Option, Result, IfOk, OnOk}
 use Rattle.nop_types.specs.Given.{Given}
 use Rattle.nop_types.specs.declared.core_trait.Core as cores
 use Rattle.outside.specs.Causes.{CountsFor}
@@ -63,7 +63,7 @@ module _ {C L W : Type 0} (core : cores.Ghosts C) (link : links.Ghosts L) (sink 
   pub record TakesTurns (old new : Node C L W) (turns : ℕ) (values : Option (List ℕ)) (result : Result Served ServeError) : Type 0 where
     pub run : ServesTold core.next core.is_done core.timers old.at turns (core.state old.core.now) (link.answers old.link.now) values result
         (link_side link old) (record (link_side link new) { lost = 0 }) (sink.held old.sink.now) (sink.held new.sink.now)
-    pub took : OnOk result (TookSome core.next old.at (core.state old.core.now) (core.state new.core.now) (sink.held old.sink.now)
+    pub took : OnOk result (TookSome core.next old.at [] (core.state old.core.now) (core.state new.core.now) (sink.held old.sink.now)
         (sink.held new.sink.now))
     pub wrote : WroteText (sink.held old.sink.now) (sink.held new.sink.now)
     pub lost : IfOk result (λ served. min (link.loss_count old.link.now + (served.lost - old.lost)) last_count ≤ link.loss_count new.link.now)

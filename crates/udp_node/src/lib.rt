@@ -7,7 +7,7 @@
 //!   those of `node_run`, the fold of the core over its turns, in order and without the sends that
 //!   failed; after an error a prefix of that.
 //! - `turns`, `done`, `spent`, `took`: it took at most its turns, and all of them where the core is
-//!   not done; over any devices, the lines are those of some inputs that the core took.
+//!   not done; over any devices, the lines are those of the first input and of some packets and ticks.
 //! - `lost`, and the law `counts_failed_sends`: LOST is no more than the link's losses rose by
 //!   (unless they are at their end, 2^64 - 1), and over an observable link exactly that.
 //! - `polls`, `writes`: LinkFault comes where a poll failed and WriteFault where a write failed, and

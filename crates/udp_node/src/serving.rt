@@ -1,4 +1,5 @@
-ghost use Rattle.std.specs.Prelude.{◌≡◌, ◌≤◌, ◌+◌, ◌-◌, ◌^◌, min, length, false, IfOk, OnOk};
+ghost use Rattle.std.specs.Prelude.{◌≡◌, ◌≤◌, ◌+◌, ◌-◌, ◌^◌, min, length, false, option_map, IfOk, OnOk};
+ghost use Rattle.nop_types.specs.Given.{given};
 ghost use Rattle.outside.specs.Causes.{CountsFor};
 ghost use Rattle.udp_node.specs.Effects.{WroteText};
 ghost use Rattle.udp_node.specs.NodeRun.{first_inputs, ServesAfter};
@@ -12,7 +13,7 @@ use crate::errors::ServeError;
 use crate::firing::first_timers;
 use crate::node::Node;
 use crate::turn::error_of;
-use nop_types::{Core, Tick};
+use nop_types::{Core, Input};
 use outside::{Clock, Link, Sink};
 use std::alloc::Global;
 
@@ -61,29 +62,30 @@ impl<C: Core, L: Link, W: Sink> Node<'_, '_, '_, C, L, W> {
     }
 }
 
-/// Serves a core for at most `turns` turns, and until it is done. Where a first tick is given, the core takes it
+/// Serves a core for at most `turns` turns, and until it is done. Where a first input is given, the core takes it
 /// before all turns, and its outputs come first. A poll or a write that fails ends it, a send that fails is
 /// counted.
 pub fn serve<C: Core, L: Link, K: Clock, W: Sink>(
     alloc: Global,
     core: &mut C,
     at: Address,
-    first: Option<Tick>,
+    first: Option<Input<'_>>,
     link: &mut L,
     clock: &mut K,
     turns: u64,
     sink: &mut W,
 ) -> Result<Served, ServeError>
     requires timers { length C.timers ≤ 255 }
-    ensures run { ServesAfter C.next C.is_done (first_inputs first) C.timers at turns
-        (C.state core.old) (L.answers link.old) (K.values clock.old) result
+    ensures run { ServesAfter C.next C.is_done
+        (first_inputs (option_map given first.entry)) C.timers at turns (C.state core.old)
+        (L.answers link.old) (K.values clock.old) result
         (side_of L.Link link.old 0) (side_of L.Link link.new 0)
         (W.held sink.old) (W.held sink.new) }
     ensures turns { IfOk result (λ served. served.turns ≤ turns) }
     ensures done { IfOk result (λ served. served.done ≡ C.is_done (C.state core.new)) }
     ensures spent { IfOk result (λ served. served.done ≡ false → served.turns ≡ turns) }
-    ensures took { OnOk result (TookSome C.next at (C.state core.old) (C.state core.new)
-        (W.held sink.old) (W.held sink.new)) }
+    ensures took { OnOk result (TookSome C.next at (first_inputs (option_map given first.entry))
+        (C.state core.old) (C.state core.new) (W.held sink.old) (W.held sink.new)) }
     ensures wrote { WroteText (W.held sink.old) (W.held sink.new) }
     ensures lost { IfOk result (λ served.
         min (L.loss_count link.old + served.lost) (2 ^ 64 - 1) ≤ L.loss_count link.new) }

@@ -1,5 +1,5 @@
-ghost use Rattle.std.specs.Prelude.{◌≡◌, ◌∷◌, []};
-ghost use Rattle.nop_types.specs.Given.{Packet};
+ghost use Rattle.std.specs.Prelude.{◌≡◌, ◌∷◌, [], option_map};
+ghost use Rattle.nop_types.specs.Given.{given, Packet};
 ghost use Rattle.udp_node.specs.NodeRun.{first_inputs};
 ghost use Rattle.udp_node.specs.Nodes.{Faults, Same, Takes, TakesTurn};
 ghost use Rattle.udp_node.specs.Turns.{error_of};
@@ -8,7 +8,7 @@ use crate::errors::ServeError;
 use crate::firing::{Timer, rearm_due};
 use crate::node::Node;
 use crate::polling::poll_link;
-use nop_types::{Bytes, Core, Input, Tick};
+use nop_types::{Bytes, Core, Input};
 use outside::{Link, LinkError, Sink, WriteError};
 
 pub(crate) fn error_of(error: WriteError) -> ServeError
@@ -29,11 +29,12 @@ impl<C: Core, L: Link, W: Sink> Node<'_, '_, '_, C, L, W> {
     }
 
     /// A step before the first turn, if there is one.
-    pub(crate) fn take_first(&mut self, first: Option<Tick>) -> Result<(), WriteError>
-        ensures { Takes C.Core L.Link W.Sink self.old self.new (first_inputs first) result }
+    pub(crate) fn take_first(&mut self, first: Option<Input<'_>>) -> Result<(), WriteError>
+        ensures { Takes C.Core L.Link W.Sink self.old self.new
+            (first_inputs (option_map given first.entry)) result }
     {
         match first {
-            Some(tick) => self.take_step(Input::Tick(tick)),
+            Some(input) => self.take_step(input),
             None => Ok(()),
         }
     }

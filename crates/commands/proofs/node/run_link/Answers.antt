@@ -1,4 +1,5 @@
-use Rattle.std.proofs.Common.{◌∙◌}
+use Rattle.std.proofs.Common.{◌∙◌, option_map}
+use Rattle.nop_types.specs.Given.{given}
 use Rattle.outside.proofs.Counts.{counts_none}
 use Rattle.udp_node.specs.NodeRun.{first_inputs}
 use Rattle.udp_node.specs.Sends.{side}
@@ -9,7 +10,7 @@ use Rattle.commands.proofs.node.run_link.Goals as goal
 pub returns-in-Ok-write_served-clause-run : goal.returns-in-Ok-write_served-clause-run
 returns-in-Ok-write_served-clause-run g c =
     let k = task_of g.C.Core.next g.C.Core.is_done g.C.Core.timers (g.C.Core.state c.args.core.now) c.args.at.now
-    (first_inputs c.args.task.now.first) c.args.task.now.turns c.args.task.now.waits in
+    (first_inputs (option_map given c.args.task.now.first)) c.args.task.now.turns c.args.task.now.waits in
     ends_served k (g.L.Link.answers c.args.link.now) (g.T.Clock.values c.args.clock.now) c.in-Ok.served c.end_status.result
     (side (g.L.Link.trace c.args.link.now) 0 (g.L.Link.loss_count c.args.link.now))
     (side (g.L.Link.trace c.serve.new.link) 0 (g.L.Link.loss_count c.serve.new.link))
@@ -19,7 +20,7 @@ returns-in-Ok-write_served-clause-run g c =
 pub returns-in-Ok-write_served-clause-last : goal.returns-in-Ok-write_served-clause-last
 returns-in-Ok-write_served-clause-last g c =
     let k = task_of g.C.Core.next g.C.Core.is_done g.C.Core.timers (g.C.Core.state c.args.core.now) c.args.at.now
-    (first_inputs c.args.task.now.first) c.args.task.now.turns c.args.task.now.waits in
+    (first_inputs (option_map given c.args.task.now.first)) c.args.task.now.turns c.args.task.now.waits in
     ends_in_last k (g.L.Link.loss_count c.args.link.now) (g.L.Link.loss_count c.serve.new.link) c.in-Ok.served
     (g.C.Core.state c.serve.new.core)
     (g.K.Sink.held c.args.sink.now) (g.K.Sink.held c.serve.new.sink) (g.K.Sink.held c.write_served.new.sink)
@@ -30,7 +31,7 @@ returns-in-Ok-write_served-clause-last g c =
 pub returns-in-Err-Failed-clause-run : goal.returns-in-Err-Failed-clause-run
 returns-in-Err-Failed-clause-run g c =
     let k = task_of g.C.Core.next g.C.Core.is_done g.C.Core.timers (g.C.Core.state c.args.core.now) c.args.at.now
-    (first_inputs c.args.task.now.first) c.args.task.now.turns c.args.task.now.waits in
+    (first_inputs (option_map given c.args.task.now.first)) c.args.task.now.turns c.args.task.now.waits in
     ends_in_line k (g.L.Link.answers c.args.link.now) (g.T.Clock.values c.args.clock.now) c.in-Ok.served
     (side (g.L.Link.trace c.args.link.now) 0 (g.L.Link.loss_count c.args.link.now))
     (side (g.L.Link.trace c.serve.new.link) 0 (g.L.Link.loss_count c.serve.new.link))
@@ -40,7 +41,7 @@ returns-in-Err-Failed-clause-run g c =
 pub returns-in-Err-NoMemory-write_served-clause-run : goal.returns-in-Err-NoMemory-write_served-clause-run
 returns-in-Err-NoMemory-write_served-clause-run g c =
     let k = task_of g.C.Core.next g.C.Core.is_done g.C.Core.timers (g.C.Core.state c.args.core.now) c.args.at.now
-    (first_inputs c.args.task.now.first) c.args.task.now.turns c.args.task.now.waits in
+    (first_inputs (option_map given c.args.task.now.first)) c.args.task.now.turns c.args.task.now.waits in
     ends_short k (g.L.Link.answers c.args.link.now) (g.T.Clock.values c.args.clock.now) c.in-Ok.served
     (side (g.L.Link.trace c.args.link.now) 0 (g.L.Link.loss_count c.args.link.now))
     (side (g.L.Link.trace c.serve.new.link) 0 (g.L.Link.loss_count c.serve.new.link))
@@ -51,7 +52,7 @@ returns-in-Err-NoMemory-write_served-clause-run g c =
 pub returns-in-Err-LinkFault-clause-run : goal.returns-in-Err-LinkFault-clause-run
 returns-in-Err-LinkFault-clause-run g c =
     let k = task_of g.C.Core.next g.C.Core.is_done g.C.Core.timers (g.C.Core.state c.args.core.now) c.args.at.now
-    (first_inputs c.args.task.now.first) c.args.task.now.turns c.args.task.now.waits in
+    (first_inputs (option_map given c.args.task.now.first)) c.args.task.now.turns c.args.task.now.waits in
     ends_broken k (g.L.Link.answers c.args.link.now) (g.T.Clock.values c.args.clock.now)
     (side (g.L.Link.trace c.args.link.now) 0 (g.L.Link.loss_count c.args.link.now))
     (side (g.L.Link.trace c.serve.new.link) 0 (g.L.Link.loss_count c.serve.new.link))
@@ -61,7 +62,7 @@ returns-in-Err-LinkFault-clause-run g c =
 pub returns-in-Err-WriteFault-clause-run : goal.returns-in-Err-WriteFault-clause-run
 returns-in-Err-WriteFault-clause-run g c =
     let k = task_of g.C.Core.next g.C.Core.is_done g.C.Core.timers (g.C.Core.state c.args.core.now) c.args.at.now
-    (first_inputs c.args.task.now.first) c.args.task.now.turns c.args.task.now.waits in
+    (first_inputs (option_map given c.args.task.now.first)) c.args.task.now.turns c.args.task.now.waits in
     ends_writing k (g.L.Link.answers c.args.link.now) (g.T.Clock.values c.args.clock.now)
     (side (g.L.Link.trace c.args.link.now) 0 (g.L.Link.loss_count c.args.link.now))
     (side (g.L.Link.trace c.serve.new.link) 0 (g.L.Link.loss_count c.serve.new.link))
@@ -71,7 +72,7 @@ returns-in-Err-WriteFault-clause-run g c =
 pub returns-in-Err-NoMemory-clause-run : goal.returns-in-Err-NoMemory-clause-run
 returns-in-Err-NoMemory-clause-run g c =
     let k = task_of g.C.Core.next g.C.Core.is_done g.C.Core.timers (g.C.Core.state c.args.core.now) c.args.at.now
-    (first_inputs c.args.task.now.first) c.args.task.now.turns c.args.task.now.waits in
+    (first_inputs (option_map given c.args.task.now.first)) c.args.task.now.turns c.args.task.now.waits in
     ends_without_memory k (g.L.Link.answers c.args.link.now) (g.T.Clock.values c.args.clock.now)
     (side (g.L.Link.trace c.args.link.now) 0 (g.L.Link.loss_count c.args.link.now))
     (side (g.L.Link.trace c.serve.new.link) 0 (g.L.Link.loss_count c.serve.new.link))

@@ -1,4 +1,4 @@
-use Rattle.std.proofs.Common.{◌≡◌, ◌-◌, ◌≤◌, ◌+◌, min}
+use Rattle.std.proofs.Common.{◌≡◌, ◌-◌, ◌≤◌, ◌+◌, min, []}
 use Rattle.udp_node.specs.Effects.{WroteText}
 use Rattle.udp_node.specs.Folding.{TookSome}
 use Rattle.udp_node.specs.Nodes.{Same, link_side}
@@ -16,7 +16,7 @@ invariant-loop-taken g l = record {
   within : l.taken ≤ l.turns;
   wrote : WroteText (g.W.Sink.held l.fn.self.sink.now) (g.W.Sink.held l.self.sink.now);
   lost : min (g.L.Link.loss_count l.fn.self.link.now + (l.self.lost - l.fn.self.lost)) last_count ≤ g.L.Link.loss_count l.self.link.now;
-  took : TookSome g.C.Core.next l.fn.self.at (g.C.Core.state l.fn.self.core.now) (g.C.Core.state l.self.core.now)
+  took : TookSome g.C.Core.next l.fn.self.at [] (g.C.Core.state l.fn.self.core.now) (g.C.Core.state l.self.core.now)
       (g.W.Sink.held l.fn.self.sink.now) (g.W.Sink.held l.self.sink.now);
   polls : g.L.Link.fault_count l.self.link.now ≡ g.L.Link.fault_count l.fn.self.link.now;
   writes : g.W.Sink.fault_count l.self.sink.now ≡ g.W.Sink.fault_count l.fn.self.sink.now;
