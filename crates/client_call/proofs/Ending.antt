@@ -11,7 +11,7 @@ use Rattle.transcript_text.specs.Transcript.{submit_line, accept_line}
 use Rattle.client_quorum.specs.ClientSteps.{next, timers, is_done}
 use Rattle.client_quorum.specs.Runs.{after, gave}
 use Rattle.client_quorum.specs.declared.state.ClientState.{ClientState}
-use Rattle.udp_node.specs.Effects.{Effect, effects, calls, lines, Stopped}
+use Rattle.udp_node.specs.Effects.{Effect, effects, effects_by, calls, lines, Stopped}
 use Rattle.udp_node.specs.Folding.{folded, TookSome}
 use Rattle.udp_node.specs.NodeRun.{NodeRun, ServedRun, ServesAfter}
 use Rattle.udp_node.specs.Sends.{LinkSide, Sends, side}
@@ -74,15 +74,15 @@ module _ (at : Address) (number : ℕ) (op : List ℕ) (t : ClientState) (h i : 
   same_lines (Some zs) xs ys a b = sym a ∙ b
 
   module _ (turns : ℕ) (r : NodeRun) (served : Served) (a b : LinkSide) (empty : h ≡ Some [])
-      (run : ServedRun r served a (record b { lost = served.lost }) h i) (done : served.done ≡ is_done t)
+      (run : ServedRun at r served a (record b { lost = served.lost }) h i) (done : served.done ≡ is_done t)
       (spent : served.done ≡ false → served.turns ≡ turns) where
-    run_lines : lines r.effects ≡ lines (effects at (gave start took.inputs))
+    run_lines : lines (effects_by at r.acts) ≡ lines (effects at (gave start took.inputs))
     run_lines =
-        same_lines i (lines r.effects) (lines (effects at (folded next start took.inputs).1)) (rw empty at run.effects.lines)
+        same_lines i (lines (effects_by at r.acts)) (lines (effects at (folded next start took.inputs).1)) (rw empty at run.effects.lines)
         (rw empty at took.written)
         ∙ ap (λ os. lines (effects at os)) (outs_are start took.inputs)
 
-    run_answered : (result : List ℕ) (o : Option Accept) → t.accepted ≡ o → GivesAccepted o (Ok result) → Answered number op result r a b
+    run_answered : (result : List ℕ) (o : Option Accept) → t.accepted ≡ o → GivesAccepted o (Ok result) → Answered at number op result r a b
     run_answered result None is gives = absurd gives
     run_answered result (Some x) is gives =
         let known = accepted_after (Some x) is in
@@ -96,7 +96,7 @@ module _ (at : Address) (number : ℕ) (op : List ℕ) (t : ClientState) (h i : 
           calls = (served.lost, run.effects.sends);
         }
 
-    run_open : (o : Option Accept) → t.accepted ≡ o → GivesAccepted o (Err Unanswered) → TurnsEnded turns r a b
+    run_open : (o : Option Accept) → t.accepted ≡ o → GivesAccepted o (Err Unanswered) → TurnsEnded at turns r a b
     run_open None is gives =
         let open_ = is_open at.config number op took.inputs took.outside (accepted_after None is) in
         let not_done = done ∙ ap is_done is_after ∙ open_ in
@@ -108,14 +108,14 @@ module _ (at : Address) (number : ℕ) (op : List ℕ) (t : ClientState) (h i : 
         }
     run_open (Some x) is gives = absurd gives
 
-    run_ends : (result : Result (List ℕ) CallError) → GivesAccepted t.accepted result → EndsRun number op turns r result a b
+    run_ends : (result : Result (List ℕ) CallError) → GivesAccepted t.accepted result → EndsRun at number op turns r result a b
     run_ends (Ok result) gives = run_answered result t.accepted refl gives
     run_ends (Err PortFault) gives = absurd gives
     run_ends (Err LinkFault) gives = absurd gives
     run_ends (Err Unanswered) gives = run_open t.accepted refl gives
     run_ends (Err NoMemory) gives = (
       served.lost,
-      record { before = calls r.effects; rest = []; split = sym (append-nil (calls r.effects)); sends = run.effects.sends },
+      record { before = calls (effects_by at r.acts); rest = []; split = sym (append-nil (calls (effects_by at r.acts))); sends = run.effects.sends },
     )
 
   pub ends_served : (turns : ℕ) (answers : Option (List PollAnswer)) (values : Option (List ℕ)) (served : Served) (a b : LinkSide)
@@ -152,14 +152,14 @@ module _ (at : Address) (number : ℕ) (op : List ℕ) (turns : ℕ) (a b : Link
       → EndsObserved at number op turns answers values (Err NoMemory) a b
   ends_stopped None values run = tt
   ends_stopped (Some answers) None run = tt
-  ends_stopped (Some answers) (Some values) run = stopped_calls (run_of at number op turns answers values).effects run.0 run.1
+  ends_stopped (Some answers) (Some values) run = stopped_calls (effects_by at (run_of at number op turns answers values).acts) run.0 run.1
 
   ends_in_line : (answers : Option (List PollAnswer)) (values : Option (List ℕ))
       → ServesAfter next is_done [] timers at turns (caller at.config number op) answers values (Err serves.WriteFault) a b h i
       → EndsObserved at number op turns answers values (Err NoMemory) a b
   ends_in_line None values run = tt
   ends_in_line (Some answers) None run = tt
-  ends_in_line (Some answers) (Some values) run = stopped_calls (run_of at number op turns answers values).effects run.0 run.1.stopped
+  ends_in_line (Some answers) (Some values) run = stopped_calls (effects_by at (run_of at number op turns answers values).acts) run.0 run.1.stopped
 
   pub ends_failed : (e : ServeError) (answers : Option (List PollAnswer)) (values : Option (List ℕ))
       → ServesAfter next is_done [] timers at turns (caller at.config number op) answers values (Err e) a b h i
@@ -181,7 +181,7 @@ ends_before at number op turns None values trace losses = tt
 ends_before at number op turns (Some answers) None trace losses = tt
 ends_before at number op turns (Some answers) (Some values) trace losses = (
   0,
-  record { before = []; rest = calls (run_of at number op turns answers values).effects; split = refl; sends = no_calls trace losses },
+  record { before = []; rest = calls (effects_by at (run_of at number op turns answers values).acts); split = refl; sends = no_calls trace losses },
 )
 
 -- ---- a link that ports gave

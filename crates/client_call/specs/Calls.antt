@@ -14,7 +14,7 @@ use Rattle.transcript_text.specs.Transcript.{submit_line, accept_line}
 use Rattle.client_quorum.specs.ClientSteps.{opening, next, timers, is_done}
 use Rattle.client_quorum.specs.Runs.{after, gave, replies_of, IsAgreed}
 use Rattle.client_quorum.specs.declared.state.ClientState.{ClientState}
-use Rattle.udp_node.specs.Effects.{calls, lines}
+use Rattle.udp_node.specs.Effects.{calls, effects_by, lines}
 use Rattle.udp_node.specs.Folding.{AllOutside}
 use Rattle.udp_node.specs.NodeRun.{NodeRun, run_after}
 use Rattle.udp_node.specs.Ports.{port_of}
@@ -82,7 +82,7 @@ error_of serves.NoMemory = NoMemory
 -- ---- the run, over an observable link and clock
 
 abbrev pub run_of : Address → ℕ → List ℕ → ℕ → List PollAnswer → List ℕ → NodeRun
-run_of at number op turns answers values = run_after next is_done at [] timers turns (caller at.config number op) answers values
+run_of at number op turns answers values = run_after next is_done [] timers turns (caller at.config number op) answers values
 
 -- these calls were made on a link and no others; any number of datagrams was counted as lost
 abbrev pub CallsMade : List LinkCall → LinkSide → LinkSide → Type 0
@@ -93,37 +93,37 @@ abbrev pub SomeCallsMade : List LinkCall → LinkSide → LinkSide → Type 0
 SomeCallsMade cs a b = (lost : ℕ) × SendsFront cs a (record b { lost = lost })
 
 -- the client was done: the lines of the run are those of its request and of the acceptance with this result
-pub record Answered (number : ℕ) (op result : List ℕ) (r : NodeRun) (a b : LinkSide) : Type 0 where
+pub record Answered (at : Address) (number : ℕ) (op result : List ℕ) (r : NodeRun) (a b : LinkSide) : Type 0 where
   pub done : r.done ≡ true
   pub works : r.broken ≡ false
-  pub lines : lines r.effects ≡ submit_line (request number op) ++ accept_line number 1 result
-  pub calls : CallsMade (calls r.effects) a b
+  pub lines : lines (effects_by at r.acts) ≡ submit_line (request number op) ++ accept_line number 1 result
+  pub calls : CallsMade (calls (effects_by at r.acts)) a b
 
 -- all turns were taken, and the client was not done
-pub record TurnsEnded (turns : ℕ) (r : NodeRun) (a b : LinkSide) : Type 0 where
+pub record TurnsEnded (at : Address) (turns : ℕ) (r : NodeRun) (a b : LinkSide) : Type 0 where
   pub all : r.turns ≡ turns
   pub done : r.done ≡ false
   pub works : r.broken ≡ false
-  pub calls : CallsMade (calls r.effects) a b
+  pub calls : CallsMade (calls (effects_by at r.acts)) a b
 
 -- a poll failed
-pub record PollFailed (r : NodeRun) (a b : LinkSide) : Type 0 where
+pub record PollFailed (at : Address) (r : NodeRun) (a b : LinkSide) : Type 0 where
   pub broken : r.broken ≡ true
-  pub calls : CallsMade (calls r.effects) a b
+  pub calls : CallsMade (calls (effects_by at r.acts)) a b
 
-abbrev pub EndsRun : ℕ → List ℕ → ℕ → NodeRun → Result (List ℕ) CallError → LinkSide → LinkSide → Type 0
-EndsRun number op turns r (Ok result) a b = Answered number op result r a b
-EndsRun number op turns r (Err PortFault) a b = ⊥
-EndsRun number op turns r (Err LinkFault) a b = PollFailed r a b
-EndsRun number op turns r (Err Unanswered) a b = TurnsEnded turns r a b
-EndsRun number op turns r (Err NoMemory) a b = SomeCallsMade (calls r.effects) a b
+abbrev pub EndsRun : Address → ℕ → List ℕ → ℕ → NodeRun → Result (List ℕ) CallError → LinkSide → LinkSide → Type 0
+EndsRun at number op turns r (Ok result) a b = Answered at number op result r a b
+EndsRun at number op turns r (Err PortFault) a b = ⊥
+EndsRun at number op turns r (Err LinkFault) a b = PollFailed at r a b
+EndsRun at number op turns r (Err Unanswered) a b = TurnsEnded at turns r a b
+EndsRun at number op turns r (Err NoMemory) a b = SomeCallsMade (calls (effects_by at r.acts)) a b
 
 abbrev pub EndsObserved : Address → ℕ → List ℕ → ℕ → Option (List PollAnswer) → Option (List ℕ) → Result (List ℕ) CallError
     → LinkSide → LinkSide → Type 0
 EndsObserved at number op turns None values result a b = ⊤
 EndsObserved at number op turns (Some answers) None result a b = ⊤
 EndsObserved at number op turns (Some answers) (Some values) result a b =
-    EndsRun number op turns (run_of at number op turns answers values) result a b
+    EndsRun at number op turns (run_of at number op turns answers values) result a b
 
 -- ---- over ports
 

@@ -15,7 +15,7 @@ use Rattle.outside.specs.declared.ports.Ports as ports_trait
 use Rattle.outside.specs.declared.sink.Sink as sinks
 use Rattle.outside.specs.declared.link.PollAnswer.{PollAnswer}
 use Rattle.outside.specs.declared.link.LinkCall.{LinkCall}
-use Rattle.udp_node.specs.Effects.{Line, effects, lines, WroteFront}
+use Rattle.udp_node.specs.Effects.{Line, effects, effects_by, lines, WroteFront}
 use Rattle.udp_node.specs.Folding.{folded, TookSome}
 use Rattle.udp_node.specs.Ports.{port_of}
 use Rattle.udp_node.specs.NodeRun.{NodeRun, ServedRun, ServesAfter}
@@ -67,20 +67,20 @@ module _ {S : Type 0} (k : NodeTask S) (losses losses_now : ℕ) (served : Serve
 
 module _ {S : Type 0} (k : NodeTask S) where
   finished : (r : NodeRun) (served : Served) (a b : LinkSide) (h i j : Option (List ℕ))
-      → ServedRun r served a (record b { lost = served.lost }) h i → Appends i j (served_line served.turns served.lost)
-      → Finished k.waits r (end_status k.waits served.done) a b h j
+      → ServedRun k.at r served a (record b { lost = served.lost }) h i → Appends i j (served_line served.turns served.lost)
+      → Finished k.at k.waits r (end_status k.waits served.done) a b h j
   finished r served a b h i j one wrote = record {
     lost = served.lost;
     works = one.works;
     ends = ap (end_status k.waits) one.done;
     effects = rw (last_is r served.turns served.lost one.works one.turns)
-        (done_then r.effects (Line (served_line served.turns served.lost) ∷ []) a
+        (done_then (effects_by k.at r.acts) (Line (served_line served.turns served.lost) ∷ []) a
         (record b { lost = served.lost }) (record b { lost = served.lost }) h i j one.effects
         (wrote_line {T = Unit {0}} (served_line served.turns served.lost) (Ok tt) (record b { lost = served.lost }) i j wrote));
   }
 
   as_finished : (w d : Bool) (r : NodeRun) (a b : LinkSide) (h i : Option (List ℕ))
-      → Finished w r (end_status w d) a b h i → RunEnds w r (end_status w d) a b h i
+      → Finished k.at w r (end_status w d) a b h i → RunEnds k.at w r (end_status w d) a b h i
   as_finished true true r a b h i one = one
   as_finished true false r a b h i one = one
   as_finished false true r a b h i one = one
@@ -102,7 +102,7 @@ module _ {S : Type 0} (k : NodeTask S) where
   ends_in_line (Some x) (Some y) served a b h i j serves wrote = (
     served.lost,
     rw (last_is (run_of k x y) served.turns served.lost serves.works serves.turns)
-        (stops_then (run_of k x y).effects (Line (served_line served.turns served.lost) ∷ []) devices.Failed a
+        (stops_then (effects_by k.at (run_of k x y).acts) (Line (served_line served.turns served.lost) ∷ []) devices.Failed a
         (record b { lost = served.lost }) (record b { lost = served.lost }) h i j serves.effects
         (wrote_line {T = Unit {0}} (served_line served.turns served.lost) (Err devices.Failed)
         (record b { lost = served.lost }) i j wrote)),
@@ -116,7 +116,7 @@ module _ {S : Type 0} (k : NodeTask S) where
   ends_short (Some x) (Some y) served a b h i j serves wrote = (
     served.lost,
     rw (last_is (run_of k x y) served.turns served.lost serves.works serves.turns)
-        (stops_then (run_of k x y).effects (Line (served_line served.turns served.lost) ∷ []) devices.NoMemory a
+        (stops_then (effects_by k.at (run_of k x y).acts) (Line (served_line served.turns served.lost) ∷ []) devices.NoMemory a
         (record b { lost = served.lost }) (record b { lost = served.lost }) h i j serves.effects
         (wrote_line {T = Unit {0}} (served_line served.turns served.lost) (Err devices.NoMemory)
         (record b { lost = served.lost }) i j wrote)),
@@ -136,7 +136,7 @@ module _ {S : Type 0} (k : NodeTask S) where
   ends_writing (Some x) None a b h i serves = tt
   ends_writing (Some x) (Some y) a b h i serves = (
     serves.0,
-    stops_more (run_of k x y).effects (last_effects (run_of k x y).broken (run_of k x y).turns serves.0)
+    stops_more (effects_by k.at (run_of k x y).acts) (last_effects (run_of k x y).broken (run_of k x y).turns serves.0)
         devices.Failed a (record b { lost = serves.0 }) h i serves.1,
   )
 
@@ -147,7 +147,7 @@ module _ {S : Type 0} (k : NodeTask S) where
   ends_without_memory (Some x) None a b h i serves = tt
   ends_without_memory (Some x) (Some y) a b h i serves = (
     serves.0,
-    stops_more (run_of k x y).effects (last_effects (run_of k x y).broken (run_of k x y).turns serves.0)
+    stops_more (effects_by k.at (run_of k x y).acts) (last_effects (run_of k x y).broken (run_of k x y).turns serves.0)
         devices.NoMemory a (record b { lost = serves.0 }) h i serves.1,
   )
 

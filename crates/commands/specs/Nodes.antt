@@ -13,7 +13,7 @@ use Rattle.outside.specs.declared.link.Link as link_trait
 use Rattle.outside.specs.declared.ports.Ports as ports_trait
 use Rattle.outside.specs.declared.sink.Sink as sink_trait
 use Rattle.udp_node.specs.declared.address.Address.{Address}
-use Rattle.udp_node.specs.Effects.{Effect, Line, effects, lines, Done, Stopped, StoppedInLine}
+use Rattle.udp_node.specs.Effects.{Effect, Line, effects, effects_by, lines, Done, Stopped, StoppedInLine}
 use Rattle.udp_node.specs.Folding.{folded, AllOutside}
 use Rattle.udp_node.specs.NodeRun.{NodeRun, run_after, Broke}
 use Rattle.udp_node.specs.Ports.{port_of}
@@ -32,8 +32,8 @@ last_effects true turns lost = []
 last_effects false turns lost = Line (served_line turns lost) ∷ []
 
 -- what a run does outside, and the last line
-abbrev pub all_effects : NodeRun → ℕ → List Effect
-all_effects r lost = r.effects ++ last_effects r.broken r.turns lost
+abbrev pub all_effects : Address → NodeRun → ℕ → List Effect
+all_effects at r lost = effects_by at r.acts ++ last_effects r.broken r.turns lost
 
 -- ---- statuses
 
@@ -76,20 +76,20 @@ IsUnattachedStatus _ = ⊥
 -- ---- a run and its last line
 
 -- the run was taken to its end, and its line was written
-pub record Finished (waits : Bool) (r : NodeRun) (s : Status) (a b : LinkSide) (h i : Option (List ℕ)) : Type 0 where
+pub record Finished (at : Address) (waits : Bool) (r : NodeRun) (s : Status) (a b : LinkSide) (h i : Option (List ℕ)) : Type 0 where
   pub lost : ℕ
   pub works : r.broken ≡ false
   pub ends : s ≡ end_status waits r.done
-  pub effects : Done (all_effects r lost) a (record b { lost = lost }) h i
+  pub effects : Done (all_effects at r lost) a (record b { lost = lost }) h i
 
 -- by its status
-abbrev pub RunEnds : Bool → NodeRun → Status → LinkSide → LinkSide → Option (List ℕ) → Option (List ℕ) → Type 0
-RunEnds waits r statuses.Done a b h i = Finished waits r statuses.Done a b h i
-RunEnds waits r statuses.WriteFault a b h i = (lost : ℕ) × StoppedInLine (all_effects r lost) a (record b { lost = lost }) h i
-RunEnds waits r statuses.LinkFault a b h i = (lost : ℕ) × Broke r a (record b { lost = lost }) h i
-RunEnds waits r statuses.NoMemory a b h i = (lost : ℕ) × Stopped (all_effects r lost) a (record b { lost = lost }) h i
-RunEnds waits r statuses.Unanswered a b h i = Finished waits r statuses.Unanswered a b h i
-RunEnds waits r _ a b h i = ⊥
+abbrev pub RunEnds : Address → Bool → NodeRun → Status → LinkSide → LinkSide → Option (List ℕ) → Option (List ℕ) → Type 0
+RunEnds at waits r statuses.Done a b h i = Finished at waits r statuses.Done a b h i
+RunEnds at waits r statuses.WriteFault a b h i = (lost : ℕ) × StoppedInLine (all_effects at r lost) a (record b { lost = lost }) h i
+RunEnds at waits r statuses.LinkFault a b h i = (lost : ℕ) × Broke at r a (record b { lost = lost }) h i
+RunEnds at waits r statuses.NoMemory a b h i = (lost : ℕ) × Stopped (all_effects at r lost) a (record b { lost = lost }) h i
+RunEnds at waits r statuses.Unanswered a b h i = Finished at waits r statuses.Unanswered a b h i
+RunEnds at waits r _ a b h i = ⊥
 
 -- ---- what a node runs from
 
@@ -111,14 +111,14 @@ task_of next is_done timers opening at first turns waits =
     record { next = next; is_done = is_done; timers = timers; opening = opening; at = at; first = first; turns = turns; waits = waits }
 
 abbrev pub run_of : {S : Type 0} → NodeTask S → List PollAnswer → List ℕ → NodeRun
-run_of k answers values = run_after k.next k.is_done k.at k.first k.timers k.turns k.opening answers values
+run_of k answers values = run_after k.next k.is_done k.first k.timers k.turns k.opening answers values
 
 -- where link and clock tell their content, it is the run over it
 abbrev pub RunTold : {S : Type 0} → NodeTask S → Option (List PollAnswer) → Option (List ℕ) → Status
     → LinkSide → LinkSide → Option (List ℕ) → Option (List ℕ) → Type 0
 RunTold k None values s a b h i = ⊤
 RunTold k (Some answers) None s a b h i = ⊤
-RunTold k (Some answers) (Some values) s a b h i = RunEnds k.waits (run_of k answers values) s a b h i
+RunTold k (Some answers) (Some values) s a b h i = RunEnds k.at k.waits (run_of k answers values) s a b h i
 
 -- ---- the last line over any link and clock
 

@@ -14,7 +14,7 @@ use Rattle.outside.specs.declared.link.LinkCall.{LinkCall}
 use Rattle.outside.specs.declared.link.LinkCall.TheVariants.{Polled}
 use Rattle.udp_node.specs.declared.address.Address.{Address}
 use Rattle.udp_node.specs.Effects.{Effect, Call, Line, effects, effects_of, calls, lines, first_line, Done, Stopped, StoppedInLine, Stops}
-use Rattle.udp_node.specs.Effects.{Carries, Writes}
+use Rattle.udp_node.specs.Effects.{Act, act_effects, effects_by, Carries, Writes}
 use Rattle.udp_node.specs.Sends.{LinkSide, Sends, SendsFront}
 use Rattle.udp_node.proofs.SendLemmas.{sends_then, no_sends}
 
@@ -143,6 +143,34 @@ stops_more xs ys Failed a b h i one =
     in_line_by xs ys one.stopped.front one.stopped.rest one.stopped.count a b h i one.stopped.split one.stopped.sends
     one.stopped.lines one.below
 stops_more xs ys NoMemory a b h i one = stopped_more xs ys a b h i one
+
+-- ---- acts in order
+
+pub acts_append : (at : Address) (xs ys : List Act) → effects_by at (xs ++ ys) ≡ effects_by at xs ++ effects_by at ys
+acts_append at [] ys = refl
+acts_append at (x ∷ xs) ys =
+    ap (λ es. act_effects at x ++ es) (acts_append at xs ys)
+    ∙ sym (append_assoc (act_effects at x) (effects_by at xs) (effects_by at ys))
+
+pub acts_done : (at : Address) (xs ys : List Act) (a b c : LinkSide) (h i j : Option (List ℕ)) → Done (effects_by at xs) a b h i
+    → Done (effects_by at ys) b c i j → Done (effects_by at (xs ++ ys)) a c h j
+acts_done at xs ys a b c h i j one two =
+    rw (acts_append at xs ys) (done_then (effects_by at xs) (effects_by at ys) a b c h i j one two)
+
+pub acts_stopped : (at : Address) (xs ys : List Act) (a b c : LinkSide) (h i j : Option (List ℕ)) → Done (effects_by at xs) a b h i
+    → Stopped (effects_by at ys) b c i j → Stopped (effects_by at (xs ++ ys)) a c h j
+acts_stopped at xs ys a b c h i j one two =
+    rw (acts_append at xs ys) (stopped_then (effects_by at xs) (effects_by at ys) a b c h i j one two)
+
+pub acts_stop : (at : Address) (xs ys : List Act) (e : DeviceError) (a b c : LinkSide) (h i j : Option (List ℕ))
+    → Done (effects_by at xs) a b h i → Stops (effects_by at ys) e b c i j → Stops (effects_by at (xs ++ ys)) e a c h j
+acts_stop at xs ys e a b c h i j one two =
+    rw (acts_append at xs ys) (stops_then (effects_by at xs) (effects_by at ys) e a b c h i j one two)
+
+pub acts_stop_more : (at : Address) (xs ys : List Act) (e : DeviceError) (a b : LinkSide) (h i : Option (List ℕ))
+    → Stops (effects_by at xs) e a b h i → Stops (effects_by at (xs ++ ys)) e a b h i
+acts_stop_more at xs ys e a b h i one =
+    rw (acts_append at xs ys) (stops_more (effects_by at xs) (effects_by at ys) e a b h i one)
 
 -- ---- one output
 

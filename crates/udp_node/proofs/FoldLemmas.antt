@@ -16,12 +16,12 @@ use Rattle.udp_node.specs.declared.address.Address.{Address}
 use Rattle.udp_node.specs.declared.firing.Timer.{Timer}
 use Rattle.outside.specs.declared.link.PollAnswer.{PollAnswer}
 use Rattle.outside.specs.declared.link.PollAnswer.TheVariants.{Received}
-use Rattle.udp_node.specs.Effects.{effects, lines, Done, Stops}
-use Rattle.udp_node.specs.Folding.{folded, Ran, AllOutside, TookSome}
+use Rattle.udp_node.specs.Effects.{effects, lines, Done, Stops, Stepping, effects_by}
+use Rattle.udp_node.specs.Folding.{folded, Ran, AllOutside, TookSome, taking}
 use Rattle.udp_node.specs.Sends.{LinkSide}
 use Rattle.udp_node.specs.Timing.{due_ticks, packet_of, tick_if, armed}
 use Rattle.udp_node.specs.Turns.{Turned, ticked, polled}
-use Rattle.udp_node.proofs.EffectLemmas.{effects_append, lines_append, done_then, stops_then, stops_more as effects_stop, Appends_none}
+use Rattle.udp_node.proofs.EffectLemmas.{acts_append, effects_append, lines_append, done_then, stops_then, stops_more as effects_stop, Appends_none}
 use Rattle.udp_node.proofs.SendLemmas.{no_sends}
 
 pub state_append : {S : Type 0} (next : S → Given → S × List Out) (s : S) (xs ys : List Given)
@@ -41,6 +41,26 @@ pub effects_then : {S : Type 0} (next : S → Given → S × List Out) (at : Add
 effects_then next at s xs ys =
     ap (effects at) (outs_append next s xs ys) ∙ effects_append at (folded next s xs).1 (folded next (folded next s xs).0 ys).1
 
+pub taking_then : {S : Type 0} (next : S → Given → S × List Out) (s : S) (xs ys : List Given)
+    → taking next s (xs ++ ys) ≡ taking next s xs ++ taking next (folded next s xs).0 ys
+taking_then next s [] ys = refl
+taking_then next s (x ∷ xs) ys =
+    ap (λ acts. Stepping (record { given = x; outs = (next s x).1 }) ∷ acts) (taking_then next (next s x).0 xs ys)
+
+taken_then : {S : Type 0} (next : S → Given → S × List Out) (at : Address) (s : S) (xs ys : List Given)
+    → effects_by at (taking next s (xs ++ ys))
+    ≡ effects_by at (taking next s xs) ++ effects_by at (taking next (folded next s xs).0 ys)
+taken_then next at s xs ys =
+    ap (effects_by at) (taking_then next s xs ys) ∙ acts_append at (taking next s xs) (taking next (folded next s xs).0 ys)
+
+-- what the steps ask of the outside is what their outputs ask
+pub taken_is : {S : Type 0} (next : S → Given → S × List Out) (at : Address) (s : S) (xs : List Given)
+    → effects_by at (taking next s xs) ≡ effects at (folded next s xs).1
+taken_is next at s [] = refl
+taken_is next at s (x ∷ xs) =
+    ap (λ es. effects at (next s x).1 ++ es) (taken_is next at (next s x).0 xs)
+    ∙ sym (effects_append at (next s x).1 (folded next (next s x).0 xs).1)
+
 pub none_ran : {S : Type 0} (next : S → Given → S × List Out) (at : Address) (s : S) (a : LinkSide) (h : Option (List ℕ))
     → Ran next at s s [] a a h h
 none_ran next at s a h = record { state = refl; done = record { sends = no_sends a; lines = Appends_none h } }
@@ -50,29 +70,29 @@ pub ran_then : {S : Type 0} (next : S → Given
     → Ran next at s t xs a b h i → Ran next at t u ys b c i j → Ran next at s u (xs ++ ys) a c h j
 ran_then next at s t u xs ys a b c h i j one two =
     let state : u ≡ (folded next (folded next s xs).0 ys).0 = rw one.state at two.state in
-    let done : Done (effects at (folded next (folded next s xs).0 ys).1) b c i j = rw one.state at two.done in
+    let done : Done (effects_by at (taking next (folded next s xs).0 ys)) b c i j = rw one.state at two.done in
     record {
       state = rw (state_append next s xs ys) state;
       done =
-          rw (effects_then next at s xs ys)
-          (done_then (effects at (folded next s xs).1) (effects at (folded next (folded next s xs).0 ys).1) a b c h i j one.done done);
+          rw (taken_then next at s xs ys)
+          (done_then (effects_by at (taking next s xs)) (effects_by at (taking next (folded next s xs).0 ys)) a b c h i j one.done done);
     }
 
 pub ran_stops : {S : Type 0} (next : S → Given
     → S × List Out) (at : Address) (s t : S) (e : DeviceError) (xs ys : List Given) (a b c : LinkSide) (h i j : Option (List ℕ))
-    → Ran next at s t xs a b h i → Stops (effects at (folded next t ys).1) e b c i j
-    → Stops (effects at (folded next s (xs ++ ys)).1) e a c h j
+    → Ran next at s t xs a b h i → Stops (effects_by at (taking next t ys)) e b c i j
+    → Stops (effects_by at (taking next s (xs ++ ys))) e a c h j
 ran_stops next at s t e xs ys a b c h i j one two =
-    let stops : Stops (effects at (folded next (folded next s xs).0 ys).1) e b c i j = rw one.state at two in
-    rw (effects_then next at s xs ys)
-    (stops_then (effects at (folded next s xs).1) (effects at (folded next (folded next s xs).0 ys).1) e a b c h i j one.done stops)
+    let stops : Stops (effects_by at (taking next (folded next s xs).0 ys)) e b c i j = rw one.state at two in
+    rw (taken_then next at s xs ys)
+    (stops_then (effects_by at (taking next s xs)) (effects_by at (taking next (folded next s xs).0 ys)) e a b c h i j one.done stops)
 
 pub stops_more : {S : Type 0} (next : S → Given
     → S × List Out) (at : Address) (s : S) (e : DeviceError) (xs ys : List Given) (a b : LinkSide) (h i : Option (List ℕ))
-    → Stops (effects at (folded next s xs).1) e a b h i → Stops (effects at (folded next s (xs ++ ys)).1) e a b h i
+    → Stops (effects_by at (taking next s xs)) e a b h i → Stops (effects_by at (taking next s (xs ++ ys))) e a b h i
 stops_more next at s e xs ys a b h i one =
-    rw (effects_then next at s xs ys)
-    (effects_stop (effects at (folded next s xs).1) (effects at (folded next (folded next s xs).0 ys).1) e a b h i one)
+    rw (taken_then next at s xs ys)
+    (effects_stop (effects_by at (taking next s xs)) (effects_by at (taking next (folded next s xs).0 ys)) e a b h i one)
 
 -- ---- inputs, whatever link and clock tell
 
@@ -126,7 +146,7 @@ took_after next at s t u first a b h i j ran two =
       written =
           rw (effects_then next at s first two.inputs, lines_append (effects at (folded next s first).1))
           (Appends-trans h i j (lines (effects at (folded next s first).1))
-          (lines (effects at (folded next (folded next s first).0 two.inputs).1)) ran.done.lines written);
+          (lines (effects at (folded next (folded next s first).0 two.inputs).1)) (rw (taken_is next at s first) at ran.done.lines) written);
     }
 
 pub turn_took : {S : Type 0} (next : S → Given → S × List Out) (at : Address) (s t : S) (now : ℕ) (ts us : List Timer)
@@ -140,8 +160,13 @@ turn_took next at s t now ts us o later a b h i turn = record {
       rw (
         effects_then next at s (due_ticks now ts) (packet_of turn.answer),
         lines_append (effects at (folded next s (due_ticks now ts)).1),
+        ← taken_is next at s (due_ticks now ts),
+        ← taken_is next at (ticked next s now ts).0 (packet_of turn.answer),
       )
-      (rw (lines_append (ticked next at s now ts).1 (polled next at (ticked next at s now ts).0 turn.answer).1) at turn.done.lines);
+      (rw (
+        acts_append at (ticked next s now ts).1 (polled next (ticked next s now ts).0 turn.answer).1,
+        lines_append (effects_by at (ticked next s now ts).1) (effects_by at (polled next (ticked next s now ts).0 turn.answer).1),
+      ) at turn.done.lines);
 }
 
 -- ---- timers
@@ -170,8 +195,8 @@ timer_ran next at now ts k s t u a b c h i j within one two =
 pub timer_stops : {S : Type 0} (next : S → Given
     → S × List Out) (at : Address) (e : DeviceError) (now : ℕ) (ts : List Timer) (k : ℕ) (s t : S) (a b c : LinkSide)
     (h i j : Option (List ℕ)) → k < length ts → Ran next at s t (due_ticks now (take k ts)) a b h i
-    → Stops (effects at (folded next t (due_ticks now (get_or ts k no_timer ∷ []))).1) e b c i j
-    → Stops (effects at (folded next s (due_ticks now ts)).1) e a c h j
+    → Stops (effects_by at (taking next t (due_ticks now (get_or ts k no_timer ∷ [])))) e b c i j
+    → Stops (effects_by at (taking next s (due_ticks now ts))) e a c h j
 timer_stops next at e now ts k s t a b c h i j within one two =
     let all : due_ticks now ts ≡ (due_ticks now (take k ts) ++ due_ticks now (get_or ts k no_timer ∷ [])) ++ due_ticks now
     (drop (k + 1) ts) =

@@ -16,9 +16,9 @@ use Rattle.udp_node.specs.declared.address.Address.{Address}
 use Rattle.udp_node.specs.declared.errors.ServeError.{ServeError}
 use Rattle.udp_node.specs.declared.errors.ServeError.TheVariants.{LinkFault, WriteFault, NoMemory}
 use Rattle.udp_node.specs.declared.firing.Timer.{Timer}
-use Rattle.udp_node.specs.Effects.{Effect, effects, Done, Stops}
-use Rattle.udp_node.specs.Folding.{folded, Ran}
-use Rattle.udp_node.specs.NodeRun.{NodeRun, turns_from, node_run, turn_then, after_turn, with_effects, ServesRun, ServesTold, ServesAfter}
+use Rattle.udp_node.specs.Effects.{Act, effects_by, Done, Stops}
+use Rattle.udp_node.specs.Folding.{folded, taking, Ran}
+use Rattle.udp_node.specs.NodeRun.{NodeRun, turns_from, node_run, turn_then, after_turn, with_acts, ServesRun, ServesTold, ServesAfter}
 use Rattle.udp_node.specs.NodeRun.{ServedRun, Broke}
 use Rattle.udp_node.specs.Progress.{after_turns, Going, GoingOn}
 use Rattle.udp_node.specs.Sends.{LinkSide, Sends, Try, Made, Lost, Found, counted, failures, last_count}
@@ -26,7 +26,7 @@ use Rattle.udp_node.specs.Timing.{armed, rearmed, is_failure, Takes, Gives}
 use Rattle.udp_node.specs.Turns.{Turned, PollFailed, TurnEnds, error_of, turn_of}
 use Rattle.udp_node.specs.declared.serving.Served.{Served}
 use Rattle.outside.specs.Told.{Stays}
-use Rattle.udp_node.proofs.EffectLemmas.{done_then, nothing_done, stops_then, stops_more, Appends_none}
+use Rattle.udp_node.proofs.EffectLemmas.{acts_done, nothing_done, acts_stop, acts_stop_more, Appends_none}
 use Rattle.udp_node.proofs.SendLemmas.{no_sends}
 
 -- ---- losses
@@ -70,17 +70,17 @@ counted_is n (Found k ∷ ts) most =
 -- ---- runs
 
 module _ {S : Type 0} (next : S → Given → S × List Out) (is_done : S → Bool) (at : Address) where
-  -- the state after a turn, and what was done in it
-  abbrev after : S → ℕ → List Timer → PollAnswer → S × List Effect
-  after s now ts answer = turn_of next at s now ts answer
+  -- the state after a turn, and the acts of it
+  abbrev after : S → ℕ → List Timer → PollAnswer → S × List Act
+  after s now ts answer = turn_of next s now ts answer
 
   abbrev rest_of : ℕ → S → List Timer → ℕ → List PollAnswer → List ℕ → NodeRun
   rest_of k s ts now answers values =
-      turns_from next is_done at k (after s now ts (next_poll answers)).0 (map (rearmed now) ts) (max now (next_value values))
+      turns_from next is_done k (after s now ts (next_poll answers)).0 (map (rearmed now) ts) (max now (next_value values))
       (drop 1 answers) (later_values values)
 
   one_turn : (left : ℕ) (s : S) (ts : List Timer) (now : ℕ) (answers : List PollAnswer) (values : List ℕ) → 0 < left
-      → turns_from next is_done at left s ts now answers values ≡ turn_then (is_failure (next_poll answers))
+      → turns_from next is_done left s ts now answers values ≡ turn_then (is_failure (next_poll answers))
       (is_done (after s now ts (next_poll answers)).0) (after s now ts (next_poll answers)).1 (rest_of (left - 1) s ts now answers values)
   one_turn zero s ts now answers values some = absurd (omega (arith, some))
   one_turn (suc k) s ts now answers values some =
@@ -100,38 +100,38 @@ module _ {S : Type 0} (next : S → Given → S × List Out) (is_done : S → Bo
         answers_told = refl;
         values_told = time.1;
         so_far = [];
-        is = rw (e, first, time.0) (zero_turns (node_run next is_done at timers turns s answers values));
+        is = rw (e, first, time.0) (zero_turns (node_run next is_done timers turns s answers values));
         done = record { sends = no_sends a; lines = Appends_none h };
       }
     where
       zero_turns : (r : NodeRun) → r ≡ after_turns [] 0 r
       zero_turns r = let e : 0 + r.turns ≡ r.turns = omega arith in rw e refl
 
-  combine : (outs os : List Effect) (k : ℕ) (r : NodeRun) → after_turns outs k (after_turn os r) ≡ after_turns (outs ++ os) (k + 1) r
+  combine : (outs os : List Act) (k : ℕ) (r : NodeRun) → after_turns outs k (after_turn os r) ≡ after_turns (outs ++ os) (k + 1) r
   combine outs os k r =
       let e : k + (1 + r.turns) ≡ (k + 1) + r.turns = omega arith in
-      rw (append_assoc outs os r.effects, e) refl
+      rw (append_assoc outs os r.acts, e) refl
 
-  this_turn : (r : NodeRun) (outs : List Effect) (taken left : ℕ) (s : S) (ts : List Timer) (now : ℕ) (answers : List PollAnswer)
-      (values : List ℕ) → 0 < left → r ≡ after_turns outs taken (turns_from next is_done at left s ts now answers values)
+  this_turn : (r : NodeRun) (outs : List Act) (taken left : ℕ) (s : S) (ts : List Timer) (now : ℕ) (answers : List PollAnswer)
+      (values : List ℕ) → 0 < left → r ≡ after_turns outs taken (turns_from next is_done left s ts now answers values)
       → r ≡ after_turns outs taken
       (turn_then (is_failure (next_poll answers)) (is_done (after s now ts (next_poll answers)).0) (after s now ts (next_poll answers)).1
       (rest_of (left - 1) s ts now answers values))
   this_turn r outs taken left s ts now answers values some is =
       is ∙ ap (after_turns outs taken) (one_turn left s ts now answers values some)
 
-  turn_step : (r : NodeRun) (outs : List Effect) (taken left : ℕ) (s : S) (ts : List Timer) (now : ℕ) (answers : List PollAnswer)
-      (values : List ℕ) → 0 < left → r ≡ after_turns outs taken (turns_from next is_done at left s ts now answers values)
+  turn_step : (r : NodeRun) (outs : List Act) (taken left : ℕ) (s : S) (ts : List Timer) (now : ℕ) (answers : List PollAnswer)
+      (values : List ℕ) → 0 < left → r ≡ after_turns outs taken (turns_from next is_done left s ts now answers values)
       → is_failure (next_poll answers) ≡ false → is_done (after s now ts (next_poll answers)).0 ≡ false
       → r ≡ after_turns (outs ++ (after s now ts (next_poll answers)).1) (taken + 1) (rest_of (left - 1) s ts now answers values)
   turn_step r outs taken left s ts now answers values some is works goes =
       let one = rw (works, goes) at (this_turn r outs taken left s ts now answers values some is) in
       one ∙ combine outs (after s now ts (next_poll answers)).1 taken (rest_of (left - 1) s ts now answers values)
 
-  turn_last : (r : NodeRun) (outs : List Effect) (taken left : ℕ) (s : S) (ts : List Timer) (now : ℕ) (answers : List PollAnswer)
-      (values : List ℕ) → 0 < left → r ≡ after_turns outs taken (turns_from next is_done at left s ts now answers values)
+  turn_last : (r : NodeRun) (outs : List Act) (taken left : ℕ) (s : S) (ts : List Timer) (now : ℕ) (answers : List PollAnswer)
+      (values : List ℕ) → 0 < left → r ≡ after_turns outs taken (turns_from next is_done left s ts now answers values)
       → is_failure (next_poll answers) ≡ false → is_done (after s now ts (next_poll answers)).0 ≡ true → r ≡ record {
-        effects = outs ++ (after s now ts (next_poll answers)).1;
+        acts = outs ++ (after s now ts (next_poll answers)).1;
         turns = taken + 1;
         done = true;
         broken = false;
@@ -140,14 +140,14 @@ module _ {S : Type 0} (next : S → Given → S × List Out) (is_done : S → Bo
       rw (works, ends) at (this_turn r outs taken left s ts now answers values some is)
 
   -- what is done of a turn stands in the run
-  outs_front : (failed done : Bool) (os : List Effect) (r : NodeRun) → (more : List Effect) × ((turn_then failed done os r).effects ≡ os ++ more)
+  outs_front : (failed done : Bool) (os : List Act) (r : NodeRun) → (more : List Act) × ((turn_then failed done os r).acts ≡ os ++ more)
   outs_front true done os r = ([], sym (append-nil os))
   outs_front false true os r = ([], sym (append-nil os))
-  outs_front false false os r = (r.effects, refl)
+  outs_front false false os r = (r.acts, refl)
 
-  done_more : (outs os : List Effect) (a b c : LinkSide) (h i j : Option (List ℕ)) → Done outs a b h i
-      → Done os b c i j → Done (outs ++ os) a c h j
-  done_more outs os a b c h i j one two = done_then outs os a b c h i j one two
+  done_more : (outs os : List Act) (a b c : LinkSide) (h i j : Option (List ℕ)) → Done (effects_by at outs) a b h i
+      → Done (effects_by at os) b c i j → Done (effects_by at (outs ++ os)) a c h j
+  done_more outs os a b c h i j one two = acts_done at outs os a b c h i j one two
 
   going_on : (r : NodeRun) (turns taken : ℕ) (s t : S) (ts us : List Timer) (now then time : ℕ) (o later : Option (List PollAnswer))
       (v w : Option (List ℕ)) (a b c : LinkSide) (h i j : Option (List ℕ))
@@ -160,7 +160,7 @@ module _ {S : Type 0} (next : S → Given → S × List Out) (is_done : S → Bo
       let took : Takes (Some g.answers) later turned.answer = rw g.answers_told at turned.taken in
       let told : TellsTime (Some g.values) w time = rw g.values_told at clock in
       let state : t ≡ (after s now ts (next_poll g.answers)).0 = rw took.0 at turned.state in
-      let done : Done (after s now ts (next_poll g.answers)).1 b c i j = rw took.0 at turned.done in
+      let done : Done (effects_by at (after s now ts (next_poll g.answers)).1) b c i j = rw took.0 at turned.done in
       let works : is_failure (next_poll g.answers) ≡ false = rw took.0 at turned.works in
       let open_ : is_done (after s now ts (next_poll g.answers)).0 ≡ false = rw state at goes in
       record {
@@ -184,21 +184,21 @@ module _ {S : Type 0} (next : S → Given → S × List Out) (is_done : S → Bo
   going_turn timers turns s0 (Some x) None taken s t ts us now then time o later v w a b c h i j g within turned goes clock greatest = tt
   going_turn timers turns s0 (Some x) (Some y) taken s t ts us now then time o later v w a b c h i j g within turned goes clock greatest =
       going_on
-      (node_run next is_done at timers turns s0 x y) turns taken s t ts us now then time o later v w a b c h i j g within turned goes
+      (node_run next is_done timers turns s0 x y) turns taken s t ts us now then time o later v w a b c h i j g within turned goes
       clock greatest
 
   -- ---- ends
 
-  served_run : (r : NodeRun) (outs : List Effect) (n : ℕ) (d : Bool) (a b c : LinkSide) (h i : Option (List ℕ))
+  served_run : (r : NodeRun) (outs : List Act) (n : ℕ) (d : Bool) (a b c : LinkSide) (h i : Option (List ℕ))
       → r ≡ record {
-        effects = outs;
+        acts = outs;
         turns = n;
         done = d;
         broken = false;
-      } → Done outs a c h i → record b {
+      } → Done (effects_by at outs) a c h i → record b {
         lost =
             c.lost;
-      } ≡ c → ServedRun r (record { turns = n; lost = c.lost; done = d }) a (record b { lost = c.lost }) h i
+      } ≡ c → ServedRun at r (record { turns = n; lost = c.lost; done = d }) a (record b { lost = c.lost }) h i
   served_run r outs n d a b c h i e done same = record {
     turns = sym (ap (λ x. x.turns) e);
     done = sym (ap (λ x. x.done) e);
@@ -210,12 +210,12 @@ module _ {S : Type 0} (next : S → Given → S × List Out) (is_done : S → Bo
       (v : Option (List ℕ)) (a b c d : LinkSide) (h i j : Option (List ℕ))
       → GoingOn next is_done at r taken (turns - taken) s ts now o v a b h i → taken < turns → Turned next at s t now ts us o later b c i j
       → is_done t ≡ true → record d { lost = c.lost } ≡ c
-      → ServedRun r (record { turns = taken + 1; lost = c.lost; done = true }) a (record d { lost = c.lost }) h j
+      → ServedRun at r (record { turns = taken + 1; lost = c.lost; done = true }) a (record d { lost = c.lost }) h j
   served_done r turns taken s t ts us now o later v a b c d h i j g within turned ends same =
       let some : 0 < turns - taken = omega (arith, within) in
       let took : Takes (Some g.answers) later turned.answer = rw g.answers_told at turned.taken in
       let state : t ≡ (after s now ts (next_poll g.answers)).0 = rw took.0 at turned.state in
-      let done : Done (after s now ts (next_poll g.answers)).1 b c i j = rw took.0 at turned.done in
+      let done : Done (effects_by at (after s now ts (next_poll g.answers)).1) b c i j = rw took.0 at turned.done in
       let works : is_failure (next_poll g.answers) ≡ false = rw took.0 at turned.works in
       let closed : is_done (after s now ts (next_poll g.answers)).0 ≡ true = rw state at ends in
       served_run r (g.so_far ++ (after s now ts (next_poll g.answers)).1) (taken + 1) true a d c h j
@@ -230,13 +230,13 @@ module _ {S : Type 0} (next : S → Given → S × List Out) (is_done : S → Bo
   serves_done timers turns s0 None v0 taken s t ts us now o later v a b c d h i j g within turned ends same = tt
   serves_done timers turns s0 (Some x) None taken s t ts us now o later v a b c d h i j g within turned ends same = tt
   serves_done timers turns s0 (Some x) (Some y) taken s t ts us now o later v a b c d h i j g within turned ends same =
-      served_done (node_run next is_done at timers turns s0 x y) turns taken s t ts us now o later v a b c d h i j g within turned ends same
+      served_done (node_run next is_done timers turns s0 x y) turns taken s t ts us now o later v a b c d h i j g within turned ends same
 
-  no_turn : (r : NodeRun) (outs : List Effect) (taken left : ℕ) (s : S) (ts : List Timer) (now : ℕ) (answers : List PollAnswer)
-      (values : List ℕ) → left ≡ 0 → r ≡ after_turns outs taken (turns_from next is_done at left s ts now answers values)
-      → r ≡ record { effects = outs; turns = taken; done = is_done s; broken = false }
+  no_turn : (r : NodeRun) (outs : List Act) (taken left : ℕ) (s : S) (ts : List Timer) (now : ℕ) (answers : List PollAnswer)
+      (values : List ℕ) → left ≡ 0 → r ≡ after_turns outs taken (turns_from next is_done left s ts now answers values)
+      → r ≡ record { acts = outs; turns = taken; done = is_done s; broken = false }
   no_turn r outs taken left s ts now answers values none is =
-      let one : r ≡ after_turns outs taken (record { effects = []; turns = 0; done = is_done s; broken = false }) = rw none at is in
+      let one : r ≡ after_turns outs taken (record { acts = []; turns = 0; done = is_done s; broken = false }) = rw none at is in
       let e : taken + 0 ≡ taken = omega arith in
       let f : outs ++ [] ≡ outs = append-nil outs in
       rw (e, f) at one
@@ -250,31 +250,31 @@ module _ {S : Type 0} (next : S → Given → S × List Out) (is_done : S → Bo
   serves_last timers turns s0 (Some x) None taken s ts now o v a b d h i done g all is same = tt
   serves_last timers turns s0 (Some x) (Some y) taken s ts now o v a b d h i done g all is same =
       let none : turns - taken ≡ 0 = omega (arith, all) in
-      rw is (served_run (node_run next is_done at timers turns s0 x y) g.so_far taken (is_done s) a d b h i
-      (no_turn (node_run next is_done at timers turns s0 x y) g.so_far taken (turns - taken) s ts now g.answers g.values none g.is) g.done same)
+      rw is (served_run (node_run next is_done timers turns s0 x y) g.so_far taken (is_done s) a d b h i
+      (no_turn (node_run next is_done timers turns s0 x y) g.so_far taken (turns - taken) s ts now g.answers g.values none g.is) g.done same)
 
   -- what stops a turn stops the run
   stops_run : (r : NodeRun) (turns taken : ℕ) (s : S) (ts : List Timer) (now : ℕ) (o : Option (List PollAnswer)) (v : Option (List ℕ))
       (e : DeviceError) (a b c : LinkSide) (h i j : Option (List ℕ)) (answer : PollAnswer)
       → GoingOn next is_done at r taken (turns - taken) s ts now o v a b h i → taken < turns → Gives o answer
-      → Stops (after s now ts answer).1 e b c i j → Stops r.effects e a c h j
+      → Stops (effects_by at (after s now ts answer).1) e b c i j → Stops (effects_by at r.acts) e a c h j
   stops_run r turns taken s ts now o v e a b c h i j answer g within gives stops =
       let some : 0 < turns - taken = omega (arith, within) in
       let gave : Gives (Some g.answers) answer = rw g.answers_told at gives in
-      let here : Stops (after s now ts (next_poll g.answers)).1 e b c i j = rw gave at stops in
+      let here : Stops (effects_by at (after s now ts (next_poll g.answers)).1) e b c i j = rw gave at stops in
       let front =
       outs_front (is_failure (next_poll g.answers)) (is_done (after s now ts (next_poll g.answers)).0)
       (after s now ts (next_poll g.answers)).1 (rest_of (turns - taken - 1) s ts now g.answers g.values) in
-      let is : r.effects ≡ g.so_far ++ ((after s now ts (next_poll g.answers)).1 ++ front.0) =
-      ap (λ x. x.effects) (this_turn r g.so_far taken (turns - taken) s ts now g.answers g.values some g.is) ∙ ap (λ os. g.so_far ++ os) front.1 in
+      let is : r.acts ≡ g.so_far ++ ((after s now ts (next_poll g.answers)).1 ++ front.0) =
+      ap (λ x. x.acts) (this_turn r g.so_far taken (turns - taken) s ts now g.answers g.values some g.is) ∙ ap (λ os. g.so_far ++ os) front.1 in
       rw is
-      (stops_then g.so_far ((after s now ts (next_poll g.answers)).1 ++ front.0) e a b c h i j g.done
-      (stops_more (after s now ts (next_poll g.answers)).1 front.0 e b c i j here))
+      (acts_stop at g.so_far ((after s now ts (next_poll g.answers)).1 ++ front.0) e a b c h i j g.done
+      (acts_stop_more at (after s now ts (next_poll g.answers)).1 front.0 e b c i j here))
 
   -- a poll that failed ends the run
   breaks_run : (r : NodeRun) (turns taken : ℕ) (s : S) (ts : List Timer) (now : ℕ) (o : Option (List PollAnswer)) (v : Option (List ℕ))
       (a b c : LinkSide) (h i j : Option (List ℕ)) → GoingOn next is_done at r taken (turns - taken) s ts now o v a b h i → taken < turns
-      → PollFailed next at s now ts o b c i j → Broke r a c h j
+      → PollFailed next at s now ts o b c i j → Broke at r a c h j
   breaks_run r turns taken s ts now o v a b c h i j g within failed =
       let some : 0 < turns - taken = omega (arith, within) in
       let gave : Failure ≡ next_poll g.answers = rw g.answers_told at failed.gives in
@@ -282,7 +282,7 @@ module _ {S : Type 0} (next : S → Given → S × List Out) (is_done : S → Bo
       let is : r ≡ after_turns g.so_far taken
       (turn_then true (is_done (after s now ts Failure).0) (after s now ts Failure).1
       (rest_of (turns - taken - 1) s ts now g.answers g.values)) = rw (← gave) at one in
-      let done : Done (after s now ts Failure).1 b c i j = failed.done in
+      let done : Done (effects_by at (after s now ts Failure).1) b c i j = failed.done in
       record {
         broken = ap (λ x. x.broken) is;
         effects = rw is (done_more g.so_far (after s now ts Failure).1 a b c h i j g.done done);
@@ -296,19 +296,19 @@ module _ {S : Type 0} (next : S → Given → S × List Out) (is_done : S → Bo
   serves_err timers turns s0 None v0 taken s t ts us now o later v e a b c d h i j g within ends same = tt
   serves_err timers turns s0 (Some x) None taken s t ts us now o later v e a b c d h i j g within ends same = tt
   serves_err timers turns s0 (Some x) (Some y) taken s t ts us now o later v LinkFault a b c d h i j g within ends same =
-      (c.lost, rw same (breaks_run (node_run next is_done at timers turns s0 x y) turns taken s ts now o v a b c h i j g within ends))
+      (c.lost, rw same (breaks_run (node_run next is_done timers turns s0 x y) turns taken s ts now o v a b c h i j g within ends))
   serves_err timers turns s0 (Some x) (Some y) taken s t ts us now o later v WriteFault a b c d h i j g within ends same = (
     c.lost,
     rw same
         (stops_run
-        (node_run next is_done at timers turns s0 x y) turns taken s ts now o v writes.Failed a b c h i j ends.answer g within ends.gives
+        (node_run next is_done timers turns s0 x y) turns taken s ts now o v writes.Failed a b c h i j ends.answer g within ends.gives
         ends.stopped),
   )
   serves_err timers turns s0 (Some x) (Some y) taken s t ts us now o later v NoMemory a b c d h i j g within ends same = (
     c.lost,
     rw same
         (stops_run
-        (node_run next is_done at timers turns s0 x y) turns taken s ts now o v writes.NoMemory a b c h i j ends.answer g within ends.gives
+        (node_run next is_done timers turns s0 x y) turns taken s ts now o v writes.NoMemory a b c h i j ends.answer g within ends.gives
         ends.stopped),
   )
 
@@ -318,33 +318,33 @@ module _ {S : Type 0} (next : S → Given → S × List Out) (is_done : S → Bo
   serves_none timers turns s0 None v0 a d h same = tt
   serves_none timers turns s0 (Some x) None a d h same = tt
   serves_none timers turns s0 (Some x) (Some y) a d h same =
-      (a.lost, rw same (nothing_done (node_run next is_done at timers turns s0 x y).effects a h))
+      (a.lost, rw same (nothing_done (effects_by at (node_run next is_done timers turns s0 x y).acts) a h))
 
   -- ---- after some inputs
 
-  after_run : (os : List Effect) (r : NodeRun) (result : Result Served ServeError) (a b d : LinkSide) (h i j : Option (List ℕ))
-      → Done os a b h i → ServesRun r result b d i j → ServesRun (with_effects os r) result a d h j
+  after_run : (os : List Act) (r : NodeRun) (result : Result Served ServeError) (a b d : LinkSide) (h i j : Option (List ℕ))
+      → Done (effects_by at os) a b h i → ServesRun at r result b d i j → ServesRun at (with_acts os r) result a d h j
   after_run os r (Ok served) a b d h i j one two = record {
     turns = two.turns;
     done = two.done;
     works = two.works;
-    effects = done_more os r.effects a b (record d { lost = served.lost }) h i j one two.effects;
+    effects = done_more os r.acts a b (record d { lost = served.lost }) h i j one two.effects;
   }
   after_run os r (Err LinkFault) a b d h i j one two = (
     two.0,
     record {
       broken = two.1.broken;
-      effects = done_more os r.effects a b (record d { lost = two.0 }) h i j one two.1.effects;
+      effects = done_more os r.acts a b (record d { lost = two.0 }) h i j one two.1.effects;
     },
   )
   after_run os r (Err WriteFault) a b d h i j one two = (
     two.0,
-    (stops_then os r.effects writes.Failed
+    (acts_stop at os r.acts writes.Failed
         a b (record d { lost = two.0 }) h i j one two.1),
   )
   after_run os r (Err NoMemory) a b d h i j one two = (
     two.0,
-    (stops_then os r.effects writes.NoMemory
+    (acts_stop at os r.acts writes.NoMemory
         a b (record d { lost = two.0 }) h i j one two.1),
   )
 
@@ -358,23 +358,23 @@ module _ {S : Type 0} (next : S → Given → S × List Out) (is_done : S → Bo
   serves_after first timers turns s t (Some x) p (Some y) result a b d h i j ran stays serves =
       let told : ServesTold next is_done timers at turns (folded next s first).0 (Some x) (Some y) result b d i j =
       rw (stays, ran.state) at serves in
-      after_run (effects at (folded next s first).1) (node_run next is_done at timers turns (folded next s first).0 x y) result
+      after_run (taking next s first) (node_run next is_done timers turns (folded next s first).0 x y) result
       a b d h i j ran.done told
 
-  stops_first : (os : List Effect) (r : NodeRun) (e : DeviceError) (a b d : LinkSide) (h i : Option (List ℕ))
-      → Stops os e a b h i → record d { lost = b.lost } ≡ b
-      → ServesRun (with_effects os r) (Err (error_of e)) a d h i
+  stops_first : (os : List Act) (r : NodeRun) (e : DeviceError) (a b d : LinkSide) (h i : Option (List ℕ))
+      → Stops (effects_by at os) e a b h i → record d { lost = b.lost } ≡ b
+      → ServesRun at (with_acts os r) (Err (error_of e)) a d h i
   stops_first os r writes.Failed a b d h i stops same =
-      (b.lost, rw same (stops_more os r.effects writes.Failed a b h i stops))
+      (b.lost, rw same (acts_stop_more at os r.acts writes.Failed a b h i stops))
   stops_first os r writes.NoMemory a b d h i stops same =
-      (b.lost, rw same (stops_more os r.effects writes.NoMemory a b h i stops))
+      (b.lost, rw same (acts_stop_more at os r.acts writes.NoMemory a b h i stops))
 
   pub serves_stopped : (first : List Given) (timers : List (Tick × ℕ)) (turns : ℕ) (s : S)
       (o : Option (List PollAnswer)) (v : Option (List ℕ)) (e : DeviceError) (a b d : LinkSide) (h i : Option (List ℕ))
-      → Stops (effects at (folded next s first).1) e a b h i → record d { lost = b.lost } ≡ b
+      → Stops (effects_by at (taking next s first)) e a b h i → record d { lost = b.lost } ≡ b
       → ServesAfter next is_done first timers at turns s o v (Err (error_of e)) a d h i
   serves_stopped first timers turns s None v e a b d h i stops same = tt
   serves_stopped first timers turns s (Some x) None e a b d h i stops same = tt
   serves_stopped first timers turns s (Some x) (Some y) e a b d h i stops same =
-      stops_first (effects at (folded next s first).1) (node_run next is_done at timers turns (folded next s first).0 x y) e
+      stops_first (taking next s first) (node_run next is_done timers turns (folded next s first).0 x y) e
       a b d h i stops same

@@ -12,12 +12,12 @@ use Rattle.outside.specs.declared.link.PollAnswer.TheVariants.{Received, Nothing
 use Rattle.udp_node.specs.declared.address.Address.{Address}
 use Rattle.udp_node.specs.declared.errors.ServeError.{ServeError}
 use Rattle.udp_node.specs.declared.firing.Timer.{Timer}
-use Rattle.udp_node.specs.Effects.{Call, effects, Done, Stops}
-use Rattle.udp_node.specs.Folding.{folded, Ran}
+use Rattle.udp_node.specs.Effects.{Polling, effects_by, Done, Stops}
+use Rattle.udp_node.specs.Folding.{taking, Ran}
 use Rattle.udp_node.specs.Sends.{LinkSide, Sends}
 use Rattle.udp_node.specs.Timing.{rearmed, due_ticks, Gives, Takes}
 use Rattle.udp_node.specs.Turns.{Turned, PollFailed, TurnStopped, TurnEnds, error_of, ticked, polled}
-use Rattle.udp_node.proofs.EffectLemmas.{nothing_done, done_then, stops_then, stops_more, stopped_then, polled_done, done_quiet}
+use Rattle.udp_node.proofs.EffectLemmas.{nothing_done, acts_done, acts_stop, acts_stop_more, acts_stopped, polled_done, done_quiet}
 
 -- some answer comes next
 abbrev next_answer : Option (List PollAnswer) → PollAnswer
@@ -75,29 +75,29 @@ turn_at next p q s t now ts us o later result a b h i same ends =
 
 module _ {S : Type 0} (next : S → Given → S × List Out) (at : Address) where
   pub stopped_firing : (s t : S) (now : ℕ) (ts us : List Timer) (o later : Option (List PollAnswer)) (e : DeviceError) (a b : LinkSide)
-      (h i : Option (List ℕ)) → Stops (effects at (folded next s (due_ticks now ts)).1) e a b h i
+      (h i : Option (List ℕ)) → Stops (effects_by at (taking next s (due_ticks now ts))) e a b h i
       → TurnEnds next at {T = Unit {0}} s t now ts us o later (Err (error_of e)) a b h i
   stopped_firing s t now ts us o later writes.Failed a b h i one = record {
     answer = next_answer o;
     gives = gives_next o;
-    stopped = stops_more (ticked next at s now ts).1 (polled next at (ticked next at s now ts).0 (next_answer o)).1 writes.Failed a b h i one;
+    stopped = acts_stop_more at (ticked next s now ts).1 (polled next (ticked next s now ts).0 (next_answer o)).1 writes.Failed a b h i one;
   }
   stopped_firing s t now ts us o later writes.NoMemory a b h i one = record {
     answer = next_answer o;
     gives = gives_next o;
-    stopped = stops_more (ticked next at s now ts).1 (polled next at (ticked next at s now ts).0 (next_answer o)).1 writes.NoMemory a b h i one;
+    stopped = acts_stop_more at (ticked next s now ts).1 (polled next (ticked next s now ts).0 (next_answer o)).1 writes.NoMemory a b h i one;
   }
 
   -- the poll, and what the packet gives
   packet_done : (s t : S) (d : List ℕ) (a b c : LinkSide) (h i : Option (List ℕ)) → Sends (Polled ∷ []) a b
-      → Ran next at s t (Packet d ∷ []) b c h i → Done (polled next at s (Received d)).1 a c h i
+      → Ran next at s t (Packet d ∷ []) b c h i → Done (effects_by at (polled next s (Received d)).1) a c h i
   packet_done s t d a b c h i poll two =
-      done_then (Call Polled ∷ []) (effects at (folded next s (Packet d ∷ [])).1) a b c h h i (polled_done a b h poll) two.done
+      acts_done at (Polling ∷ []) (taking next s (Packet d ∷ [])) a b c h h i (polled_done a b h poll) two.done
 
   packet_stopped : (s : S) (d : List ℕ) (e : DeviceError) (a b c : LinkSide) (h i : Option (List ℕ)) → Sends (Polled ∷ []) a b
-      → Stops (effects at (folded next s (Packet d ∷ [])).1) e b c h i → Stops (polled next at s (Received d)).1 e a c h i
+      → Stops (effects_by at (taking next s (Packet d ∷ []))) e b c h i → Stops (effects_by at (polled next s (Received d)).1) e a c h i
   packet_stopped s d e a b c h i poll two =
-      stops_then (Call Polled ∷ []) (effects at (folded next s (Packet d ∷ [])).1) e a b c h h i (polled_done a b h poll) two
+      acts_stop at (Polling ∷ []) (taking next s (Packet d ∷ [])) e a b c h h i (polled_done a b h poll) two
 
   -- no datagram came
   pub silent_turn : (s t : S) (now : ℕ) (ts us : List Timer) (o mid later : Option (List PollAnswer)) (a b c : LinkSide)
@@ -109,7 +109,7 @@ module _ {S : Type 0} (next : S → Given → S × List Out) (at : Address) wher
     works = refl;
     timers = timers;
     state = ran.state;
-    done = done_then (ticked next at s now ts).1 (Call Polled ∷ []) a b c h i i ran.done (polled_done b c i poll);
+    done = acts_done at (ticked next s now ts).1 (Polling ∷ []) a b c h i i ran.done (polled_done b c i poll);
   }
 
   -- a datagram came
@@ -119,7 +119,7 @@ module _ {S : Type 0} (next : S → Given → S × List Out) (at : Address) wher
       → Ran next at t u (Packet shown ∷ []) c e i j → Stays later last → Turned next at s u now ts us o last a e h j
   packet_turn s t u now ts us o mid later last d shown a b c e h i j ran stays answer poll timers same two after =
       let same_state : Ran next at t u (Packet d ∷ []) c e i j = rw same at two in
-      let here : Ran next at (ticked next at s now ts).0 u (Packet d ∷ []) c e i j = rw ran.state at same_state in
+      let here : Ran next at (ticked next s now ts).0 u (Packet d ∷ []) c e i j = rw ran.state at same_state in
       record {
         answer = Received d;
         taken = takes_stays o later last (Received d) (poll_taken o mid later (Some d) stays answer) after;
@@ -127,27 +127,27 @@ module _ {S : Type 0} (next : S → Given → S × List Out) (at : Address) wher
         timers = timers;
         state = here.state;
         done =
-            done_then (ticked next at s now ts).1 (polled next at (ticked next at s now ts).0 (Received d)).1 a b e h i j ran.done
-            (packet_done (ticked next at s now ts).0 u d b c e i j poll here);
+            acts_done at (ticked next s now ts).1 (polled next (ticked next s now ts).0 (Received d)).1 a b e h i j ran.done
+            (packet_done (ticked next s now ts).0 u d b c e i j poll here);
       }
 
   -- a datagram came, and what the core gave was not done
   pub packet_stops : (s t u : S) (now : ℕ) (ts us : List Timer) (o mid later last : Option (List PollAnswer)) (d shown : List ℕ)
       (x : DeviceError) (a b c e : LinkSide) (h i j : Option (List ℕ)) → Ran next at s t (due_ticks now ts) a b h i → Stays o mid
       → Polls mid later (Ok (Some d)) → Sends (Polled ∷ []) b c → shown ≡ d
-      → Stops (effects at (folded next t (Packet shown ∷ [])).1) x c e i j → Stays later last
+      → Stops (effects_by at (taking next t (Packet shown ∷ []))) x c e i j → Stays later last
       → TurnEnds next at {T = Unit {0}} s u now ts us o last (Err (error_of x)) a e h j
   packet_stops s t u now ts us o mid later last d shown x a b c e h i j ran stays answer poll same two after =
-      let same_state : Stops (effects at (folded next t (Packet d ∷ [])).1) x c e i j = rw same at two in
-      let here : Stops (effects at (folded next (ticked next at s now ts).0 (Packet d ∷ [])).1) x c e i j = rw ran.state at same_state in
+      let same_state : Stops (effects_by at (taking next t (Packet d ∷ []))) x c e i j = rw same at two in
+      let here : Stops (effects_by at (taking next (ticked next s now ts).0 (Packet d ∷ []))) x c e i j = rw ran.state at same_state in
       stopped_by s u now ts us o last d x a e h j
       (takes_gives o last (Received d) (takes_stays o later last (Received d) (poll_taken o mid later (Some d) stays answer) after))
-      (stops_then (ticked next at s now ts).1 (polled next at (ticked next at s now ts).0 (Received d)).1 x a b e h i j ran.done
-      (packet_stopped (ticked next at s now ts).0 d x b c e i j poll here))
+      (acts_stop at (ticked next s now ts).1 (polled next (ticked next s now ts).0 (Received d)).1 x a b e h i j ran.done
+      (packet_stopped (ticked next s now ts).0 d x b c e i j poll here))
     where
       stopped_by : (s u : S) (now : ℕ) (ts us : List Timer) (o last : Option (List PollAnswer)) (d : List ℕ) (x : DeviceError)
           (a e : LinkSide) (h j : Option (List ℕ)) → Gives o (Received d)
-          → Stops ((ticked next at s now ts).1 ++ (polled next at (ticked next at s now ts).0 (Received d)).1) x a e h j
+          → Stops (effects_by at ((ticked next s now ts).1 ++ (polled next (ticked next s now ts).0 (Received d)).1)) x a e h j
           → TurnEnds next at {T = Unit {0}} s u now ts us o last (Err (error_of x)) a e h j
       stopped_by s u now ts us o last d writes.Failed a e h j gives stops =
           record { answer = Received d; gives = gives; stopped = stops }
@@ -160,7 +160,7 @@ module _ {S : Type 0} (next : S → Given → S × List Out) (at : Address) wher
       → Sends (Polled ∷ []) b c → PollFailed next at s now ts o a c h i
   failed_turn s t now ts o mid later a b c h i ran stays answer poll = record {
     gives = poll_failed o mid later stays answer;
-    done = done_then (ticked next at s now ts).1 (Call Polled ∷ []) a b c h i i ran.done (polled_done b c i poll);
+    done = acts_done at (ticked next s now ts).1 (Polling ∷ []) a b c h i i ran.done (polled_done b c i poll);
   }
 
   -- memory ran out at the poll
@@ -170,7 +170,7 @@ module _ {S : Type 0} (next : S → Given → S × List Out) (at : Address) wher
     answer = next_answer o;
     gives = gives_next o;
     stopped =
-        stopped_then (ticked next at s now ts).1 (polled next at (ticked next at s now ts).0 (next_answer o)).1 a c c h i i
-        (done_quiet (ticked next at s now ts).1 a b c h i ran.done sends)
-        (nothing_done (polled next at (ticked next at s now ts).0 (next_answer o)).1 c i);
+        acts_stopped at (ticked next s now ts).1 (polled next (ticked next s now ts).0 (next_answer o)).1 a c c h i i
+        (done_quiet (effects_by at (ticked next s now ts).1) a b c h i ran.done sends)
+        (nothing_done (effects_by at (polled next (ticked next s now ts).0 (next_answer o)).1) c i);
   }

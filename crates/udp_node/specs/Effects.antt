@@ -2,12 +2,14 @@
 use Rattle.std.specs.Prelude.{◌≡◌, ℕ, ◌<◌, List, [], ◌∷◌, ◌++◌, length, map, take, Option, Result, Ok, Err}
 use Rattle.std.specs.List.{flat_map}
 use Rattle.std.specs.Io.KnownBytes.{Appends}
+use Rattle.nop_types.specs.Given.{Given}
 use Rattle.nop_types.specs.declared.output.Out.{Out}
 use Rattle.nop_types.specs.declared.output.Out.TheVariants as outs
 use Rattle.outside.specs.Fronts.{AppendsFront}
 use Rattle.outside.specs.declared.errors.DeviceError.{DeviceError}
 use Rattle.outside.specs.declared.errors.DeviceError.TheVariants.{Failed, NoMemory}
 use Rattle.outside.specs.declared.link.LinkCall.{LinkCall}
+use Rattle.outside.specs.declared.link.LinkCall.TheVariants.{Polled}
 use Rattle.transcript_text.specs.Transcript.{submit_line, accept_line}
 use Rattle.udp_node.specs.declared.address.Address.{Address}
 use Rattle.udp_node.specs.Ports.{datagrams_to}
@@ -42,6 +44,30 @@ effects_of at (outs.Trimmed first entries) = []
 
 abbrev pub effects : Address → List Out → List Effect
 effects at os = flat_map (effects_of at) os
+
+-- a step of the core: what it took, and what it gave
+pub record Step : Type 0 where
+  pub given : Given
+  pub outs : List Out
+
+-- an act of a node: it polls its link, or its core takes a step
+pub data Act : Type 0 where
+  Polling : Act
+  Stepping : Step → Act
+
+-- the steps among them
+abbrev pub steps_in : List Act → List Step
+steps_in [] = []
+steps_in (Polling ∷ acts) = steps_in acts
+steps_in (Stepping x ∷ acts) = x ∷ steps_in acts
+
+-- what an act asks of the outside
+abbrev pub act_effects : Address → Act → List Effect
+act_effects at Polling = Call Polled ∷ []
+act_effects at (Stepping x) = effects at x.outs
+
+abbrev pub effects_by : Address → List Act → List Effect
+effects_by at acts = flat_map (act_effects at) acts
 
 -- the calls on the link, in order
 abbrev pub calls : List Effect → List LinkCall

@@ -1,11 +1,11 @@
 -- A core over several inputs.
 use Rattle.std.specs.Io.KnownBytes.{Appends}
-use Rattle.std.specs.Prelude.{◌≡◌, ℕ, List, [], ◌∷◌, ◌++◌, Option, Result, Ok, Err, ⊤}
+use Rattle.std.specs.Prelude.{◌≡◌, ℕ, List, [], ◌∷◌, ◌++◌, map, Option, Result, Ok, Err, ⊤}
 use Rattle.nop_types.specs.Given.{Given, Packet, Ticked, Submit}
 use Rattle.nop_types.specs.declared.output.Out.{Out}
 use Rattle.outside.specs.declared.errors.DeviceError.{DeviceError}
 use Rattle.udp_node.specs.declared.address.Address.{Address}
-use Rattle.udp_node.specs.Effects.{effects, lines, Done, Stops}
+use Rattle.udp_node.specs.Effects.{Act, Stepping, Step, effects, effects_by, lines, Done, Stops}
 use Rattle.udp_node.specs.Sends.{LinkSide}
 
 -- an input from outside is a packet or a tick
@@ -21,15 +21,23 @@ module _ {S : Type 0} (next : S → Given → S × List Out) where
   folded s [] = (s, [])
   folded s (i ∷ is) = ((folded (next s i).0 is).0, (next s i).1 ++ (folded (next s i).0 is).1)
 
+  -- its steps over them
+  abbrev pub steps_of : S → List Given → List Step
+  steps_of s [] = []
+  steps_of s (i ∷ is) = record { given = i; outs = (next s i).1 } ∷ steps_of (next s i).0 is
+
+  abbrev pub taking : S → List Given → List Act
+  taking s inputs = map Stepping (steps_of s inputs)
+
   -- the inputs were taken, and what they gave was done
   pub record Ran (at : Address) (s t : S) (inputs : List Given) (a b : LinkSide) (before now : Option (List ℕ)) : Type 0 where
     pub state : t ≡ (folded s inputs).0
-    pub done : Done (effects at (folded s inputs).1) a b before now
+    pub done : Done (effects_by at (taking s inputs)) a b before now
 
   abbrev pub Runs : {T : Type 0} → Address → S → S → List Given → Result T DeviceError → LinkSide → LinkSide → Option (List ℕ)
       → Option (List ℕ) → Type 0
   Runs at s t inputs (Ok r) a b before now = Ran at s t inputs a b before now
-  Runs at s t inputs (Err e) a b before now = Stops (effects at (folded s inputs).1) e a b before now
+  Runs at s t inputs (Err e) a b before now = Stops (effects_by at (taking s inputs)) e a b before now
 
   -- whatever the link and the clock tell: the core took the first inputs and then some packets and ticks, and the lines of what it gave
   -- were written
