@@ -4,7 +4,6 @@ ghost use Rattle.udp_node.specs.Ports.{is_skipped, unless, datagrams_to, datagra
 ghost use Rattle.udp_node.specs.Sends.{side_of, SendsAll, Unpolled};
 
 use crate::Address;
-use crate::address::Targets;
 use nop_types::{Dest, NoMemory};
 use outside::{Link, LinkError};
 
@@ -57,27 +56,30 @@ fn send_unless_skipped<L: Link>(
     }
 }
 
+/// Sends a datagram to each of so many ports, but for the one that is left out.
 fn send_each<L: Link>(
-    targets: Targets,
+    first: u16,
+    count: u16,
+    skipped: Option<u16>,
     bytes: &[u8],
     link: &mut L,
     lost: &mut u64,
 ) -> Result<(), NoMemory>
-    requires { targets.first + targets.count ≤ 65535 }
-    ensures sends { SendsAll (datagrams_from bytes.now targets.skipped targets.first
-        targets.count) result
+    requires { first + count ≤ 65535 }
+    ensures sends { SendsAll (datagrams_from bytes.now skipped first count) result
         (side_of L.Link link.old lost.old) (side_of L.Link link.new lost.new) }
     ensures unpolled { Unpolled L.Link link.old link.new }
     ensures port { L.own_port link.new ≡ L.own_port link.old }
 {
-    for i in 0..targets.count {
-        send_unless_skipped(targets.first + i, targets.skipped, bytes, link, lost)?;
+    for i in 0..count {
+        send_unless_skipped(first + i, skipped, bytes, link, lost)?;
     }
     Ok(())
 }
 
 /// Sends a datagram to each port of its destination, in ascending order; one to all replicas not to the own port. Failed
 /// sends are counted; where memory runs out, what was sent before is sent.
+#[tactic(auto, using(crate::proofs::SendLemmas::then_all, crate::proofs::SendLemmas::front_more))]
 pub fn send_to<L: Link>(
     at: &Address,
     dest: Dest,
@@ -90,5 +92,7 @@ pub fn send_to<L: Link>(
     ensures unpolled { Unpolled L.Link link.old link.new }
     ensures port { L.own_port link.new ≡ L.own_port link.old }
 {
-    send_each(at.targets(dest), bytes, link, lost)
+    let targets = at.targets(dest);
+    send_each(targets.first, targets.count, targets.skipped, bytes, link, lost)?;
+    send_each(at.second_port(), targets.more, None, bytes, link, lost)
 }
