@@ -5,7 +5,7 @@ use Rattle.std.specs.Prelude.{map}
 use Rattle.std.proofs.lemmas.Option.{none-some, same_Some}
 use Rattle.lemmas.proofs.Members.{Has-none, Has-rest, Has-append_left, Has-append_right, Has-append_cases}
 use Rattle.nop_types.specs.Configuration.{Configuration}
-use Rattle.nop_types.specs.Given.{Given, Packet, Ticked, Submit}
+use Rattle.nop_types.specs.Given.{Given, Packet, Ticked}
 use Rattle.nop_types.specs.Lists.{Has}
 use Rattle.nop_types.specs.declared.output.Accept.{Accept}
 use Rattle.nop_types.specs.declared.output.Dest.{Dest}
@@ -36,11 +36,11 @@ none_accepted : (number last : ℕ) (outs : List Out) → TakesTurns number None
 none_accepted number last [] t none client id result h = Has-none (Accepted client id result) h
 none_accepted number last (Submitted r ∷ outs) t none client id result h = absurd cc
 none_accepted number last (Send dest bytes ∷ outs) t none client id result h = absurd t.0
-none_accepted number last (Trimmed first entries ∷ outs) t none client id result h = absurd t
 none_accepted number last (Accepted c k a ∷ outs) t none client id result h = let held = t.0 in absurd cc
 none_accepted number last (Busy c ∷ outs) t none client id result (zero, e) = absurd cc
 none_accepted number last (Busy c ∷ outs) t none client id result (suc i, e) =
     none_accepted number last outs t.1 none client id result (i, e)
+none_accepted number last (_ ∷ outs) t none client id result h = absurd t
 
 -- what is accepted is the client's own
 accepted_own : (number : ℕ) (held : Option Request) (last : ℕ) (outs : List Out) → TakesTurns number held last outs → (client id : ℕ)
@@ -58,7 +58,7 @@ accepted_own number held last (Accepted c k a ∷ outs) t client id result (suc 
     accepted_own number None last outs t.3 client id result (i, e)
 accepted_own number held last (Busy c ∷ outs) t client id result (zero, e) = absurd cc
 accepted_own number held last (Busy c ∷ outs) t client id result (suc i, e) = accepted_own number held last outs t.1 client id result (i, e)
-accepted_own number held last (Trimmed first entries ∷ outs) t client id result h = absurd t
+accepted_own number held last (_ ∷ outs) t client id result h = absurd t
 
 -- a request with these fields
 request_is : (number : ℕ) (op : List ℕ) (client id : ℕ) (given : List ℕ) → client ≡ number → id ≡ 1 → given ≡ op
@@ -73,9 +73,9 @@ first_submitted number op (Submitted r ∷ outs) t one =
     let same : r.op ≡ op = cc in
     (zero, ap (λ (q : Request). Some (Submitted q)) (request_is number op r.client r.id r.op t.1 t.2 same))
 first_submitted number op (Send dest bytes ∷ outs) t one = absurd t.0
-first_submitted number op (Trimmed first entries ∷ outs) t one = absurd t
 first_submitted number op (Accepted c k a ∷ outs) t one = let held = t.0 in absurd cc
 first_submitted number op (Busy c ∷ outs) t one = Has-rest (Submitted (request number op)) (Busy c) outs (first_submitted number op outs t.1 one)
+first_submitted number op (_ ∷ outs) t one = absurd t
 
 module _ (at : Address) where
   abbrev text : List Out → List ℕ
@@ -90,9 +90,9 @@ module _ (at : Address) where
   nothing_written number last [] t none = refl
   nothing_written number last (Submitted r ∷ outs) t none = absurd cc
   nothing_written number last (Send dest bytes ∷ outs) t none = absurd t.0
-  nothing_written number last (Trimmed first entries ∷ outs) t none = absurd t
   nothing_written number last (Accepted c k a ∷ outs) t none = let held = t.0 in absurd cc
   nothing_written number last (Busy c ∷ outs) t none = nothing_written number last outs t.1 none
+  nothing_written number last (_ ∷ outs) t none = absurd t
 
   -- with an open request and no op to come, the line of the acceptance is all that is written
   accept_written : (number last : ℕ) (r : Request) (outs : List Out) → TakesTurns number (Some r) last outs → ops_of outs ≡ []
@@ -112,7 +112,7 @@ module _ (at : Address) where
   accept_written number last r (Busy c ∷ outs) t none client id result (zero, e) = absurd cc
   accept_written number last r (Busy c ∷ outs) t none client id result (suc i, e) =
       accept_written number last r outs t.1 none client id result (i, e)
-  accept_written number last r (Trimmed first entries ∷ outs) t none client id result h = absurd t
+  accept_written number last r (_ ∷ outs) t none client id result h = absurd t
 
   -- with one op to come, the line of its request comes first
   both_written : (number : ℕ) (op : List ℕ) (outs : List Out) → TakesTurns number None 0 outs → ops_of outs ≡ op ∷ []
@@ -127,10 +127,10 @@ module _ (at : Address) where
       ap (λ (q : Request). submit_line q ++ text outs) same
       ∙ ap (λ (l : List ℕ). submit_line (request number op) ++ l) (accept_written number 1 r outs t.3 none client id result (i, e))
   both_written number op (Send dest bytes ∷ outs) t one client id result h = absurd t.0
-  both_written number op (Trimmed first entries ∷ outs) t one client id result h = absurd t
   both_written number op (Accepted c k a ∷ outs) t one client id result h = let held = t.0 in absurd cc
   both_written number op (Busy c ∷ outs) t one client id result (zero, e) = absurd cc
   both_written number op (Busy c ∷ outs) t one client id result (suc i, e) = both_written number op outs t.1 one client id result (i, e)
+  both_written number op (_ ∷ outs) t one client id result h = absurd t
 
 -- ---- the replies with which it was accepted
 
@@ -184,7 +184,7 @@ no_submit : (xs : List Given) → AllOutside xs → HasNoSubmit xs
 no_submit [] outside = tt
 no_submit (Packet bytes ∷ xs) outside = no_submit xs outside
 no_submit (Ticked tick ∷ xs) outside = no_submit xs outside
-no_submit (Submit op ∷ xs) outside = absurd outside
+no_submit _ outside = absurd outside
 
 module _ (config : Configuration) (number : ℕ) (op : List ℕ) (inputs : List Given) (outside : AllOutside inputs) where
   abbrev start : ClientState

@@ -129,11 +129,9 @@ EndsObserved at number op turns (Some answers) (Some values) result a b =
 
 -- the error where no link was attached
 abbrev pub IsUnattached : Result (List ℕ) CallError → Type 0
-IsUnattached (Ok result) = ⊥
 IsUnattached (Err PortFault) = ⊤
-IsUnattached (Err LinkFault) = ⊥
-IsUnattached (Err Unanswered) = ⊥
 IsUnattached (Err NoMemory) = ⊤
+IsUnattached _ = ⊥
 
 -- what is seen of a link that was given back: its port, its failed polls, its calls and its losses
 pub record Used : Type 0 where

@@ -8,7 +8,7 @@ use Rattle.command_line.specs.declared.command.Command.{Command}
 use Rattle.command_line.specs.declared.command.Command.TheVariants.{Replay, Client}
 use Rattle.command_line.specs.declared.command.Site.{Site}
 use Rattle.nop_types.specs.Meaning.{Meaning}
-use Rattle.nop_types.specs.Given.{Given, Packet, Ticked, Submit}
+use Rattle.nop_types.specs.Given.{Given, Packet, Ticked}
 use Rattle.nop_types.specs.declared.output.Actor.TheVariants as actors
 use Rattle.one_box.specs.Showing.{LinkView}
 use Rattle.udp_node.specs.Folding.{folded, AllOutside}
@@ -21,7 +21,7 @@ free : (xs : List Given) → AllOutside xs → HasNoSubmit xs
 free [] out = tt
 free (Packet bytes ∷ xs) out = free xs out
 free (Ticked tick ∷ xs) out = free xs out
-free (Submit op ∷ xs) out = absurd out
+free _ out = absurd out
 
 state_is : (s : ClientState) (xs : List Given) → (folded client.next s xs).0 ≡ after s xs
 state_is s [] = refl

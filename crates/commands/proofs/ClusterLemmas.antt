@@ -28,9 +28,6 @@ module _ {S L : Type 0} (m : Meaning S) (w : boxed.LinkView L) (p : PortsView L)
       → ClusterCommandEnds m c w p values s h i → ¬ Rose p.faults_before p.faults_after → (s ≡ statuses.WriteFault → Rose x y) → ¬ Rose x y
       → ¬ PollFailed w p.before p.after → ClusterEndsWithoutFault s
   cluster_ends_well (Some (Cluster site ops)) statuses.Done h i x y runs ends ports write sink polls = tt
-  cluster_ends_well (Some (Cluster site ops)) statuses.Malformed h i x y runs ends ports write sink polls = ends
-  cluster_ends_well (Some (Cluster site ops)) statuses.Usage h i x y runs ends ports write sink polls = ends
-  cluster_ends_well (Some (Cluster site ops)) statuses.ReadFault h i x y runs ends ports write sink polls = ends
   cluster_ends_well (Some (Cluster site ops)) statuses.WriteFault h i x y runs ends ports write sink polls = sink (write refl)
   cluster_ends_well (Some (Cluster site ops)) statuses.LinkFault h i x y runs ends ports write sink polls =
       elim ends.cause [
@@ -39,7 +36,7 @@ module _ {S L : Type 0} (m : Meaning S) (w : boxed.LinkView L) (p : PortsView L)
       ]
   cluster_ends_well (Some (Cluster site ops)) statuses.NoMemory h i x y runs ends ports write sink polls = tt
   cluster_ends_well (Some (Cluster site ops)) statuses.Unanswered h i x y runs ends ports write sink polls = tt
-  cluster_ends_well (Some (Cluster site ops)) statuses.Refuted h i x y runs ends ports write sink polls = ends
+  cluster_ends_well (Some (Cluster site ops)) _ h i x y runs ends ports write sink polls = ends
   cluster_ends_well _ s h i x y runs ends ports write sink polls = absurd cc
 
   -- links whose polls never fail

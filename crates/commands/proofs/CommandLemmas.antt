@@ -44,8 +44,7 @@ module _ {S L : Type 0} (m : Meaning S) (w : LinkView L) (p : PortsView L) (valu
       ends_well (controller_task site number install) w p values h i s x y ends ports write sink polls
   command_ends_well (Some (Client id site ops)) s h i x y runs ends ports write sink polls =
       ends_well (client_task id site ops) w p values h i s x y ends ports write sink polls
-  command_ends_well (Some (Cluster site ops)) s h i x y runs ends ports write sink polls = absurd cc
-  command_ends_well _ s h i x y runs ends ports write sink polls = cc
+  command_ends_well _ s h i x y runs ends ports write sink polls = absurd cc
 
   nowhere : {T : Type 0} (k : NodeTask T) (h : Option (List ℕ)) → p.after ≡ p.before → NodeEnds k w p values statuses.NoMemory h h
   nowhere k h same = inl (record { given_back = same; status = tt; cause = λ is. cc; written = refl })
@@ -80,12 +79,7 @@ no_drawing m _ h = tt
 pub draws_well : {S : Type 0} (m : Meaning S) (c : Option Command) (s : Status) (h i : Option (List ℕ)) (x y : ℕ) → draws c ≡ true
     → DrawingEnds m c s h i → (s ≡ statuses.WriteFault → Rose x y) → ¬ Rose x y → GeneratesWithoutFault s
 draws_well m (Some (Gen number count)) statuses.Done h i x y is ends write sink = tt
-draws_well m (Some (Gen number count)) statuses.Malformed h i x y is ends write sink = ends
-draws_well m (Some (Gen number count)) statuses.Usage h i x y is ends write sink = ends
-draws_well m (Some (Gen number count)) statuses.ReadFault h i x y is ends write sink = ends
 draws_well m (Some (Gen number count)) statuses.WriteFault h i x y is ends write sink = sink (write refl)
-draws_well m (Some (Gen number count)) statuses.LinkFault h i x y is ends write sink = ends
 draws_well m (Some (Gen number count)) statuses.NoMemory h i x y is ends write sink = tt
-draws_well m (Some (Gen number count)) statuses.Unanswered h i x y is ends write sink = ends
-draws_well m (Some (Gen number count)) statuses.Refuted h i x y is ends write sink = ends
+draws_well m (Some (Gen number count)) _ h i x y is ends write sink = ends
 draws_well m _ s h i x y is ends write sink = absurd cc

@@ -188,16 +188,12 @@ module _ {S L : Type 0} (k : NodeTask S) (w : LinkView L) (p : PortsView L) (val
       → (s ≡ statuses.WriteFault → Rose x y) → ¬ Rose x y
       → ((link : L) → p.after ≡ p.before ++ link ∷ [] → ¬ Rose 0 (w.faults link)) → EndsNodeWithoutFault k.waits s
   ends_well statuses.Done x y ends ports write sink polls = tt
-  ends_well statuses.Malformed x y (inl u) ports write sink polls = absurd u.status
-  ends_well statuses.Usage x y (inl u) ports write sink polls = absurd u.status
-  ends_well statuses.ReadFault x y (inl u) ports write sink polls = absurd u.status
   ends_well statuses.WriteFault x y ends ports write sink polls = absurd (sink (write refl))
   ends_well statuses.LinkFault x y (inl u) ports write sink polls = absurd (ports (u.cause refl))
   ends_well statuses.LinkFault x y (inr a) ports write sink polls = absurd (polls a.link a.given_back (a.cause refl))
   ends_well statuses.NoMemory x y ends ports write sink polls = tt
-  ends_well statuses.Unanswered x y (inl u) ports write sink polls = absurd u.status
   ends_well statuses.Unanswered x y (inr a) ports write sink polls = a.status
-  ends_well statuses.Refuted x y (inl u) ports write sink polls = absurd u.status
+  ends_well _ x y (inl u) ports write sink polls = absurd u.status
   ends_well _ x y (inr a) ports write sink polls = absurd a.status
 
   pub reads_nothing : (s : Status) (P : Type 0) → NodeEnds k w p values s h i → s ≡ statuses.ReadFault → P

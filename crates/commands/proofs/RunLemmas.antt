@@ -40,13 +40,12 @@ module _ {S L : Type 0} (m : Meaning S) (d : Devices L) where
   checks_well : (s : Status) → CheckEnds m d.source.before d.source.after d.sink.before d.sink.after s
       → ReadsTo d.source.faults_before d.source.faults_after s
       → (s ≡ statuses.WriteFault → Rose d.sink.faults_before d.sink.faults_after) → Works d.source → Works d.sink → ChecksWithoutFault s
-  checks_well statuses.Malformed ends read write source sink = ends
-  checks_well statuses.Usage ends read write source sink = ends
+  checks_well statuses.Done ends read write source sink = tt
   checks_well statuses.ReadFault ends read write source sink = source (rose_at d.source.faults_before d.source.faults_after read)
   checks_well statuses.WriteFault ends read write source sink = sink (write refl)
-  checks_well statuses.LinkFault ends read write source sink = ends
-  checks_well statuses.Unanswered ends read write source sink = ends
-  checks_well _ ends read write source sink = tt
+  checks_well statuses.NoMemory ends read write source sink = tt
+  checks_well statuses.Refuted ends read write source sink = tt
+  checks_well _ ends read write source sink = ends
 
   refuses_well : (program : List ℕ) (s : Status) → UsageEnds program d.sink.before d.sink.after s
       → (s ≡ statuses.WriteFault → Rose d.sink.faults_before d.sink.faults_after) → Works d.sink → RefusesWithoutFault s

@@ -9,8 +9,7 @@ use Rattle.outside.specs.Fronts.{AppendsFront, AppendsUpTo}
 use Rattle.transcript_reader.specs.declared.check_error.CheckError.{CheckError}
 use Rattle.transcript_reader.specs.declared.check_error.CheckError.TheVariants as errors
 use Rattle.commands.specs.declared.status.Status.{Status}
-use Rattle.commands.specs.declared.status.Status.TheVariants.{Done, Malformed, Usage, ReadFault, WriteFault, LinkFault, NoMemory}
-use Rattle.commands.specs.declared.status.Status.TheVariants.{Unanswered, Refuted}
+use Rattle.commands.specs.declared.status.Status.TheVariants.{Done, ReadFault, WriteFault, NoMemory, Refuted}
 
 -- the status of a verdict whose line was written
 abbrev pub verdict_status : Result Tally CheckError → Status
@@ -45,22 +44,16 @@ module _ {S : Type 0} (m : Meaning S) where
   -- by the bytes before it, those left, and what the sink held before and holds now
   abbrev pub CheckEnds : Option (List ℕ) → Option (List ℕ) → Option (List ℕ) → Option (List ℕ) → Status → Type 0
   CheckEnds bytes left before now Done = (tally : Tally) × Told bytes left before now (Ok tally)
-  CheckEnds bytes left before now Malformed = ⊥
-  CheckEnds bytes left before now Usage = ⊥
   CheckEnds bytes left before now ReadFault = Told bytes left before now (Err errors.ReadFault)
   CheckEnds bytes left before now WriteFault = BrokeOff bytes left before now
-  CheckEnds bytes left before now LinkFault = ⊥
   CheckEnds bytes left before now NoMemory = RanOut bytes left before now
-  CheckEnds bytes left before now Unanswered = ⊥
   CheckEnds bytes left before now Refuted =
       (line : ℕ) × (clause : ℕ) × Told bytes left before now (Err (errors.Refuted line clause))
+  CheckEnds bytes left before now _ = ⊥
 
 -- how a check ends where no device failed
 abbrev pub ChecksWithoutFault : Status → Type 0
-ChecksWithoutFault Malformed = ⊥
-ChecksWithoutFault Usage = ⊥
-ChecksWithoutFault ReadFault = ⊥
-ChecksWithoutFault WriteFault = ⊥
-ChecksWithoutFault LinkFault = ⊥
-ChecksWithoutFault Unanswered = ⊥
-ChecksWithoutFault _ = ⊤
+ChecksWithoutFault Done = ⊤
+ChecksWithoutFault NoMemory = ⊤
+ChecksWithoutFault Refuted = ⊤
+ChecksWithoutFault _ = ⊥

@@ -1,7 +1,7 @@
 -- How a cluster in one process ends.
-use Rattle.std.specs.Prelude.{◌≡◌, ℕ, List, Bool, true, false, Option, Some, Result, Ok, Err, ◌⊎◌, ⊤}
+use Rattle.std.specs.Prelude.{◌≡◌, ℕ, List, Bool, true, false, ◌||◌, Option, Some, Result, Ok, Err, ◌⊎◌, ⊤}
 use Rattle.command_line.specs.declared.command.Command.{Command}
-use Rattle.command_line.specs.declared.command.Command.TheVariants.{Node, Sequencer, Controller, Client, Cluster}
+use Rattle.command_line.specs.declared.command.Command.TheVariants.{Cluster}
 use Rattle.command_line.specs.declared.command.Site.{Site}
 use Rattle.nop_types.specs.Meaning.{Meaning}
 use Rattle.one_box.specs.Boxing.{EndsWith, PollFailed}
@@ -11,6 +11,7 @@ use Rattle.one_box.specs.declared.errors.ClusterError.{ClusterError}
 use Rattle.one_box.specs.declared.errors.ClusterError.TheVariants as errors
 use Rattle.outside.specs.Causes.{Rose}
 use Rattle.commands.specs.Nodes.{PortsView}
+use Rattle.commands.specs.Tasks.{runs_node}
 use Rattle.commands.specs.declared.status.Status.{Status}
 use Rattle.commands.specs.declared.status.Status.TheVariants as statuses
 
@@ -54,12 +55,7 @@ runs_cluster _ = false
 
 -- whether a command uses ports and the clock
 abbrev pub uses_ports : Option Command → Bool
-uses_ports (Some (Node id site)) = true
-uses_ports (Some (Sequencer id site)) = true
-uses_ports (Some (Controller site number install)) = true
-uses_ports (Some (Client id site ops)) = true
-uses_ports (Some (Cluster site ops)) = true
-uses_ports _ = false
+uses_ports c = runs_node c || runs_cluster c
 
 -- how a cluster ends where no device failed
 abbrev pub ClusterEndsWithoutFault : Status → Type 0

@@ -5,7 +5,7 @@ use Rattle.outside.specs.declared.link.Link as link_trait
 use Rattle.outside.specs.declared.link.PollAnswer.{PollAnswer}
 use Rattle.client_call.specs.Calls.{Answers, EndsOver, RanOver, Used, address_of}
 use Rattle.client_call.specs.declared.errors.CallError.{CallError}
-use Rattle.client_call.specs.declared.errors.CallError.TheVariants.{PortFault, LinkFault, Unanswered, NoMemory}
+use Rattle.client_call.specs.declared.errors.CallError.TheVariants.{NoMemory}
 use Rattle.kv_text.specs.Text.{result_words}
 use Rattle.op_text.specs.Words.{text_of}
 use Rattle.kv_call.specs.Arguments.{Call}
@@ -48,13 +48,8 @@ module _ {L : Type 0} (seen : L → Used) (o : Over L) where
 
   -- by the call that the arguments name: where memory ran out, it may have been made or not
   abbrev pub Gives : Option Call → Result (Option (List ℕ)) CallError → Type 0
-  Gives (Some c) (Ok line) = Tells c (Ok line)
-  Gives (Some c) (Err PortFault) = Tells c (Err PortFault)
-  Gives (Some c) (Err LinkFault) = Tells c (Err LinkFault)
-  Gives (Some c) (Err Unanswered) = Tells c (Err Unanswered)
   Gives (Some c) (Err NoMemory) = ⊤
+  Gives (Some c) given = Tells c given
   Gives None (Ok line) = line ≡ None
-  Gives None (Err PortFault) = ⊥
-  Gives None (Err LinkFault) = ⊥
-  Gives None (Err Unanswered) = ⊥
   Gives None (Err NoMemory) = ⊤
+  Gives None _ = ⊥

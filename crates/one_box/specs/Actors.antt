@@ -16,7 +16,5 @@ actors_of c =
 
 -- the number of the first op of an actor: the ops go to the clients in turn
 abbrev pub first_op : Actor → ℕ
-first_op (Replica i) = 0
-first_op (Sequencer i) = 0
-first_op (Controller i) = 0
 first_op (Client i) = i
+first_op _ = 0

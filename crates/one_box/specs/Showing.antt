@@ -11,7 +11,7 @@ use Rattle.outside.specs.declared.link.PollAnswer.{PollAnswer}
 use Rattle.outside.specs.declared.link.LinkCall.{LinkCall}
 use Rattle.outside.specs.declared.link.Link as link_trait
 use Rattle.schedule_text.specs.declared.event.Event.{Event}
-use Rattle.schedule_text.specs.declared.event.Event.TheVariants.{Submit, Deliver, Tick, Install, Crash, Junk}
+use Rattle.schedule_text.specs.declared.event.Event.TheVariants.{Junk}
 use Rattle.schedule_text.specs.EventText.{HasLine}
 use Rattle.schedule_text.specs.Fits.{EventsFit}
 use Rattle.transcript_text.specs.Transcript.{lines_text}
@@ -47,12 +47,8 @@ pub record IsLedTo {S : Type 0} (m : Meaning S) (config : Configuration) (c : Co
 
 -- it is no junk
 abbrev pub IsNoJunk : Event → Type 0
-IsNoJunk (Submit client op) = ⊤
-IsNoJunk (Deliver index actor) = ⊤
-IsNoJunk (Tick actor tick) = ⊤
-IsNoJunk (Install controller sequencer) = ⊤
-IsNoJunk (Crash actor) = ⊤
 IsNoJunk (Junk actor bytes) = ⊥
+IsNoJunk _ = ⊤
 
 -- the world refused an event
 abbrev pub IsRefusal : StepError → Type 0

@@ -131,7 +131,7 @@ fn first_op(actor: Actor) -> usize
 {
     match actor {
         Actor::Client(i) => i as usize,
-        Actor::Replica(_) | Actor::Sequencer(_) | Actor::Controller(_) => 0,
+        _ => 0,
     }
 }
 

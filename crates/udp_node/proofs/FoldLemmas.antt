@@ -9,7 +9,7 @@ use Rattle.std.proofs.lemmas.List.{take_more, take-append-drop, map_more}
 use Rattle.std.proofs.lemmas.Option.{slice_get_within, get_or_from_slice_get, slice_get-get_or, slice_get_cases}
 use Rattle.nop_types.specs.declared.input.Tick.{Tick}
 use Rattle.nop_types.specs.declared.input.Tick.TheVariants.{Suspect}
-use Rattle.nop_types.specs.Given.{Given, Packet, Ticked, Submit}
+use Rattle.nop_types.specs.Given.{Given, Packet, Ticked}
 use Rattle.nop_types.specs.declared.output.Out.{Out}
 use Rattle.outside.specs.declared.errors.DeviceError.{DeviceError}
 use Rattle.udp_node.specs.declared.address.Address.{Address}
@@ -100,7 +100,7 @@ pub outside_append : (xs ys : List Given) → AllOutside xs → AllOutside ys �
 outside_append [] ys one two = two
 outside_append (Packet bytes ∷ xs) ys one two = outside_append xs ys one two
 outside_append (Ticked tick ∷ xs) ys one two = outside_append xs ys one two
-outside_append (Submit op ∷ xs) ys one two = absurd one
+outside_append _ ys one two = absurd one
 
 tick_outside : (b : Bool) (tick : Tick) → AllOutside (tick_if b tick)
 tick_outside true tick = tt

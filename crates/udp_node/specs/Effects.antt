@@ -39,8 +39,7 @@ abbrev pub effects_of : Address → Out → List Effect
 effects_of at (outs.Send dest bytes) = map Call (datagrams_to at dest bytes)
 effects_of at (outs.Submitted r) = Line (submit_line r) ∷ []
 effects_of at (outs.Accepted client id result) = Line (accept_line client id result) ∷ []
-effects_of at (outs.Busy client) = []
-effects_of at (outs.Trimmed first entries) = []
+effects_of at _ = []
 
 abbrev pub effects : Address → List Out → List Effect
 effects at os = flat_map (effects_of at) os

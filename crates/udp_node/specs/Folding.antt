@@ -1,7 +1,7 @@
 -- A core over several inputs.
 use Rattle.std.specs.Io.KnownBytes.{Appends}
 use Rattle.std.specs.Prelude.{◌≡◌, ℕ, List, [], ◌∷◌, ◌++◌, map, Option, Result, Ok, Err, ⊤}
-use Rattle.nop_types.specs.Given.{Given, Packet, Ticked, Submit}
+use Rattle.nop_types.specs.Given.{Given, Packet, Ticked}
 use Rattle.nop_types.specs.declared.output.Out.{Out}
 use Rattle.outside.specs.declared.errors.DeviceError.{DeviceError}
 use Rattle.udp_node.specs.declared.address.Address.{Address}
@@ -13,7 +13,7 @@ abbrev pub AllOutside : List Given → Type 0
 AllOutside [] = ⊤
 AllOutside (Packet bytes ∷ is) = AllOutside is
 AllOutside (Ticked tick ∷ is) = AllOutside is
-AllOutside (Submit op ∷ is) = ⊥
+AllOutside _ = ⊥
 
 module _ {S : Type 0} (next : S → Given → S × List Out) where
   -- the state after some inputs, and all outputs in order

@@ -58,7 +58,7 @@ impl<C: Core, L: Link, W: Sink> Node<'_, '_, '_, C, L, W> {
             Out::Accepted { client, id, result } => {
                 write_accept(self.alloc, *client, *id, result, self.sink)
             }
-            Out::Busy(_) | Out::Trimmed { .. } => Ok(()),
+            _ => Ok(()),
         }
     }
 
