@@ -78,7 +78,7 @@ legal() {
     "$program" check < "$folder/transcript" > "$folder/out" 2> "$folder/err"
     status=$?
     if [ "$status" != 0 ] || [ "$(cat "$folder/out" "$folder/err")" != "$wanted" ]; then
-        differs "$name, judged: status $status, '$(head -c 300 "$folder/out" "$folder/err")' and not '$wanted'"
+        differs "$name, judged: status $status, '$(cat "$folder/out" "$folder/err" | head -c 300)' and not '$wanted'"
     fi
 }
 
