@@ -12,7 +12,7 @@ use Rattle.replay.proofs.Summaries.{summary_some}
 use Rattle.replay.proofs.Texts.{output_some}
 use Rattle.udp_node.proofs.EffectLemmas.{Appends_none}
 use Rattle.command_line.specs.declared.command.Command.{Command}
-use Rattle.command_line.specs.declared.command.Command.TheVariants.{Gen, Node, Sequencer, Controller, Client, Cluster}
+use Rattle.command_line.specs.declared.command.Command.TheVariants.{Gen, Node, Sequencer, Controller, Client}
 use Rattle.commands.specs.Nodes.{PortsView, EndsNodeWithoutFault, NodeTask, NodeEnds}
 use Rattle.commands.specs.Ending.{GeneratesWithoutFault}
 use Rattle.commands.specs.Words.{usage_line}
