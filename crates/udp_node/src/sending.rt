@@ -93,6 +93,13 @@ pub fn send_to<L: Link>(
     ensures port { L.own_port link.new ≡ L.own_port link.old }
 {
     let targets = at.targets(dest);
-    send_each(targets.first, targets.count, targets.skipped, bytes, link, lost)?;
+    send_each(
+        targets.first,
+        targets.count,
+        targets.skipped,
+        bytes,
+        link,
+        lost,
+    )?;
     send_each(at.second_port(), targets.more, None, bytes, link, lost)
 }

@@ -1,7 +1,7 @@
 ghost use Rattle.std.specs.Prelude.{◌≡◌, ◌⊎◌, ◌<◌, ◌≤◌, [], length, option_map, slice_get};
 ghost use Rattle.std.specs.Prelude.{false, None, Some, IfOk, IfSome, IsTrue, OnErr};
 ghost use Rattle.udp_ports.specs.declared.flow.Admission.TheVariants as admissions;
-ghost use Rattle.udp_ports.specs.Sending.{acknowledged, admission, admitted, deadline_at, given_up, is_at_rest};
+ghost use Rattle.udp_ports.specs.Sending.{acknowledged, admission, admitted, given_up, is_at_rest};
 ghost use Rattle.udp_ports.specs.Sending.{is_over, next_deadline, resting, sent, timed, timeout, turn_begun};
 
 use crate::acks::Ack;

@@ -108,7 +108,8 @@ impl Flows {
 
     /// A port received parts.
     pub(crate) fn acknowledge(&mut self, port: u16, ack: Ack)
-        ensures { self.new ≡ with_flow_to port (acknowledged ack (flow_to port self.old)) self.old }
+        ensures { self.new
+            ≡ with_flow_to port (acknowledged ack (flow_to port self.old)) self.old }
     {
         self.lanes[lane_of(port)].acknowledge(ack);
     }

@@ -1,6 +1,6 @@
 ghost use Rattle.std.specs.Prelude.{◌≡◌, ◌≤◌, ◌<◌, ◌%◌, IfSome};
-ghost use Rattle.udp_ports.specs.Acks.{IsGiven};
 ghost use Rattle.std.specs.List.{All};
+ghost use Rattle.udp_ports.specs.Acks.{IsGiven};
 ghost use Rattle.udp_ports.specs.Receiving.{ack_for, due_ack, is_sending, no_receipt, receipt_at, recorded, window_of};
 ghost use Rattle.udp_ports.specs.Receiving.{with_ack, with_part};
 ghost use Rattle.udp_ports.specs.declared.flow.TheConstants.{FIRST_WINDOW, MOST_IN_FLIGHT};
