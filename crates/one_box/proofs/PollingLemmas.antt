@@ -1,9 +1,8 @@
 -- One poll of an actor.
 use Rattle.std.proofs.Common.{◌≡◌, ℕ, List, [], ◌∷◌, drop, map, Option, Some, None, Result, Ok, Err, OnOk}
-use Rattle.std.proofs.Common.{refl, sym, ap, subst, ◌∙◌}
+use Rattle.std.proofs.Common.{refl, sym, ap, subst, ◌∙◌, arith}
 use Rattle.nop_types.specs.Configuration.{Configuration}
 use Rattle.nop_types.specs.Meaning.{Meaning}
-use Rattle.outside.proofs.Counts.{rose_where}
 use Rattle.outside.specs.Causes.{CountsFor, next_count}
 use Rattle.outside.specs.Links.{next_poll, Polls}
 use Rattle.outside.specs.declared.errors.DeviceError.{DeviceError}
@@ -125,7 +124,7 @@ module _ {S L : Type 0} (m : Meaning S) (v : LinkView L) (now : ℕ) (c d : Cour
         poll_failed (Some n.answers) (v.answers x.link) (v.answers z.link) shown.answers polls in
         let k : Node = after_poll m now n in
         ap (λ (p : PollAnswer). run.polled m p c k) (sym gives);
-    rose = rose_where _ _ _ counts refl;
+    rose = let rose = counts.failed refl in omega (arith, rose);
   }
   unpolled devices.NoMemory polls counts = tt
 

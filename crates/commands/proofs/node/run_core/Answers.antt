@@ -1,4 +1,4 @@
-use Rattle.std.proofs.Common.{rules, refl}
+use Rattle.std.proofs.Common.{rules, refl, ap, arith, length, length-append}
 use Rattle.outside.proofs.Counts.{counts_none, rose_where}
 use Rattle.commands.proofs.NodeLemmas.{attached_ends, unattached_ends, rose_at}
 use Rattle.commands.proofs.node.run_core.Goals as goal
@@ -9,7 +9,11 @@ returns-in-Ok g c = record {
       (rose_where _ _ _ c.run_link-status.ensures.polls) c.run_link-status.ensures.last
       c.in-Ok.ensures.faults c.in-Ok.ensures.losses c.in-Ok.ensures.content c.run_link-status.ensures.run;
   status = c.run_link-status.ensures.status;
-  back = search rules;
+  back =
+      let given = ap length c.detach.ensures.detached in
+      let held = simp length-append at given in
+      let before = ap length c.attach.ensures.detached in
+      omega (arith, held, before, c.in-Ok.ensures.attached, c.detach.ensures.attached);
   attaches = search rules;
   writes = c.run_link-status.ensures.writes;
 }
