@@ -100,6 +100,7 @@ peer_codec LEAST_CLIENT
 fragments PARTS_AHEAD
 network SHARED_LEN
 network LOOKBACK
+network LINE_ROOM
 schedule_text MAX_OP_TEXT
 schedule_text MAX_JUNK_TEXT
 transcript_rows MAX_OP_TEXT
