@@ -1,3 +1,4 @@
+-- Proofs: nothing here has to be believed.
 -- Laws of the table: by client, and that what was kept is taken out again; of verdicts; of what is saved.
 use Rattle.std.proofs.Common.{◌≡◌, ℕ, Bool, true, false, cond, eqb, List, [], ◌∷◌, Option, Some, None, refl, sym, ap, ◌∙◌}
 use Rattle.std.specs.Prelude.{◌==◌, ◌||◌, IsSome, is_some, not}

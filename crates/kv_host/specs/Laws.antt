@@ -1,3 +1,4 @@
+-- Proofs: nothing here has to be believed.
 -- The laws of a host, for the key-value service.
 use Rattle.std.proofs.Common.{◌≡◌, ℕ, ◌+◌, ◌-◌, ◌≤◌, Bool, true, false, cond, List, length, Option, Some, None, is_some, refl, sym, ap, subst, ◌∙◌}
 use Rattle.std.proofs.Common.{true≢false, nat_eq, arith}

@@ -1,3 +1,4 @@
+-- Proofs: nothing here has to be believed.
 -- An op that is read has its fields within their limits, and is spelled by the bytes.
 use Rattle.std.proofs.Common.{◌≡◌, ℕ, ◌<◌, ◌⊎◌, inl, inr, Bool, true, false, cond, List, [], ◌∷◌, ◌++◌, length, take, drop, get_or, zero}
 use Rattle.std.proofs.Common.{suc, ◌^◌, Option, Some, None, refl, sym, ap, subst, ◌∙◌, arith, eqb}

@@ -1,3 +1,4 @@
+-- Proofs: nothing here has to be believed.
 -- Which place a look-up finds.
 use Rattle.std.proofs.Common.{◌≡◌, ℕ, zero, suc, ◌≤◌, Bool, true, false, cond, List, [], ◌∷◌, length, slice_get, Option, Some, None}
 use Rattle.std.proofs.Common.{refl, sym, subst, ◌∙◌, true≢false, arith, ltb-true, ltb-false}

@@ -1,3 +1,4 @@
+-- Proofs: nothing here has to be believed.
 -- The laws of a host, for the lock service.
 use Rattle.std.proofs.Common.{◌≡◌, ℕ, ◌+◌, ◌-◌, ◌<◌, ◌≤◌, Bool, true, false, cond, List, [], ◌∷◌, ◌++◌, length, take, slice_get}
 use Rattle.std.proofs.Common.{slice_set, Option, Some, None, refl, ap, ◌∙◌, arith, ltb-true}

@@ -1,3 +1,4 @@
+-- Proofs: nothing here has to be believed.
 -- Fields that are spelled are read, and fields that are read are spelled by the bytes.
 use Rattle.std.proofs.Common.{◌≡◌, ℕ, zero, suc, ◌<◌, ◌^◌, ◌/◌, Bool, true, false, cond, List, [], ◌∷◌, ◌++◌, length, take, drop, get_or}
 use Rattle.std.proofs.Common.{Option, Some, None, refl, sym, ap, ◌∙◌, arith, ltb-false}

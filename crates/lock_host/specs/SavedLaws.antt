@@ -1,3 +1,4 @@
+-- Proofs: nothing here has to be believed.
 -- A saved state is short, it loads again, and nothing loads but what was saved of a sound state.
 use Rattle.std.proofs.Common.{◌≡◌, ℕ, zero, suc, ◌*◌, ◌<◌, ◌≤◌, ◌^◌, Bool, true, false, cond, List, [], ◌∷◌, ◌++◌, length}
 use Rattle.std.proofs.Common.{Option, Some, None, refl, sym, ap, subst, ◌∙◌, append_assoc, true≢false, arith, eqb-true, leb-true}

@@ -1,3 +1,4 @@
+-- Proofs: nothing here has to be believed.
 -- The words of an op name it, and what words name is spelled by their bytes.
 use Rattle.std.proofs.Common.{◌≡◌, ℕ, zero, suc, ◌<◌, ◌^◌, Bool, true, false, cond, List, [], ◌∷◌, ◌++◌, length, Option, Some, None, refl, sym, ap, subst}
 use Rattle.std.proofs.Common.{◌∙◌, arith, append-nil, inl, inr, decimal, lit<}
