@@ -32,7 +32,7 @@ left s = length (open_requests s) + length s.waiting
 -- a row accepts as many requests as are open or wait less after it
 row_keeps : (s : ClientState) (x : Given) → ((op : List ℕ) → x ≡ Submit op → ⊥) → (y : ClientState × List Out) → Row s x y
     → accept_count y.1 + left y.0 ≡ left s
-row_keeps s x alone y Rests = omega arith
+row_keeps s x alone y (Rests nothing) = omega arith
 row_keeps s x alone y (SaysBusy op is busy) = omega arith
 row_keeps s x alone y (Opens op waiting may (inl (is, from))) =
     let now = opens s (request_of s op) waiting (and_parts (has_room s) (nat_lt s.last_id (2 ^ 64 - 1)) may).0 in

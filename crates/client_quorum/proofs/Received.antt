@@ -77,7 +77,7 @@ module _ (n number : ℕ) (all : List Reply) (s : ClientState) (x : Given) (kept
   }
 
   still_kept : (y : ClientState × List Out) → Row s x y → IsKept n number all y.0
-  still_kept y Rests = kept_so
+  still_kept y (Rests nothing) = kept_so
   still_kept y (SaysBusy op is busy) = kept_so
   still_kept y (Opens op waiting may from) =
       empty (begin (record s { waiting = waiting }) (request_of s op)).0 kept_so.replicas kept_so.mine refl
@@ -143,7 +143,7 @@ module _ (n number : ℕ) (all : List Reply) (s : ClientState) (x : Given) (kept
 
   row_agreed : (y : ClientState × List Out) → Row s x y → (client id : ℕ) (result : List ℕ) → Has y.1 (Accepted client id result)
       → IsAgreed n all number id result
-  row_agreed y Rests client id result h = absurd (Has-none (Accepted client id result) h)
+  row_agreed y (Rests nothing) client id result h = absurd (Has-none (Accepted client id result) h)
   row_agreed y (SaysBusy op is busy) client id result h = absurd (let e = Has-one (Accepted client id result) (Busy s.number) h in cc)
   row_agreed y (Opens op waiting may from) client id result h = absurd (begun_none (request_of s op) client id result h)
   row_agreed y (Repeats is) client id result h = absurd (sent_none (open_requests s) client id result h)

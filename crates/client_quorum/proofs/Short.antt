@@ -104,7 +104,7 @@ module _ (n : ℕ) (s : ClientState) (short : Short n s) (p : Reply) where
   }
 
 row_short : (n : ℕ) (s : ClientState) (x : Given) → Short n s → (y : ClientState × List Out) → Row s x y → Short n y.0
-row_short n s x short y Rests = short
+row_short n s x short y (Rests nothing) = short
 row_short n s x short y (SaysBusy op is busy) = short
 row_short n s x short y (Opens op waiting may from) =
     record { replicas = short.replicas; one_each = none_each; none = none_empty n }

@@ -43,7 +43,7 @@ module _ (xs : List Given) (rest : (t : ClientState) → IsTidy t → TakesTurns
   -- the outputs of a row, and those of the inputs that follow
   row_goes : (x : Given) (y : ClientState × List Out) → Row s x y → TakesTurns s.number s.pending s.last_id (y.1 ++ gave y.0 xs)
   unfolding open_requests
-  row_goes x y Rests = rest s tidy
+  row_goes x y (Rests nothing) = rest s tidy
   row_goes x y (SaysBusy op is busy) = (refl, rest s tidy)
   row_goes x y (Opens op waiting may from) = (
     ap has_none (room_is_none s (and_parts (has_room s) (nat_lt s.last_id (2 ^ 64 - 1)) may).0),

@@ -45,7 +45,7 @@ others (Submit op) xs h = absurd h
 
 row_ops : (s : ClientState) (x : Given) → ((op : List ℕ) → x ≡ Submit op → ⊥) → (y : ClientState × List Out) → Row s x y
     → ops_of y.1 ++ y.0.waiting ≡ s.waiting
-row_ops s x alone y Rests = refl
+row_ops s x alone y (Rests nothing) = refl
 row_ops s x alone y (SaysBusy op is busy) = refl
 row_ops s x alone y (Opens op waiting may (inl (is, left))) = sym left
 row_ops s x alone y (Opens op waiting may (inr (is, same))) = absurd (alone op is)
@@ -68,7 +68,7 @@ pub waiting_in_order : (config : Configuration) (number : ℕ) (ops : List (List
 waiting_in_order config number ops inputs h = in_order inputs h (opening config number ops)
 
 row_ends : (s : ClientState) (x : Given) (y : ClientState × List Out) → Row s x y → EndsWith s.waiting y.0.waiting
-row_ends s x y Rests = ([], refl)
+row_ends s x y (Rests nothing) = ([], refl)
 row_ends s x y (SaysBusy op is busy) = ([], refl)
 row_ends s x y (Opens op waiting may (inl (is, left))) = (op ∷ [], left)
 row_ends s x y (Opens op waiting may (inr (is, same))) = ([], same)
@@ -93,7 +93,7 @@ waiting_ends config number ops inputs = ends_from inputs (opening config number 
 -- ---- how many were submitted
 
 row_counts : (s : ClientState) (x : Given) (y : ClientState × List Out) → Row s x y → y.0.last_id ≡ s.last_id + length (ops_of y.1)
-row_counts s x y Rests = omega arith
+row_counts s x y (Rests nothing) = omega arith
 row_counts s x y (SaysBusy op is busy) = omega arith
 row_counts s x y (Opens op waiting may from) = refl
 row_counts s x y (Repeats is) =
@@ -142,7 +142,7 @@ module _ (all : List Out) (s : ClientState) where
 
   row_stands : (x : Given) → Stands all s → (y : ClientState × List Out) → Row s x y → ((o : Out) → Has y.1 o → Has all o) → Stands all y.0
   unfolding open_requests
-  row_stands x stands y Rests covers = stands
+  row_stands x stands y (Rests nothing) covers = stands
   row_stands x stands y (SaysBusy op is busy) covers = stands
   row_stands x stands y (Opens op waiting may from) covers = Waits (request_of s op) refl refl refl
   row_stands x stands y (Repeats is) covers = stands

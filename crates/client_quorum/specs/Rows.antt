@@ -1,7 +1,8 @@
 -- What a step of a client does: one of six things; and what becomes of its open requests and of what it keeps for them.
 use Rattle.std.specs.Prelude.{◌≡◌, ◌⊎◌, ℕ, ◌+◌, List, [], ◌∷◌, ◌++◌, map, filter, length, true, false, not, Option, Some, None, ◌==◌}
-use Rattle.nop_types.specs.Given.{Given, Ticked, Submit}
+use Rattle.nop_types.specs.Given.{Given, Packet, Ticked, Submit}
 use Rattle.nop_types.specs.Lists.{Has}
+use Rattle.nop_types.specs.declared.input.Tick.{Tick}
 use Rattle.nop_types.specs.declared.input.Tick.TheVariants as ticks
 use Rattle.nop_types.specs.declared.output.Out.{Out}
 use Rattle.nop_types.specs.declared.output.Out.TheVariants.{Accepted, Busy}
@@ -9,6 +10,7 @@ use Rattle.nop_types.specs.declared.request.Request.{Request}
 use Rattle.nop_types.specs.declared.datagram.Reply.{Reply}
 use Rattle.client_quorum.specs.declared.state.ClientState.{ClientState}
 use Rattle.client_quorum.specs.ClientSteps.{accepts, begin, can_submit, is_expected, kept, request_of, sent}
+use Rattle.client_quorum.specs.Ignoring.{is_tick_for}
 use Rattle.client_quorum.specs.KeptReplies.{keep_reply, quorum_of}
 use Rattle.client_quorum.specs.OpenRequests.{kept_for, open_requests}
 use Rattle.client_quorum.specs.Runs.{reply_of}
@@ -23,9 +25,19 @@ ComesFrom s x op waiting = ((x ≡ Ticked ticks.Next) × (s.waiting ≡ op ∷ w
 abbrev pub quorum_with : ClientState → Reply → Option Reply
 quorum_with s p = quorum_of s.config.replicas (kept_for (kept s p) p.id) p.view p.slot
 
+-- what comes asks nothing of the client
+pub data HasNothing (s : ClientState) (x : Given) : Type 0 where
+  -- a packet that brings no reply to an open request
+  BringsNoReply : (bytes : List ℕ) → x ≡ Packet bytes → ((p : Reply) → Has (reply_of x) p → is_expected s p ≡ false) → HasNothing s x
+  -- the tick Next, where no op can be submitted, or none waits
+  HasNoRoom : x ≡ Ticked ticks.Next → can_submit s ≡ false → HasNothing s x
+  HasNoOp : x ≡ Ticked ticks.Next → s.waiting ≡ [] → HasNothing s x
+  -- a tick for others
+  IsForOthers : (tick : Tick) → x ≡ Ticked tick → is_tick_for tick ≡ false → HasNothing s x
+
 -- the new state, and what is given
 pub data Row (s : ClientState) (x : Given) : ClientState × List Out → Type 0 where
-  Rests : Row s x (s, [])
+  Rests : HasNothing s x → Row s x (s, [])
   SaysBusy : (op : List ℕ) → x ≡ Submit op → can_submit s ≡ false → Row s x (s, Busy s.number ∷ [])
   -- an op is submitted
   Opens : (op : List ℕ) (waiting : List (List ℕ)) → can_submit s ≡ true → ComesFrom s x op waiting

@@ -19,8 +19,8 @@ ghost use Rattle.client_quorum.specs.Rows.{IsClosed, IsKept, IsOpened, Row};
 ghost use Rattle.client_quorum.specs.Runs.{accept_count, after, gave, replies_of, ops_of, HasNoSubmit, HasQuorum, IsAgreed};
 ghost use Rattle.client_quorum.specs.Runs.{EndsWith, Stands, TakesTurns};
 
-/// Each step is a row: nothing happens, the client says that it is busy, an op is submitted, the open requests are sent again, or a
-/// reply is kept, or accepts a result.
+/// Each step is a row: nothing happens where nothing was asked, the client says that it is busy, an op is submitted, the open requests
+/// are sent again, or a reply is kept, or accepts a result.
 pub fn steps_are_rows()
     ensures { (s : ClientState) (x : Given) → Row s x (next s x) }
 {}

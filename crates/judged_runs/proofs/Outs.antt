@@ -237,7 +237,7 @@ module _ (c : Configuration) (k : ℕ) (within : k < c.clients) (s : ClientState
   retry_tells (q ∷ qs) = (tt, retry_tells qs)
 
   row_tells : (i : Given) → GivenIs i → (y : ClientState × List Out) → Row s i y → ClientTells c k y
-  row_tells i fits y Rests = quiet_client
+  row_tells i fits y (Rests nothing) = quiet_client
   row_tells i fits y (SaysBusy op of busy) = record { tells = (own, tt); stays = is }
   row_tells i fits y (Opens op waiting can (inl (of, left))) = absurd (let none = is.waits in cc)
   row_tells i fits y (Opens op waiting can (inr (of, same))) =

@@ -53,7 +53,7 @@ module _ (s : ClientState) (fits : ClientFits s) where
   sent_none (q ∷ qs) = sent_none qs
 
   row_fits : (i : Given) → GivenFits i → (y : ClientState × List Out) → Row s i y → ClientRow s y
-  row_fits i short y Rests = quiet s [] refl refl refl
+  row_fits i short y (Rests nothing) = quiet s [] refl refl refl
   row_fits i short y (SaysBusy op is busy) = quiet s (Busy s.number ∷ []) refl refl refl
   row_fits i short y (Opens op waiting can (inl (is, left))) =
       begins op waiting (fits.waiting op (rw left (Has-first op op waiting refl))) can (λ x h. rw left (Has-rest x op waiting h))

@@ -154,7 +154,7 @@ module _ {S : Type 0} (m : Meaning S) (f : ℕ) (c : Conf) (k : ℕ) (inv : Inv 
 
   row_reaches : (i : Given) → ((p : Reply) → Has (reply_of i) p → Has c.replies p) → (y : ClientState × List Out) → Row s i y
       → ClientReaches m f c k y
-  row_reaches i came y Rests = still
+  row_reaches i came y (Rests nothing) = still
   row_reaches i came y (SaysBusy op is busy) = rests (Busy s.number ∷ []) refl refl (λ dest bytes h.
       absurd (let same = Has-one (Send dest bytes) (Busy s.number) h in cc))
   row_reaches i came y (Opens op waiting can from) = submits op waiting can
