@@ -8,7 +8,9 @@ use Rattle.outside.specs.Ports.{next_link, GivesNext}
 use Rattle.outside.specs.declared.link.LinkCall.{LinkCall}
 use Rattle.outside.specs.declared.link.PollAnswer.{PollAnswer}
 use Rattle.transcript_text.specs.Transcript.{submit_line, accept_line}
-use Rattle.client_quorum.specs.ClientSteps.{next, timers, is_done}
+use Rattle.client_quorum.specs.ClientSteps.{is_done}
+use Rattle.client_quorum.specs.Core as client
+use Rattle.client_quorum.specs.Core.{Client}
 use Rattle.client_quorum.specs.Runs.{after, gave}
 use Rattle.client_quorum.specs.declared.state.ClientState.{ClientState}
 use Rattle.udp_node.specs.Effects.{Effect, effects, effects_by, calls, lines, Stopped}
@@ -20,41 +22,44 @@ use Rattle.udp_node.specs.declared.errors.ServeError.{ServeError}
 use Rattle.udp_node.specs.declared.errors.ServeError.TheVariants as serves
 use Rattle.udp_node.specs.declared.serving.Served.{Served}
 use Rattle.udp_node.proofs.EffectLemmas.{calls_append}
-use Rattle.client_call.specs.Calls.{caller, request, error_of, IsAccepted, Answers, GivesAccepted, run_of, NotDone}
+use Rattle.client_call.specs.Calls.{caller, caller_core, request, error_of, IsAccepted, Answers, GivesAccepted, run_of, NotDone}
 use Rattle.client_call.specs.Calls.{Answered, TurnsEnded, SomeCallsMade, EndsRun, EndsObserved}
 use Rattle.client_call.specs.declared.errors.CallError.{CallError}
 use Rattle.client_call.specs.declared.errors.CallError.TheVariants.{PortFault, LinkFault, Unanswered, NoMemory}
 use Rattle.client_call.proofs.Accepting.{stands_ended, is_accepted, is_written, is_open}
 
-state_is : (s : ClientState) (xs : List Given) → (folded next s xs).0 ≡ after s xs
+state_is : (s : Client) (xs : List Given) → (folded client.next s xs).0.requests ≡ after s.requests xs
 state_is s [] = refl
-state_is s (x ∷ xs) = state_is (next s x).0 xs
+state_is s (x ∷ xs) = state_is (client.next s x).0 xs
 
-outs_are : (s : ClientState) (xs : List Given) → (folded next s xs).1 ≡ gave s xs
+outs_are : (s : Client) (xs : List Given) → (folded client.next s xs).1 ≡ gave s.requests xs
 outs_are s [] = refl
-outs_are s (x ∷ xs) = ap (λ os. (next s x).1 ++ os) (outs_are (next s x).0 xs)
+outs_are s (x ∷ xs) = ap (λ os. (client.next s x).1 ++ os) (outs_are (client.next s x).0 xs)
 
-module _ (at : Address) (number : ℕ) (op : List ℕ) (t : ClientState) (h i : Option (List ℕ))
-    (took : TookSome next at [] (caller at.config number op) t h i) where
+module _ (at : Address) (number : ℕ) (op : List ℕ) (t : Client) (h i : Option (List ℕ))
+    (took : TookSome client.next at [] (caller_core at.config number op) t h i) where
+  abbrev core_start : Client
+  core_start = caller_core at.config number op
+
   abbrev start : ClientState
   start = caller at.config number op
 
-  is_after : t ≡ after start took.inputs
-  is_after = took.state ∙ state_is start took.inputs
+  is_after : t.requests ≡ after start took.inputs
+  is_after = ap (λ (s : Client). s.requests) took.state ∙ state_is core_start took.inputs
 
-  accepted_after : (o : Option Accept) → t.accepted ≡ o → (after start took.inputs).accepted ≡ o
+  accepted_after : (o : Option Accept) → t.requests.accepted ≡ o → (after start took.inputs).accepted ≡ o
   accepted_after o is = ap (λ (s : ClientState). s.accepted) (sym is_after) ∙ is
 
   -- ---- the result
 
-  accepted_answer : (result : List ℕ) (o : Option Accept) → t.accepted ≡ o → GivesAccepted o (Ok result)
+  accepted_answer : (result : List ℕ) (o : Option Accept) → t.requests.accepted ≡ o → GivesAccepted o (Ok result)
       → IsAccepted at.config number op result
   accepted_answer result None is gives = absurd gives
   accepted_answer result (Some a) is gives =
       subst (IsAccepted at.config number op) (sym gives)
       (is_accepted at.config number op took.inputs took.outside a (accepted_after (Some a) is))
 
-  open_answer : (o : Option Accept) → t.accepted ≡ o → GivesAccepted o (Err Unanswered) → NotDone at.config number op
+  open_answer : (o : Option Accept) → t.requests.accepted ≡ o → GivesAccepted o (Err Unanswered) → NotDone at.config number op
   open_answer None is gives = record {
     inputs = took.inputs;
     outside = took.outside;
@@ -62,9 +67,9 @@ module _ (at : Address) (number : ℕ) (op : List ℕ) (t : ClientState) (h i : 
   }
   open_answer (Some a) is gives = absurd gives
 
-  pub answers_by : (result : Result (List ℕ) CallError) → GivesAccepted t.accepted result → Answers at.config number op result
-  answers_by (Ok result) gives = accepted_answer result t.accepted refl gives
-  answers_by (Err Unanswered) gives = open_answer t.accepted refl gives
+  pub answers_by : (result : Result (List ℕ) CallError) → GivesAccepted t.requests.accepted result → Answers at.config number op result
+  answers_by (Ok result) gives = accepted_answer result t.requests.accepted refl gives
+  answers_by (Err Unanswered) gives = open_answer t.requests.accepted refl gives
   answers_by _ gives = tt
 
   -- ---- the run
@@ -74,15 +79,15 @@ module _ (at : Address) (number : ℕ) (op : List ℕ) (t : ClientState) (h i : 
   same_lines (Some zs) xs ys a b = sym a ∙ b
 
   module _ (turns : ℕ) (r : NodeRun) (served : Served) (a b : LinkSide) (empty : h ≡ Some [])
-      (run : ServedRun at r served a (record b { lost = served.lost }) h i) (done : served.done ≡ is_done t)
+      (run : ServedRun at r served a (record b { lost = served.lost }) h i) (done : served.done ≡ client.is_done t)
       (spent : served.done ≡ false → served.turns ≡ turns) where
     run_lines : lines (effects_by at r.acts) ≡ lines (effects at (gave start took.inputs))
     run_lines =
-        same_lines i (lines (effects_by at r.acts)) (lines (effects at (folded next start took.inputs).1)) (rw empty at run.effects.lines)
+        same_lines i (lines (effects_by at r.acts)) (lines (effects at (folded client.next core_start took.inputs).1)) (rw empty at run.effects.lines)
         (rw empty at took.written)
-        ∙ ap (λ os. lines (effects at os)) (outs_are start took.inputs)
+        ∙ ap (λ os. lines (effects at os)) (outs_are core_start took.inputs)
 
-    run_answered : (result : List ℕ) (o : Option Accept) → t.accepted ≡ o → GivesAccepted o (Ok result) → Answered at number op result r a b
+    run_answered : (result : List ℕ) (o : Option Accept) → t.requests.accepted ≡ o → GivesAccepted o (Ok result) → Answered at number op result r a b
     run_answered result None is gives = absurd gives
     run_answered result (Some x) is gives =
         let known = accepted_after (Some x) is in
@@ -96,7 +101,7 @@ module _ (at : Address) (number : ℕ) (op : List ℕ) (t : ClientState) (h i : 
           calls = (served.lost, run.effects.sends);
         }
 
-    run_open : (o : Option Accept) → t.accepted ≡ o → GivesAccepted o (Err Unanswered) → TurnsEnded at turns r a b
+    run_open : (o : Option Accept) → t.requests.accepted ≡ o → GivesAccepted o (Err Unanswered) → TurnsEnded at turns r a b
     run_open None is gives =
         let open_ = is_open at.config number op took.inputs took.outside (accepted_after None is) in
         let not_done = done ∙ ap is_done is_after ∙ open_ in
@@ -108,20 +113,20 @@ module _ (at : Address) (number : ℕ) (op : List ℕ) (t : ClientState) (h i : 
         }
     run_open (Some x) is gives = absurd gives
 
-    run_ends : (result : Result (List ℕ) CallError) → GivesAccepted t.accepted result → EndsRun at number op turns r result a b
-    run_ends (Ok result) gives = run_answered result t.accepted refl gives
+    run_ends : (result : Result (List ℕ) CallError) → GivesAccepted t.requests.accepted result → EndsRun at number op turns r result a b
+    run_ends (Ok result) gives = run_answered result t.requests.accepted refl gives
     run_ends (Err PortFault) gives = absurd gives
     run_ends (Err LinkFault) gives = absurd gives
-    run_ends (Err Unanswered) gives = run_open t.accepted refl gives
+    run_ends (Err Unanswered) gives = run_open t.requests.accepted refl gives
     run_ends (Err NoMemory) gives = (
       served.lost,
       record { before = calls (effects_by at r.acts); rest = []; split = sym (append-nil (calls (effects_by at r.acts))); sends = run.effects.sends },
     )
 
   pub ends_served : (turns : ℕ) (answers : Option (List PollAnswer)) (values : Option (List ℕ)) (served : Served) (a b : LinkSide)
-      → h ≡ Some [] → ServesAfter next is_done [] timers at turns start answers values (Ok served) a b h i
-      → served.done ≡ is_done t → (served.done ≡ false → served.turns ≡ turns)
-      → (result : Result (List ℕ) CallError) → GivesAccepted t.accepted result
+      → h ≡ Some [] → ServesAfter client.next client.is_done [] client.timers at turns core_start answers values (Ok served) a b h i
+      → served.done ≡ client.is_done t → (served.done ≡ false → served.turns ≡ turns)
+      → (result : Result (List ℕ) CallError) → GivesAccepted t.requests.accepted result
       → EndsObserved at number op turns answers values result a b
   ends_served turns None values served a b empty run done spent result gives = tt
   ends_served turns (Some answers) None served a b empty run done spent result gives = tt
@@ -130,7 +135,7 @@ module _ (at : Address) (number : ℕ) (op : List ℕ) (t : ClientState) (h i : 
 
 module _ (at : Address) (number : ℕ) (op : List ℕ) (turns : ℕ) (a b : LinkSide) (h i : Option (List ℕ)) where
   ends_broken : (answers : Option (List PollAnswer)) (values : Option (List ℕ))
-      → ServesAfter next is_done [] timers at turns (caller at.config number op) answers values (Err serves.LinkFault) a b h i
+      → ServesAfter client.next client.is_done [] client.timers at turns (caller_core at.config number op) answers values (Err serves.LinkFault) a b h i
       → EndsObserved at number op turns answers values (Err LinkFault) a b
   ends_broken None values run = tt
   ends_broken (Some answers) None run = tt
@@ -148,21 +153,21 @@ module _ (at : Address) (number : ℕ) (op : List ℕ) (turns : ℕ) (a b : Link
   )
 
   ends_stopped : (answers : Option (List PollAnswer)) (values : Option (List ℕ))
-      → ServesAfter next is_done [] timers at turns (caller at.config number op) answers values (Err serves.NoMemory) a b h i
+      → ServesAfter client.next client.is_done [] client.timers at turns (caller_core at.config number op) answers values (Err serves.NoMemory) a b h i
       → EndsObserved at number op turns answers values (Err NoMemory) a b
   ends_stopped None values run = tt
   ends_stopped (Some answers) None run = tt
   ends_stopped (Some answers) (Some values) run = stopped_calls (effects_by at (run_of at number op turns answers values).acts) run.0 run.1
 
   ends_in_line : (answers : Option (List PollAnswer)) (values : Option (List ℕ))
-      → ServesAfter next is_done [] timers at turns (caller at.config number op) answers values (Err serves.WriteFault) a b h i
+      → ServesAfter client.next client.is_done [] client.timers at turns (caller_core at.config number op) answers values (Err serves.WriteFault) a b h i
       → EndsObserved at number op turns answers values (Err NoMemory) a b
   ends_in_line None values run = tt
   ends_in_line (Some answers) None run = tt
   ends_in_line (Some answers) (Some values) run = stopped_calls (effects_by at (run_of at number op turns answers values).acts) run.0 run.1.stopped
 
   pub ends_failed : (e : ServeError) (answers : Option (List PollAnswer)) (values : Option (List ℕ))
-      → ServesAfter next is_done [] timers at turns (caller at.config number op) answers values (Err e) a b h i
+      → ServesAfter client.next client.is_done [] client.timers at turns (caller_core at.config number op) answers values (Err e) a b h i
       → EndsObserved at number op turns answers values (Err (error_of e)) a b
   ends_failed serves.LinkFault answers values run = ends_broken answers values run
   ends_failed serves.WriteFault answers values run = ends_in_line answers values run

@@ -11,7 +11,8 @@ use Rattle.outside.specs.Causes.{CountsFor}
 use Rattle.outside.specs.declared.link.LinkCall.{LinkCall}
 use Rattle.outside.specs.declared.link.PollAnswer.{PollAnswer}
 use Rattle.transcript_text.specs.Transcript.{submit_line, accept_line}
-use Rattle.client_quorum.specs.ClientSteps.{opening, next, timers, is_done}
+use Rattle.client_quorum.specs.ClientSteps.{opening, is_done}
+use Rattle.client_quorum.specs.Core as client
 use Rattle.client_quorum.specs.Runs.{after, gave, replies_of, IsAgreed}
 use Rattle.client_quorum.specs.declared.state.ClientState.{ClientState}
 use Rattle.udp_node.specs.Effects.{calls, effects_by, lines}
@@ -31,9 +32,13 @@ use Rattle.client_call.specs.declared.errors.CallError.TheVariants.{PortFault, L
 abbrev pub address_of : Service → ℕ → Address
 address_of service number = record { base = service.base; own = Client number; config = service.config }
 
--- this op is all that it has to submit
+-- its requests: this op is all that it has to submit
 abbrev pub caller : Configuration → ℕ → List ℕ → ClientState
 caller config number op = opening config number (op ∷ [])
+
+-- its core
+abbrev pub caller_core : Configuration → ℕ → List ℕ → client.Client
+caller_core config number op = client.opening config number (op ∷ [])
 
 -- its only request
 abbrev pub request : ℕ → List ℕ → Request
@@ -82,7 +87,8 @@ error_of serves.NoMemory = NoMemory
 -- ---- the run, over an observable link and clock
 
 abbrev pub run_of : Address → ℕ → List ℕ → ℕ → List PollAnswer → List ℕ → NodeRun
-run_of at number op turns answers values = run_after next is_done [] timers turns (caller at.config number op) answers values
+run_of at number op turns answers values =
+    run_after client.next client.is_done [] client.timers turns (caller_core at.config number op) answers values
 
 -- these calls were made on a link and no others; any number of datagrams was counted as lost
 abbrev pub CallsMade : List LinkCall → LinkSide → LinkSide → Type 0

@@ -3,7 +3,7 @@
 ghost use Rattle.std.specs.Prelude.{◌≡◌, IfOk, false, Err};
 ghost use Rattle.outside.specs.Causes.{CountsFor};
 ghost use Rattle.udp_node.specs.Sends.{side};
-ghost use Rattle.client_call.specs.Calls.{GivesAccepted, Answers, EndsObserved, address_of, caller, error_of};
+ghost use Rattle.client_call.specs.Calls.{GivesAccepted, Answers, EndsObserved, address_of, caller_core, error_of};
 ghost use Rattle.client_call.specs.declared.errors.CallError.TheVariants as errors;
 
 use crate::{CallError, Service};
@@ -17,7 +17,7 @@ use udp_node::{Address, ServeError, serve};
 fn caller(alloc: Global, service: &Service, number: u32, op: Op) -> Result<Client, NoMemory>
     ensures { IfOk result (λ c. c ≡ record {
       failed = false;
-      state = caller service.now.config number op;
+      state = caller_core service.now.config number op;
     }) }
 {
     let mut ops = Vec::new(alloc);
@@ -27,7 +27,7 @@ fn caller(alloc: Global, service: &Service, number: u32, op: Op) -> Result<Clien
 
 /// The result that the client accepted.
 fn accepted(core: &Client) -> Result<Bytes, CallError>
-    ensures { GivesAccepted core.now.state.accepted result }
+    ensures { GivesAccepted core.now.state.requests.accepted result }
 {
     match core.accepted() {
         Some(accept) => Ok(accept.result.try_clone()?),

@@ -1,4 +1,4 @@
--- The step table of the client.
+-- The step table of a client's requests.
 use Rattle.std.specs.Prelude.{ℕ, ◌+◌, ◌-◌, ◌^◌, ◌<◌, ◌≤◌, length, IfSome, List, map, [], ◌∷◌, Bool, true, false, Option, Some, None, Result, Ok, nat_lt, ◌==◌, ◌&&◌}
 use Rattle.nop_types.specs.declared.limits.TheConstants.{MAX_RESULT_BYTES}
 use Rattle.nop_types.specs.Configuration.{Configuration}

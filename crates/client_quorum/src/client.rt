@@ -1,6 +1,7 @@
 ghost use Rattle.std.specs.Prelude.{◌≡◌, false, IfOk};
 ghost use Rattle.std.specs.Option.{option_copied};
-ghost use Rattle.client_quorum.specs.ClientSteps.{AcceptFits, IsWithin, opening, timers, is_done, can_submit};
+ghost use Rattle.client_quorum.specs.ClientSteps.{AcceptFits, IsWithin, can_submit};
+ghost use Rattle.client_quorum.specs.Core.{opening, timers, is_done};
 
 use crate::rows::{act, can_submit};
 use crate::{ClientState, Pending, Replies, Waiting};
@@ -12,7 +13,7 @@ use std::marker::Model;
 pub struct Client {
     alloc: Global,
     failed: bool,
-    pub(crate) state: ClientState,
+    pub(crate) requests: ClientState,
 }
 
 // By hand, so that a crate with a client proves nothing on how its parts are dropped.
@@ -21,21 +22,25 @@ impl Drop for Client {
         let Client {
             alloc: _alloc,
             failed: _failed,
-            state: _state,
+            requests: _requests,
         } = self;
     }
 }
 
 impl Model for Client {
+    ghost use Rattle.std.specs.Coded.{codes};
     ghost use Rattle.nop_types.specs.Machine.{Machine};
-    ghost use Rattle.client_quorum.specs.declared.state.ClientState.{ClientState};
+    ghost use Rattle.client_quorum.specs.contracts.state.ClientState as known;
     ghost use Rattle.client_quorum.specs.ClientSteps.{AcceptFits};
+    ghost use Rattle.client_quorum.specs.Core as core;
 
-    ghost Value = { Machine ClientState };
+    ghost Value = { Machine core.Client };
 
-    ghost view = { λ c. record { failed = c.failed; state = c.state } };
+    ghost coded = { Prim.hlevel (codes, known.the_row.coded) };
 
-    ghost invariant = { λ c. AcceptFits c.state.accepted };
+    ghost view = { λ c. record { failed = c.failed; state = record { requests = c.requests } } };
+
+    ghost invariant = { λ c. AcceptFits c.requests.accepted };
 }
 
 impl Client {
@@ -47,7 +52,7 @@ impl Client {
         Ok(Client {
             alloc,
             failed: false,
-            state: ClientState {
+            requests: ClientState {
                 config,
                 number,
                 last_id: 0,
@@ -61,36 +66,36 @@ impl Client {
 
     /// The last acceptance: None exactly where no request was submitted, or the last submitted one was not accepted.
     pub fn accepted(&self) -> Option<&Accept>
-        ensures accepted { option_copied result ≡ self.now.state.accepted }
-        ensures limit { AcceptFits self.now.state.accepted }
+        ensures accepted { option_copied result ≡ self.now.state.requests.accepted }
+        ensures limit { AcceptFits self.now.state.requests.accepted }
     {
-        self.state.accepted.as_ref()
+        self.requests.accepted.as_ref()
     }
 
-    /// What the client knows. Whatever came, it is within the limits.
+    /// What the client knows of its requests. Whatever came, it is within the limits.
     pub fn state(&self) -> &ClientState
-        ensures value { result.now ≡ self.now.state }
-        ensures within { IsWithin self.now.state }
+        ensures value { result.now ≡ self.now.state.requests }
+        ensures within { IsWithin self.now.state.requests }
     {
-        let _last = self.state.last_id;
-        let _pending = self.state.pending.request();
-        let _kept = self.state.replies.as_slice();
-        &self.state
+        let _last = self.requests.last_id;
+        let _pending = self.requests.pending.request();
+        let _kept = self.requests.replies.as_slice();
+        &self.requests
     }
 
     /// Whether an op that is submitted now becomes the client's request: none is pending, and an id is left.
     pub fn can_submit(&self) -> bool
-        ensures { result ≡ can_submit self.now.state }
+        ensures { result ≡ can_submit self.now.state.requests }
     {
-        can_submit(&self.state)
+        can_submit(&self.requests)
     }
 }
 
 impl Core for Client {
-    ghost use Rattle.client_quorum.specs.declared.state.ClientState.{ClientState};
-    ghost use Rattle.client_quorum.specs.ClientSteps.{next, timers, is_done};
+    ghost use Rattle.client_quorum.specs.Core as core;
+    ghost use Rattle.client_quorum.specs.Core.{next, timers, is_done};
 
-    ghost State = { ClientState };
+    ghost State = { core.Client };
 
     ghost state = { λ c. c.state };
 
@@ -107,7 +112,7 @@ impl Core for Client {
             return Err(NoMemory);
         }
         let mut made = Outbox::new(self.alloc);
-        let acted = act(self.alloc, &mut self.state, input, &mut made);
+        let acted = act(self.alloc, &mut self.requests, input, &mut made);
         end_step(acted, made, out, &mut self.failed)
     }
 
@@ -123,6 +128,6 @@ impl Core for Client {
 
     #[tactic(auto, unfolding(crate::specs::OpenRequests::open_requests))]
     fn done(&self) -> bool {
-        self.state.pending.is_none() && self.state.waiting.is_empty()
+        self.requests.pending.is_none() && self.requests.waiting.is_empty()
     }
 }

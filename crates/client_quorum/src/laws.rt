@@ -12,12 +12,19 @@ ghost use Rattle.nop_types.specs.declared.output.Out.TheVariants.{Submitted, Acc
 ghost use Rattle.client_quorum.specs.declared.state.ClientState.{ClientState};
 ghost use Rattle.client_quorum.specs.ClientSteps.{accepts, is_done, is_expected, kept, next};
 ghost use Rattle.client_quorum.specs.ClientSteps.{opening, reply, submitted};
+ghost use Rattle.client_quorum.specs.Core as core;
 ghost use Rattle.client_quorum.specs.Ignoring.{is_tick_for, IsIgnored, IgnoresPacket};
 ghost use Rattle.client_quorum.specs.KeptReplies.{HasOneEach, keep_reply};
 ghost use Rattle.client_quorum.specs.OpenRequests.{has_room, is_open, kept_for, open_requests, WordsAgree};
 ghost use Rattle.client_quorum.specs.Rows.{IsClosed, IsKept, IsOpened, Row};
 ghost use Rattle.client_quorum.specs.Runs.{accept_count, after, gave, replies_of, ops_of, HasNoSubmit, HasQuorum, IsAgreed};
 ghost use Rattle.client_quorum.specs.Runs.{EndsWith, Stands, TakesTurns};
+
+/// A step of a client is a step of its requests.
+pub fn steps_its_requests()
+    ensures state { (c : core.Client) (x : Given) → (core.next c x).0.requests ≡ (next c.requests x).0 }
+    ensures outs { (c : core.Client) (x : Given) → (core.next c x).1 ≡ (next c.requests x).1 }
+{}
 
 /// Each step is a row: nothing happens where nothing was asked, the client says that it is busy, an op is submitted, the open requests
 /// are sent again, or a reply is kept, or accepts a result.

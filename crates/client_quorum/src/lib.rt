@@ -2,7 +2,8 @@
 //! the leader's.
 //!
 //! `Client` meets `Core` with the step table `next`, from `opening` on; its state stays in its
-//! ranges. Whatever the inputs:
+//! ranges. Its state is a record with a field for each half of it (`specs/Core`): so far its requests
+//! alone, and a step is theirs (`steps_its_requests`). Whatever the inputs:
 //!
 //! - A reply to the open request makes it accept a result exactly where f + 1 kept replies, this
 //!   one with them, are of one view and slot, the leader's among them with that result
@@ -23,8 +24,8 @@
 //!
 //! Calls: `Client::new`, `step` and others by the trait, `state`, `accepted`, `can_submit`.
 //!
-//! Files: `state`, `replies`, `rows`, `client`. Definitions: `specs/ClientSteps` (`next`),
-//! `OpenRequests`, `Rows`, `KeptReplies`.
+//! Files: `state`, `replies`, `rows`, `client`. Definitions: `specs/Core`, `ClientSteps` (`next` of
+//! its requests), `OpenRequests`, `Rows`, `KeptReplies`.
 #![tactic(auto)]
 
 mod client;
@@ -39,8 +40,8 @@ pub use client::Client;
 pub use laws::{
     accepts_exactly_at_a_quorum, accepts_what_replicas_replied, ignores_what_is_for_others,
     is_done_when_all_are_accepted, keeps_no_quorum, knows_the_last_request,
-    rows_move_open_requests, steps_are_rows, submits_waiting_ops_in_order, takes_turns,
-    uses_each_id_once, words_agree,
+    rows_move_open_requests, steps_are_rows, steps_its_requests, submits_waiting_ops_in_order,
+    takes_turns, uses_each_id_once, words_agree,
 };
 pub use pending::Pending;
 pub use replies::Replies;

@@ -1,8 +1,8 @@
 -- A client's accept lines, whatever its link tells.
-use Rattle.std.proofs.Common.{◌≡◌, ℕ, ◌<◌, Bool, true, false, List, [], ◌∷◌, ◌++◌, Option, Some, None, refl, ap, ◌∙◌, length, inl, inr}
-use Rattle.client_quorum.specs.ClientSteps as client
+use Rattle.std.proofs.Common.{◌≡◌, ℕ, ◌<◌, Bool, true, false, List, [], ◌∷◌, ◌++◌, Option, Some, None, refl, sym, ap, ◌∙◌, length, inl, inr}
+use Rattle.client_quorum.specs.ClientSteps as requests
+use Rattle.client_quorum.specs.Core as client
 use Rattle.client_quorum.specs.Runs.{accept_count, after, gave, HasNoSubmit}
-use Rattle.client_quorum.specs.declared.state.ClientState.{ClientState}
 use Rattle.client_quorum.proofs.Counts.{all_accepted, some_open}
 use Rattle.command_line.specs.declared.command.Command.{Command}
 use Rattle.command_line.specs.declared.command.Command.TheVariants.{Replay, Client}
@@ -23,11 +23,11 @@ free (Packet bytes ∷ xs) out = free xs out
 free (Ticked tick ∷ xs) out = free xs out
 free _ out = absurd out
 
-state_is : (s : ClientState) (xs : List Given) → (folded client.next s xs).0 ≡ after s xs
+state_is : (s : client.Client) (xs : List Given) → (folded client.next s xs).0.requests ≡ after s.requests xs
 state_is s [] = refl
 state_is s (x ∷ xs) = state_is (client.next s x).0 xs
 
-outs_are : (s : ClientState) (xs : List Given) → (folded client.next s xs).1 ≡ gave s xs
+outs_are : (s : client.Client) (xs : List Given) → (folded client.next s xs).1 ≡ gave s.requests xs
 outs_are s [] = refl
 outs_are s (x ∷ xs) = ap (λ os. (client.next s x).1 ++ os) (outs_are (client.next s x).0 xs)
 
@@ -43,8 +43,9 @@ module _ (id : ℕ) (site : Site) (ops : List (List ℕ)) where
   accepted : (losses losses_now : ℕ) (h i : Option (List ℕ)) → LastLine (client_task id site ops) losses losses_now statuses.Done h i
       → WroteAccepts (address_of site (actors.Client id)) (length ops) h i
   accepted losses losses_now h i l =
-      let s : ClientState = client.opening site.config id ops in
-      let done : client.is_done (after s l.inputs) ≡ true = rw (state_is s l.inputs) at (was_done _ l.ends) in
+      let s : client.Client = client.opening site.config id ops in
+      let done : requests.is_done (after s.requests l.inputs) ≡ true =
+      ap requests.is_done (sym (state_is s l.inputs)) ∙ was_done _ l.ends in
       let count = all_accepted site.config id ops l.inputs (free l.inputs l.outside) done in
       record {
         outs = (folded client.next s l.inputs).1;
@@ -57,10 +58,11 @@ module _ (id : ℕ) (site : Site) (ops : List (List ℕ)) where
   lacking : (losses losses_now : ℕ) (h i : Option (List ℕ)) → LastLine (client_task id site ops) losses losses_now statuses.Unanswered h i
       → (fewer : ℕ) × (fewer < length ops) × WroteAccepts (address_of site (actors.Client id)) fewer h i
   lacking losses losses_now h i l =
-      let s : ClientState = client.opening site.config id ops in
-      let open_ : client.is_done (after s l.inputs) ≡ false = rw (state_is s l.inputs) at (was_open _ l.ends) in
+      let s : client.Client = client.opening site.config id ops in
+      let open_ : requests.is_done (after s.requests l.inputs) ≡ false =
+      ap requests.is_done (sym (state_is s l.inputs)) ∙ was_open _ l.ends in
       let count = some_open site.config id ops l.inputs (free l.inputs l.outside) open_ in (
-        accept_count (gave s l.inputs),
+        accept_count (gave s.requests l.inputs),
         count,
         record {
           outs = (folded client.next s l.inputs).1;

@@ -1,9 +1,8 @@
 -- What the commands of nodes run, and how each of them ends.
 use Rattle.std.specs.Prelude.{◌≡◌, ℕ, ◌<◌, List, [], ◌++◌, length, Bool, true, false, Option, Some, None, ⊤}
 use Rattle.std.specs.Io.KnownBytes.{Appends}
-use Rattle.client_quorum.specs.ClientSteps as client
+use Rattle.client_quorum.specs.Core as client
 use Rattle.client_quorum.specs.Runs.{accept_count}
-use Rattle.client_quorum.specs.declared.state.ClientState.{ClientState}
 use Rattle.command_line.specs.declared.command.Command.{Command}
 use Rattle.command_line.specs.declared.command.Command.TheVariants.{Gen, Node, Sequencer, Controller, Client}
 use Rattle.command_line.specs.declared.command.Site.{Site}
@@ -54,7 +53,7 @@ controller_task site number install =
     (address_of site (actors.Controller number)) (first_inputs (install_order install)) site.turns false
 
 -- the client waits until its ops are accepted
-abbrev pub client_task : ℕ → Site → List (List ℕ) → NodeTask ClientState
+abbrev pub client_task : ℕ → Site → List (List ℕ) → NodeTask client.Client
 client_task id site ops =
     task_of client.next client.is_done client.timers (client.opening site.config id ops)
     (address_of site (actors.Client id)) (first_inputs None) site.turns true

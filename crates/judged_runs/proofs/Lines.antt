@@ -23,7 +23,7 @@ use Rattle.nop_types.specs.declared.output.Out.{Out}
 use Rattle.nop_types.specs.declared.output.Out.TheVariants as outs
 use Rattle.oum_codec.specs.declared.bad.Bad.{Bad}
 use Rattle.oum_codec.specs.Reading.{reading}
-use Rattle.client_quorum.specs.declared.state.ClientState.{ClientState}
+use Rattle.client_quorum.specs.Core.{Client}
 use Rattle.replica_core.specs.ReplicaSteps as replica
 use Rattle.replica_core.specs.ReplicaSteps.{Replica}
 use Rattle.schedule_text.specs.Ticks.{takes_tick}
@@ -114,7 +114,7 @@ did_count from (Outputs os) n = sends_counted from os n
 
 -- a client has its number, and no op waits
 abbrev OtherIs : (k : Kind) → ℕ → State k → Type 0
-OtherIs Clients i s = ClientIs i s
+OtherIs Clients i s = ClientIs i s.requests
 OtherIs _ i s = ⊤
 
 pub record Told (c : Configuration) (w : WorldState) (ls : List Line) : Type 0 where
@@ -171,7 +171,7 @@ seat_tells c next p false Crashes go = tt
 other_tells : (c : Configuration) (k : Kind) (i : ℕ) → i < count k c → (s : State k) → OtherIs k i s → (g : Given) → GivenIs g
     → OutsAre c (next k s g).1 × OtherIs k i (next k s g).0
 other_tells c Sequencers i within s is g fits = (sequencer_tells c s g, tt)
-other_tells c Clients i within s is g fits = let t = client_tells c i within s is g fits in (t.tells, t.stays)
+other_tells c Clients i within s is g fits = let t = client_tells c i within s.requests is g fits in (t.tells, t.stays)
 other_tells c Controllers i within s is g fits = (controller_tells c s g, tt)
 
 other_seat : (c : Configuration) (k : Kind) (i : ℕ) → i < count k c → (p : Seated (State k)) → OtherIs k i p.state → (b : Bool)
@@ -286,15 +286,15 @@ counted_length make zero = refl
 counted_length make (suc n) =
     let h = counted_length make n in omega (arith, h, length-append (counted make n) (seated (make n) ∷ []))
 
-opening_own : (c : Configuration) (n k : ℕ) (q : Seated ClientState) → slice_get (counted (opening_client c) n) k ≡ Some q
-    → ClientIs k q.state
+opening_own : (c : Configuration) (n k : ℕ) (q : Seated Client) → slice_get (counted (opening_client c) n) k ≡ Some q
+    → ClientIs k q.state.requests
 opening_own c zero k q h = absurd cc
 opening_own c (suc n) k q h =
     elim (slice_get-push_cases (counted (opening_client c) n) (seated (opening_client c n)) k q h) [
       | inl before ↦ opening_own c n k q before.1
       | inr last ↦
           let here : k ≡ n = last.0 ∙ counted_length (opening_client c) n in
-          subst (λ (s : Seated ClientState). ClientIs k s.state) last.1 (record { number = sym here; waits = refl })
+          subst (λ (s : Seated Client). ClientIs k s.state.requests) last.1 (record { number = sym here; waits = refl })
     ]
 
 opening_told : (c : Configuration) → Told c (opening c) []

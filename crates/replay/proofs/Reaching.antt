@@ -28,6 +28,7 @@ use Rattle.oum_codec.specs.declared.bad.Bad.{Bad}
 use Rattle.lemmas.proofs.Members.{Has-none, Has-append_cases, Has-filter, Has-from_filter}
 use Rattle.execution_laws.proofs.Shortness.{result_fits}
 use Rattle.trimming.proofs.Bounds.{trimmed_keep_bounds}
+use Rattle.client_quorum.specs.Core.{Client}
 use Rattle.client_quorum.specs.declared.state.ClientState.{ClientState}
 use Rattle.session_control.specs.ControllerSteps as controller
 use Rattle.replica_core.specs.ReplicaSteps as replica
@@ -257,11 +258,11 @@ module _ {S : Type 0} (m : Meaning S) (config : Configuration) (bounds : Bounds 
   }
   given_names _ may = tt
 
-  own_number : (k : ℕ) (old : Seated ClientState) → slice_get w.others.clients k ≡ Some old → old.state.number < config.clients
+  own_number : (k : ℕ) (old : Seated Client) → slice_get w.others.clients k ≡ Some old → old.state.requests.number < config.clients
   own_number k old there =
       let found : slice_get whole_one.others.clients k ≡ Some old =
       ap (λ (o : Others). slice_get o.clients k) (sym alike.others) ∙ there in
-      let is : old.state.number ≡ k =
+      let is : old.state.requests.number ≡ k =
       ap (λ (s : ClientState). s.number) (sym (shown.others Clients k old found)) ∙ (inv.clients k).number in
       omega (
         arith,
@@ -274,7 +275,7 @@ module _ {S : Type 0} (m : Meaning S) (config : Configuration) (bounds : Bounds 
   other_goes : (k : Kind) (i : ℕ) (old : Seated (State k)) → slice_get (seats k w.others) i ≡ Some old → (given : Given)
       → MayCome (bytes_of w.sent) given → OutsGo config (next k old.state given).1
   other_goes Sequencers i old there given may = sequencer_goes config old.state given (given_names given may)
-  other_goes Clients i old there given may = client_goes config old.state (own_number i old there) given
+  other_goes Clients i old there given may = client_goes config old.state.requests (own_number i old there) given
   other_goes Controllers i old there given may =
       (controller_directs config old.state given (good.others Controllers i old there)).sends
 

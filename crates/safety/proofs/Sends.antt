@@ -20,6 +20,7 @@ use Rattle.oum_codec.specs.Fixed.{request_fields_at, request_in_range, stamped_f
 use Rattle.oum_codec.specs.Reading.{◌>>=◌, fields_of, sized, reading, request_of, stamped_of, reply_of, install_of, ping_of}
 use Rattle.oum_codec.specs.Spelling.{spelling, request_bytes, stamped_bytes, reply_bytes, install_bytes, ping_bytes}
 use Rattle.client_quorum.specs.ClientSteps as client
+use Rattle.client_quorum.specs.Core.{Client}
 use Rattle.client_quorum.specs.OpenRequests.{open_requests}
 use Rattle.client_quorum.specs.Rows.{Row, Opens, Repeats}
 use Rattle.client_quorum.proofs.RowLemmas.{row_of}
@@ -147,8 +148,8 @@ row_sends s i y (Opens op waiting can from) = (request_is _, tt)
 row_sends s i y (Repeats is) = retry_sends (open_requests s)
 row_sends s i y _ = tt
 
-client_sends : (s : ClientState) (i : Given) → AreOther (client.next s i).1
-client_sends s i = row_sends s i (client.next s i) (row_of s i)
+client_sends : (s : Client) (i : Given) → AreOther (next Clients s i).1
+client_sends s i = row_sends s.requests i (client.next s.requests i) (row_of s.requests i)
 
 -- ---- sequencers
 
@@ -227,10 +228,15 @@ other_sends Sequencers = sequencer_sends
 other_sends Clients = client_sends
 other_sends Controllers = controller_sends
 
+client_ignores : (bytes : List ℕ) (f : Fragment) → reading bytes ≡ Ok (datagrams.Fragment f) → (s : Client)
+    → next Clients s (Packet bytes) ≡ (s, [])
+unfolding client.next
+client_ignores bytes f e s = rw e refl
+
 -- a fragment changes nothing at them
 pub other_ignores : (k : Kind) (bytes : List ℕ) (f : Fragment) → reading bytes ≡ Ok (datagrams.Fragment f) → (s : State k)
     → next k s (Packet bytes) ≡ (s, [])
-unfolding sequencer.next client.next controller.next
+unfolding sequencer.next controller.next
 other_ignores Sequencers bytes f e s = ap (sequencer.on_datagram s) e
-other_ignores Clients bytes f e s = ap (client.on_datagram s) e
+other_ignores Clients bytes f e s = client_ignores bytes f e s
 other_ignores Controllers bytes f e s = ap (controller.on_datagram s) e

@@ -16,7 +16,9 @@ use Rattle.nop_types.specs.declared.output.Actor.{Actor}
 use Rattle.nop_types.specs.declared.output.Out.{Out}
 use Rattle.lemmas.proofs.Members.{Has-none, Has-cases, Has-append_cases}
 use Rattle.client_quorum.specs.declared.state.ClientState.{ClientState}
-use Rattle.client_quorum.specs.ClientSteps as client
+use Rattle.client_quorum.specs.ClientSteps as requests
+use Rattle.client_quorum.specs.Core as client
+use Rattle.client_quorum.specs.Core.{Client}
 use Rattle.sequencer.specs.declared.state.SequencerState.{SequencerState}
 use Rattle.sequencer.specs.SequencerSteps as sequencer
 use Rattle.sequencer.specs.Runs.{stamp_in}
@@ -171,33 +173,38 @@ module _ {S : Type 0} (m : Meaning S) (f : ℕ) (config : Configuration) (p : Pa
 
   -- ---- clients
 
-  module _ (k : ℕ) (old : Seated ClientState) (there : slice_get w.others.clients k ≡ Some old) (i : Given)
+  module _ (k : ℕ) (old : Seated Client) (there : slice_get w.others.clients k ≡ Some old) (i : Given)
       (comes : Comes c i) where
+    abbrev core_step : Client × List Out
+    core_step = client.next old.state i
+
+    -- the step of its requests
     abbrev client_step : ClientState × List Out
-    client_step = client.next old.state i
+    client_step = requests.next old.state.requests i
 
     abbrev client_after : Conf
     client_after = with_client c k client_step
 
     client_reaches : ClientReaches m f c k client_step
-    client_reaches = subst (λ (s : ClientState). ClientReaches m f c k (client.next s i)) (shown.others Clients k old there)
+    client_reaches = subst (λ (s : ClientState). ClientReaches m f c k (requests.next s i)) (shown.others Clients k old there)
         (clients_reach m f c k i inv comes.may)
 
     client_in_ranges : AllFit client_after × ClientFits client_step.0
     client_in_ranges =
-        let same : c.clients k ≡ old.state = shown.others Clients k old there in
+        let same : c.clients k ≡ old.state.requests = shown.others Clients k old there in
         let fits : ClientFits (c.clients k) = subst ClientFits (sym same) (at.stands.ranges.others Clients k old there) in
-        subst (λ (s : ClientState). AllFit (with_client c k (client.next s i)) × ClientFits (client.next s i).0) same
+        subst (λ (s : ClientState). AllFit (with_client c k (requests.next s i)) × ClientFits (requests.next s i).0) same
         (clients_stay_in_ranges c k i all_fit fits comes.fits)
 
     client_shown : (j : Kind) (n : ℕ) (q : Seated (State j))
-        → slice_get (seats j (with_seat Clients w.others k (seated client_step.0))) n ≡ Some q → IsShown j client_after n q.state
-    client_shown Clients = seats_shown (λ s. s) w.others.clients c.clients k (seated client_step.0) (shown.others Clients)
+        → slice_get (seats j (with_seat Clients w.others k (seated core_step.0))) n ≡ Some q → IsShown j client_after n q.state
+    client_shown Clients =
+        seats_shown (λ (s : Client). s.requests) w.others.clients c.clients k (seated core_step.0) (shown.others Clients)
     client_shown j = shown.others j
 
     client_goes : StepGoes Clients k old i
     client_goes =
-        other_goes_by Clients k client_step client_after client_reaches client_in_ranges.0 client_in_ranges.1 shown.givers
+        other_goes_by Clients k core_step client_after client_reaches client_in_ranges.0 client_in_ranges.1 shown.givers
         refl refl refl client_shown
 
   -- ---- sequencers

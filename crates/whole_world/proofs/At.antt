@@ -28,7 +28,7 @@ pub record ReplicaFits (i : ℕ) (r : WholeReplica) : Type 0 where
   pub receiver : IsSound r.state.receiver
 
 abbrev pub OtherFits : (k : Kind) → State k → Type 0
-OtherFits Clients s = ClientFits s
+OtherFits Clients s = ClientFits s.requests
 OtherFits Controllers s = controller.IsWithin s
 OtherFits _ s = ⊤
 

@@ -9,6 +9,7 @@ use Rattle.nop_types.specs.Meaning.{Meaning}
 use Rattle.nop_types.specs.declared.limits.TheConstants.{MAX_CONTROLLERS}
 use Rattle.lemmas.proofs.Members.{Has-none}
 use Rattle.lemmas.proofs.Places.{slice_get-push_cases}
+use Rattle.client_quorum.specs.Core.{Client}
 use Rattle.replica_state.specs.State.{PointsMeet}
 use Rattle.sequencer.specs.SequencerSteps as sequencer
 use Rattle.session_control.specs.declared.state.ControllerState.{ControllerState}
@@ -62,7 +63,7 @@ pub counted_within : {S : Type 0} (make : ℕ → S) (n i : ℕ) (p : Seated S) 
 counted_within make n i p e = omega (arith, slice_get_within (counted make n) i p e, counted_length make n)
 
 client_opens : (config : Configuration) → IsTrue (is_configuration config) → (k : ℕ) → k < config.clients
-    → ClientFits (opening_client config k)
+    → ClientFits (opening_client config k).requests
 client_opens config is k l =
     let few = counts_from config is in
     record { number = omega (arith, l, few.clients); waiting = λ op h. absurd (Has-none op h) }
@@ -76,14 +77,15 @@ replica_opens config is i l =
 others_shown : (config : Configuration) (k : Kind) (i : ℕ) (p : Seated (State k))
     → slice_get (seats k (opening_others config)) i ≡ Some p → IsShown k (opening config) i p.state
 others_shown config Sequencers i p e = counted_get sequencer.opening config.sequencers i p e
-others_shown config Clients i p e = counted_get (opening_client config) config.clients i p e
+others_shown config Clients i p e = ap (λ (s : Client). s.requests) (counted_get (opening_client config) config.clients i p e)
 others_shown config Controllers i p e =
     let opens : controller.opening config i ≡ p.state = counted_get (controller.opening config) config.controllers i p e in
     (ap control_of opens, ap (λ (s : ControllerState). s.number) (sym opens))
 
 others_fit : (config : Configuration) → IsTrue (is_configuration config) → (k : Kind) (i : ℕ) (p : Seated (State k))
     → slice_get (seats k (opening_others config)) i ≡ Some p → OtherFits k p.state
-others_fit config is Clients i p e = subst ClientFits (counted_get (opening_client config) config.clients i p e)
+others_fit config is Clients i p e =
+    subst (λ (s : Client). ClientFits s.requests) (counted_get (opening_client config) config.clients i p e)
     (client_opens config is i (counted_within (opening_client config) config.clients i p e))
 others_fit config is Controllers i p e =
     subst controller.IsWithin (counted_get (controller.opening config) config.controllers i p e)

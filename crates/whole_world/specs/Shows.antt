@@ -57,10 +57,10 @@ pub record Carries (sent : List Sent) (c : Conf) : Type 0 where
   pub replies : (y : Reply) → Has c.replies y → IsThere sent (datagrams.Reply y)
   pub installs : (x : Install) → Has c.installs x → IsThere sent (datagrams.Install (home x.session) x.sequencer x.session)
 
--- the configuration shows this state of the actor of a kind with this number; a controller has its number
+-- the configuration shows this state of the actor of a kind with this number, of a client its requests; a controller has its number
 abbrev pub IsShown : (k : Kind) → Conf → ℕ → State k → Type 0
 IsShown Sequencers c i s = c.sequencers i ≡ s
-IsShown Clients c i s = c.clients i ≡ s
+IsShown Clients c i s = c.clients i ≡ s.requests
 IsShown Controllers c i s = (c.controllers i ≡ control_of s) × (s.number ≡ i)
 
 -- each actor of the world has the state that is shown, and each replica tells its log with its sync point; each session that was

@@ -12,7 +12,8 @@ use Rattle.nop_types.specs.declared.output.Actor.TheVariants as actors
 use Rattle.nop_types.specs.declared.output.Out.{Out}
 use Rattle.oum_codec.specs.declared.bad.Bad.{Bad}
 use Rattle.oum_codec.specs.Reading.{reading}
-use Rattle.client_quorum.specs.ClientSteps as client
+use Rattle.client_quorum.specs.ClientSteps as requests
+use Rattle.client_quorum.specs.Core.{Client}
 use Rattle.replica_core.specs.ReplicaSteps as replica
 use Rattle.replica_core.specs.ReplicaSteps.{Replica}
 use Rattle.sequencer.specs.SequencerSteps as sequencer
@@ -102,10 +103,14 @@ replica_ignores : {S : Type 0} (m : Meaning S) (bytes : List ℕ) (b : Bad) → 
 unfolding replica.next
 replica_ignores m bytes b e s = ap (replica.on_datagram m s) e
 
+client_ignores : (bytes : List ℕ) (b : Bad) → reading bytes ≡ Err b → (s : Client) → next Clients s (Packet bytes) ≡ (s, [])
+unfolding requests.next
+client_ignores bytes b e s = rw e refl
+
 other_ignores : (k : Kind) (bytes : List ℕ) (b : Bad) → reading bytes ≡ Err b → (s : State k) → next k s (Packet bytes) ≡ (s, [])
-unfolding sequencer.next client.next controller.next
+unfolding sequencer.next controller.next
 other_ignores Sequencers bytes b e s = ap (sequencer.on_datagram s) e
-other_ignores Clients bytes b e s = ap (client.on_datagram s) e
+other_ignores Clients bytes b e s = client_ignores bytes b e s
 other_ignores Controllers bytes b e s = ap (controller.on_datagram s) e
 
 -- at a core that ignores such bytes

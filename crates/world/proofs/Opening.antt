@@ -4,7 +4,7 @@ use Rattle.std.specs.Prelude.{map}
 use Rattle.std.proofs.lemmas.List.{map-append}
 use Rattle.nop_types.specs.Configuration.{Configuration}
 use Rattle.nop_types.specs.declared.request.Entry.{Entry}
-use Rattle.client_quorum.specs.declared.state.ClientState.{ClientState}
+use Rattle.client_quorum.specs.Core.{Client}
 use Rattle.replica_core.specs.ReplicaSteps as replica
 use Rattle.replica_core.specs.ReplicaSteps.{Replica}
 use Rattle.sequencer.specs.SequencerSteps as sequencer
@@ -27,7 +27,7 @@ counted_more {C} {S} state make n old new made so_far pushed opens =
     ∙ ap (λ (p : Seated S). counted make n ++ p ∷ []) opens ∙ sym (ap (counted make) (add-one n))
 
 -- all actors in their opening states, and nothing sent or archived
-pub world_opens : (config : Configuration) (rs : List (Seated Replica)) (ss : List (Seated SequencerState)) (cs : List (Seated ClientState))
+pub world_opens : (config : Configuration) (rs : List (Seated Replica)) (ss : List (Seated SequencerState)) (cs : List (Seated Client))
     (ks : List (Seated ControllerState)) (sent : List Sent) (archive : List Entry)
     → rs ≡ counted (replica.opening config) config.replicas → ss ≡ counted sequencer.opening config.sequencers
     → cs ≡ counted (opening_client config) config.clients

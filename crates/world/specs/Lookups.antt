@@ -3,8 +3,8 @@ use Rattle.std.specs.Prelude.{ℕ, List, [], Bool, false, ◌&&◌, not, Option,
 use Rattle.nop_types.specs.declared.input.Tick.{Tick}
 use Rattle.nop_types.specs.declared.output.Actor.{Actor}
 use Rattle.replica_core.specs.ReplicaSteps as replica
-use Rattle.client_quorum.specs.declared.state.ClientState.{ClientState}
-use Rattle.client_quorum.specs.ClientSteps as client
+use Rattle.client_quorum.specs.ClientSteps as requests
+use Rattle.client_quorum.specs.Core.{Client}
 use Rattle.world.specs.Others.{seats, timers, Who, AReplica, Another, who}
 use Rattle.world.specs.Seats.{Seated}
 use Rattle.world.specs.WorldSteps.{WorldState}
@@ -22,9 +22,9 @@ timers_by w (Another k i) = timers_if (slice_get (seats k w.others) i) (timers k
 abbrev pub timers_of : WorldState → Actor → List (Tick × ℕ)
 timers_of w actor = timers_by w (who actor)
 
-abbrev pub takes_if : Option (Seated ClientState) → Bool
+abbrev pub takes_if : Option (Seated Client) → Bool
 takes_if None = false
-takes_if (Some p) = not p.crashed && client.can_submit p.state
+takes_if (Some p) = not p.crashed && requests.can_submit p.state.requests
 
 -- whether an op that is submitted to a client becomes its request: it is there, has not crashed, and answers no Busy
 abbrev pub takes_op : WorldState → ℕ → Bool

@@ -8,8 +8,7 @@ use Rattle.nop_types.specs.declared.output.Actor.TheVariants as actors
 use Rattle.nop_types.specs.declared.output.Out.{Out}
 use Rattle.sequencer.specs.declared.state.SequencerState.{SequencerState}
 use Rattle.sequencer.specs.SequencerSteps as sequencer
-use Rattle.client_quorum.specs.declared.state.ClientState.{ClientState}
-use Rattle.client_quorum.specs.ClientSteps as client
+use Rattle.client_quorum.specs.Core as client
 use Rattle.session_control.specs.declared.state.ControllerState.{ControllerState}
 use Rattle.session_control.specs.ControllerSteps as controller
 use Rattle.world.specs.Seats.{Seated}
@@ -24,7 +23,7 @@ pub data Kind : Type 0 where
 -- its state
 abbrev pub State : Kind → Type 0
 State Sequencers = SequencerState
-State Clients = ClientState
+State Clients = client.Client
 State Controllers = ControllerState
 
 -- its step table
@@ -49,7 +48,7 @@ count Controllers c = c.controllers
 
 pub record Others : Type 0 where
   pub sequencers : List (Seated SequencerState)
-  pub clients : List (Seated ClientState)
+  pub clients : List (Seated client.Client)
   pub controllers : List (Seated ControllerState)
 
 abbrev pub seats : (k : Kind) → Others → List (Seated (State k))

@@ -21,8 +21,7 @@ use Rattle.oum_codec.specs.Reading.{reading}
 use Rattle.replica_core.specs.ReplicaSteps as replica
 use Rattle.replica_core.specs.ReplicaSteps.{Replica}
 use Rattle.sequencer.specs.SequencerSteps as sequencer
-use Rattle.client_quorum.specs.declared.state.ClientState.{ClientState}
-use Rattle.client_quorum.specs.ClientSteps as client
+use Rattle.client_quorum.specs.Core as client
 use Rattle.session_control.specs.ControllerSteps as controller
 use Rattle.schedule_text.specs.declared.event.Event.{Event}
 use Rattle.schedule_text.specs.declared.event.Event.TheVariants as events
@@ -141,7 +140,7 @@ counted make zero = []
 counted make (suc n) = counted make n ++ seated (make n) ∷ []
 
 -- no client has ops of its own
-abbrev pub opening_client : Configuration → ℕ → ClientState
+abbrev pub opening_client : Configuration → ℕ → client.Client
 opening_client c number = client.opening c number []
 
 abbrev pub opening_others : Configuration → Others
