@@ -3,7 +3,7 @@ use Rattle.std.proofs.Common.{◌≡◌, ℕ, ◌+◌, ◌<◌, Bool, cond, List
 use Rattle.std.proofs.Common.{◌∙◌, arith}
 use Rattle.std.proofs.Common.{append_assoc, length-append}
 use Rattle.std.specs.List.{count_by}
-use Rattle.std.proofs.lemmas.List.{take_more, take-append-drop}
+use Rattle.std.proofs.lemmas.List.{append-nil, take_more, take-append-drop}
 use Rattle.std.proofs.lemmas.List.Sums.{sum_by-append}
 use Rattle.std.proofs.lemmas.List.Concat.{flat_map-append}
 use Rattle.nop_types.specs.Lines as lines
@@ -57,6 +57,15 @@ pub record CarriedOut (from : Actor) (net net_new : List Sent) (a b : Tally) (do
   pub network : net_new ≡ net ++ sends_of from done
   pub lines : Grows a b (lines_from from (length net) done)
 
+-- one more output was sent
+pub sent_more : (from : Actor) (net mid last : List Sent) (all : List Out) (i : ℕ) (out : Out) → i < length all → out ≡ get_or all i out
+    → mid ≡ net ++ sends_of from (take i all) → last ≡ mid ++ sends_of from (out ∷ []) → last ≡ net ++ sends_of from (take (i + 1) all)
+sent_more from net mid last all i out lt is so_far sent =
+    let done : List Out = take i all in
+    let one : take (i + 1) all ≡ done ++ out ∷ [] = take_more all i out lt ∙ ap (λ (x : Out). done ++ x ∷ []) (sym is) in
+    sent ∙ ap (λ (s : List Sent). s ++ sends_of from (out ∷ [])) so_far ∙ append_assoc net (sends_of from done) (sends_of from (out ∷ []))
+    ∙ ap (λ (s : List Sent). net ++ s) (sym (sends_of-append from done (out ∷ [])) ∙ ap (sends_of from) (sym one))
+
 -- one more output was carried out
 pub carried_more : (from : Actor) (net mid last : List Sent) (a b c : Tally) (all : List Out) (i : ℕ) (out : Out) → i < length all
     → out ≡ get_or all i out
@@ -65,16 +74,15 @@ pub carried_more : (from : Actor) (net mid last : List Sent) (a b c : Tally) (al
 carried_more from net mid last a b c all i out lt is so_far sent more =
     let done : List Out = take i all in
     let one : take (i + 1) all ≡ done ++ out ∷ [] = take_more all i out lt ∙ ap (λ (x : Out). done ++ x ∷ []) (sym is) in
-    let net_is : last ≡ net ++ sends_of from (done ++ out ∷ []) =
-    sent ∙ ap (λ (s : List Sent). s ++ sends_of from (out ∷ [])) so_far.network
-    ∙ append_assoc net (sends_of from done) (sends_of from (out ∷ []))
-    ∙ ap (λ (s : List Sent). net ++ s) (sym (sends_of-append from done (out ∷ []))) in
     let count : length mid ≡ length net + length (sends_of from done) = ap length so_far.network ∙ length-append net (sends_of from done) in
     let grown : Grows a c (lines_from from (length net) (done ++ out ∷ [])) =
     subst (Grows a c) (sym (lines_from-append from (length net) done (out ∷ [])))
     (Grows-then a b c (lines_from from (length net) done) _ so_far.lines
     (subst (λ (n : ℕ). Grows b c (lines_from from n (out ∷ []))) count more)) in
-    subst (CarriedOut from net last a c) (sym one) (record { network = net_is; lines = grown })
+    record {
+      network = sent_more from net mid last all i out lt is so_far.network sent;
+      lines = subst (λ (os : List Out). Grows a c (lines_from from (length net) os)) (sym one) grown;
+    }
 
 -- an output of which a front was sent leaves a front of all of them
 pub front_stays : (from : Actor) (net mid last : List Sent) (all : List Out) (i : ℕ) (out : Out) → i < length all → out ≡ get_or all i out
@@ -94,3 +102,10 @@ front_stays from net mid last all i out lt is so_far front =
           ∙ append_assoc (done ++ front.front) front.rest left;
       sent = front.sent ∙ ap (λ (s : List Sent). s ++ front.front) so_far ∙ append_assoc net done front.front;
     }
+
+-- where an output was not sent, those before it are a front
+pub front_before : (from : Actor) (net mid last : List Sent) (all : List Out) (i : ℕ) (out : Out) → i < length all → out ≡ get_or all i out
+    → mid ≡ net ++ sends_of from (take i all) → last ≡ mid → SendsFront net last (sends_of from all)
+front_before from net mid last all i out lt is so_far same =
+    front_stays from net mid last all i out lt is so_far
+    (record { front = []; rest = sends_of from (out ∷ []); parts = refl; sent = same ∙ sym (append-nil mid) })

@@ -8,3 +8,4 @@ pub mod Refusals
 pub mod SeatLemmas
 pub mod Slots
 pub mod StateLines
+pub mod Trimming

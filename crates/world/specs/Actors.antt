@@ -1,14 +1,17 @@
 -- What the actors of the code stand for.
-use Rattle.std.specs.Prelude.{◌≡◌, List, map, Result, Ok}
+use Rattle.std.specs.Prelude.{◌≡◌, List, length, map, Option, IfSome, IsTrue, Result, Ok}
+use Rattle.std.specs.List.{list_all}
 use Rattle.nop_types.specs.Lines.{Line}
 use Rattle.nop_types.specs.declared.output.Actor.{Actor}
 use Rattle.nop_types.specs.declared.output.Actor.TheVariants as actors
+use Rattle.nop_types.specs.declared.output.Out.{Out}
 use Rattle.world.specs.declared.actors.Actors.{Actors}
 use Rattle.network.specs.declared.lines.Lines.{Lines}
 use Rattle.network.specs.LineCounts.{Shows}
-use Rattle.network.specs.Network.{Did}
+use Rattle.network.specs.Network.{Did, did_of, lines_by}
 use Rattle.world.specs.Archive.{archived}
 use Rattle.world.specs.SeatOutcomes.{seated_of}
+use Rattle.world.specs.Untrimmed.{has_line}
 use Rattle.world.specs.WorldSteps.{WorldState, Refusal, Happened}
 
 abbrev pub world_of : {H U : Type 0} → Actors H U → WorldState
@@ -35,3 +38,8 @@ pub record Happens (r : Result Happened Refusal) (new : WorldState) (lines : Lin
   pub are : List Line
   pub is : r ≡ Ok (record { world = new; lines = are })
   pub shown : Shows lines are
+
+-- the event happened: this is the world after it, and this is what its actor gave, each output with its line
+pub record Gives (r : Result Happened Refusal) (actor : Actor) (old new : WorldState) (given : Option (List Out)) : Type 0 where
+  pub is : r ≡ Ok (record { world = new; lines = lines_by actor (length old.sent) (did_of given) })
+  pub have_lines : IfSome given (λ os. IsTrue (list_all has_line os))

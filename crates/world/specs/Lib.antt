@@ -10,4 +10,5 @@ pub mod Refusals
 pub mod SeatOutcomes
 pub mod Seats
 pub mod StateLines
+pub mod Untrimmed
 pub mod WorldSteps

@@ -1,12 +1,14 @@
-ghost use Rattle.std.specs.Prelude.{◌≡◌, [], IfOk, IfErr, Ok, length, map};
+ghost use Rattle.std.specs.Prelude.{◌≡◌, [], IfOk, IfErr, OnOk, Ok, length, map, option_map};
 ghost use Rattle.replica_core.specs.ReplicaSteps as replica;
 ghost use Rattle.sequencer.specs.SequencerSteps as sequencer;
 ghost use Rattle.session_control.specs.ControllerSteps as controller;
-ghost use Rattle.world.specs.Actors.{world_of, moved_out, Happens};
+ghost use Rattle.world.specs.Actors.{world_of, moved_out, Gives, Happens};
 ghost use Rattle.network.specs.Network.{did_of};
 ghost use Rattle.world.specs.Others.{who};
 ghost use Rattle.world.specs.SeatOutcomes.{seated_of, Refuses};
+ghost use Rattle.world.specs.Untrimmed.{untrimmed};
 ghost use Rattle.world.specs.WorldSteps.{
+  actor_of,
   carried,
   counted,
   has_crashed,
@@ -22,7 +24,7 @@ use crate::seat::{Seat, is_crashed, take_at};
 use crate::step_error::StepError;
 use crate::stimulus::actor_of;
 use client_quorum::Client;
-use network::{Lines, Network, carry_out};
+use network::{Lines, Network, carry_out, send_all};
 use nop_types::{Actor, Config, Host, NoMemory, Outbox};
 use replica_core::Replica;
 use schedule_text::Event;
@@ -182,6 +184,46 @@ impl<H: Host> Actors<H> {
             self.archive.keep(did)?;
         }
         Ok(lines)
+    }
+
+    /// What an actor gave, without entries that moved out of a log: those of a replica are in the archive then.
+    fn put_away(
+        &mut self,
+        alloc: Global,
+        actor: Actor,
+        did: Option<Outbox>,
+    ) -> Result<Option<Outbox>, NoMemory>
+        ensures config { self.new.config ≡ self.old.config }
+        ensures count { length self.new.replicas.items ≡ length self.old.replicas.items }
+        ensures archive { OnOk result (world_of self.new
+            ≡ moved_out actor (did_of did) (world_of self.old)) }
+        ensures rest { IfOk result (λ rest. rest ≡ option_map untrimmed did) }
+    {
+        let Some(outs) = did else {
+            return Ok(None);
+        };
+        if let Actor::Replica(_) = actor {
+            return Ok(Some(self.archive.take_trimmed(alloc, outs)?));
+        }
+        // no other actor has a log
+        let mut unread = Archive::new(alloc);
+        Ok(Some(unread.take_trimmed(alloc, outs)?))
+    }
+
+    /// One event as in `step`, with what its actor gave, None where it had crashed before. No line is written.
+    #[tactic(auto, unfolding(crate::specs::WorldSteps::step))]
+    pub fn step_outs(&mut self, alloc: Global, event: &Event) -> Result<Option<Outbox>, StepError>
+        ensures config { self.new.config ≡ self.old.config }
+        ensures count { length self.new.replicas.items ≡ length self.old.replicas.items }
+        ensures ok { IfOk result (Gives (step H.meaning (world_of self.old) event.now)
+            (actor_of event.now) (world_of self.old) (world_of self.new)) }
+        ensures err { IfErr result (λ e. Refuses e (step H.meaning (world_of self.old) event.now)
+            (world_of self.new ≡ world_of self.old)) }
+    {
+        let actor = actor_of(event);
+        let did = self.take(alloc, actor, event)?;
+        send_all(&mut self.network, actor, &did)?;
+        Ok(self.put_away(alloc, actor, did)?)
     }
 
     /// Whether an actor crashed, false for an actor that is not of the configuration.

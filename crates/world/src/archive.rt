@@ -1,6 +1,7 @@
-ghost use Rattle.std.specs.Prelude.{◌≡◌, [], OnOk};
+ghost use Rattle.std.specs.Prelude.{◌≡◌, [], IfOk, OnOk};
 ghost use Rattle.network.specs.Network.{did_of};
 ghost use Rattle.world.specs.Archive.{with_entries, with_outs, archived};
+ghost use Rattle.world.specs.Untrimmed.{untrimmed};
 
 use nop_types::{Entry, Log, NoMemory, Out, Outbox};
 use std::alloc::Global;
@@ -66,5 +67,20 @@ impl Archive {
             Some(outs) => self.keep_all(outs.into_vec()),
             None => Ok(()),
         }
+    }
+
+    /// Keeps the entries that moved out of logs in a step, and gives the other outputs.
+    pub fn take_trimmed(&mut self, alloc: Global, outs: Outbox) -> Result<Outbox, NoMemory>
+        ensures archive { OnOk result (self.new ≡ with_outs self.old outs) }
+        ensures rest { IfOk result (λ rest. rest ≡ untrimmed outs) }
+    {
+        let mut rest = Outbox::new(alloc);
+        for out in outs.into_vec() {
+            match out {
+                Out::Trimmed { first, entries } => self.append(first, entries)?,
+                other => rest.push(other)?,
+            }
+        }
+        Ok(rest)
     }
 }

@@ -3,7 +3,8 @@
 //!
 //! `World::step` carries out `step` of the definition: at Ok world and lines are those of it, and
 //! an event that it refuses is refused so, and changes nothing. After NoMemory each later step
-//! gives that answer again. In each world that events lead to, an event is refused exactly where a
+//! gives that answer again. `World::step_outs` does the same, and gives what the event's actor gave in
+//! place of the text of its lines. In each world that events lead to, an event is refused exactly where a
 //! cause holds, by the first that does (`refuses_by_first_cause`). An event of a crashed actor that
 //! is not refused changes nothing and gives one line (`crashed_actors_take_no_step`), and malformed
 //! bytes change nothing (`junk_changes_nothing`).

@@ -16,9 +16,9 @@ ghost use Rattle.std.specs.Prelude.{
   slice_get,
 };
 ghost use Rattle.schedule_text.specs.Fits.{EventFits};
-ghost use Rattle.world.specs.Actors.{world_of, Happens};
+ghost use Rattle.world.specs.Actors.{world_of, Gives, Happens};
 ghost use Rattle.world.specs.SeatOutcomes.{Refuses};
-ghost use Rattle.world.specs.WorldSteps.{step, opening, history, has_crashed};
+ghost use Rattle.world.specs.WorldSteps.{actor_of, step, opening, history, has_crashed};
 ghost use Rattle.world.specs.StateLines.{replicas_text};
 
 mod lookups;
@@ -31,7 +31,7 @@ use crate::seat::core_at;
 use crate::state_lines::put_replicas;
 use crate::step_error::StepError;
 use network::{Lines, Network};
-use nop_types::{Actor, Bytes, Config, Host, NoMemory, Request};
+use nop_types::{Actor, Bytes, Config, Host, NoMemory, Outbox, Request};
 use replica_core::Replica;
 use schedule_text::Event;
 use std::alloc::Global;
@@ -129,6 +129,29 @@ impl<H: Host> World<H> {
             self.failed = true;
         }
         done
+    }
+
+    /// One event as in `step`, with what its actor gave as values, None where it had crashed before. Entries that were trimmed are in
+    /// the archive, and not among it.
+    pub fn step_outs(&mut self, event: &Event) -> Result<Option<Outbox>, StepError>
+        ensures ok { IfOk result (Gives (step H.meaning self.old.state event.now)
+            (actor_of event.now) self.old.state self.new.state) }
+        ensures err { IfErr result (λ e. Refuses e (step H.meaning self.old.state event.now)
+            (self.new ≡ self.old)) }
+        ensures fits { EventFits event.now }
+        ensures well { OnOk result ((self.old.failed ≡ false) × (self.new.failed ≡ false)) }
+        ensures failed { IsErrOf result StepError.NoMemory → self.new.failed ≡ true }
+        ensures for_good { self.old.failed ≡ true → IsErrOf result StepError.NoMemory }
+    {
+        limits(event);
+        if self.failed {
+            return Err(StepError::NoMemory);
+        }
+        let given = self.actors.step_outs(self.alloc, event);
+        if matches!(&given, Err(StepError::NoMemory)) {
+            self.failed = true;
+        }
+        given
     }
 
     pub fn config(&self) -> Config
