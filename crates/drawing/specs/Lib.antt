@@ -1,3 +1,4 @@
 pub mod Errors
+pub mod Gathered
 pub mod Rows
 pub mod Words

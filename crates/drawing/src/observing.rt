@@ -3,6 +3,7 @@
 ghost use Rattle.std.specs.Prelude.{◌≡◌};
 ghost use Rattle.schedule_text.specs.Rules.{rule_number};
 ghost use Rattle.drawing.specs.Errors.{of_step};
+ghost use Rattle.drawing.specs.Gathered.{IsIntact};
 
 use crate::error::DrawError;
 use crate::recorder::{Recorder, Turn};
@@ -43,7 +44,9 @@ pub fn watch<H: Host>(
     alloc: Global,
     world: &World<H>,
     recorder: &mut Recorder,
-) -> Result<(), NoMemory> {
+) -> Result<(), NoMemory>
+    ensures { IsIntact recorder.new → IsIntact recorder.old }
+{
     for number in 0..world.config().replicas() {
         if let Some(replica) = world.replica(number) {
             recorder.watch(standing_of(alloc, number, world, replica, 0)?);
@@ -60,7 +63,8 @@ fn observe_datagram<H: Host, T: OpText>(
     index: u64,
     recorder: &mut Recorder,
 ) -> Result<(), NoMemory>
-    ensures { recorder.new.picture.rows ≡ recorder.old.picture.rows }
+    ensures intact { IsIntact recorder.new → IsIntact recorder.old }
+    ensures rows { recorder.new.picture.rows ≡ recorder.old.picture.rows }
 {
     let (Some(dest), Some(bytes)) = (world.sent_to(index), world.sent(index)?) else {
         return Ok(());
@@ -76,7 +80,8 @@ fn observe_standing<H: Host>(
     turn: Turn,
     recorder: &mut Recorder,
 ) -> Result<(), NoMemory>
-    ensures { recorder.new.picture.rows ≡ recorder.old.picture.rows }
+    ensures intact { IsIntact recorder.new → IsIntact recorder.old }
+    ensures rows { recorder.new.picture.rows ≡ recorder.old.picture.rows }
 {
     let Actor::Replica(number) = turn.actor else {
         return Ok(());
@@ -97,7 +102,8 @@ pub fn observe<H: Host, T: OpText>(
     lines: &Lines,
     recorder: &mut Recorder,
 ) -> Result<(), NoMemory>
-    ensures { recorder.new.picture.rows ≡ recorder.old.picture.rows }
+    ensures intact { IsIntact recorder.new → IsIntact recorder.old }
+    ensures rows { recorder.new.picture.rows ≡ recorder.old.picture.rows }
 {
     recorder.put_said(read_lines::<T>(alloc, lines.text.as_slice())?);
     for index in turn.sent_before..world.sent_count() {

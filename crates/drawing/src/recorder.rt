@@ -1,8 +1,37 @@
 //! What a picture shows of a run, as it goes on.
 
-ghost use Rattle.std.specs.Prelude.{◌≡◌, ◌++◌, ◌∷◌, [], false, length, string_bytes, IfOk, OnOk};
-ghost use Rattle.picture.specs.Texts.{IsWhole};
+ghost use Rattle.std.specs.Prelude.{
+  ◌≡◌,
+  ◌++◌,
+  ◌∷◌,
+  [],
+  false,
+  length,
+  slice_get,
+  string_bytes,
+  IfOk,
+  OnOk,
+};
+ghost use Rattle.picture.specs.Texts.{Grows, IsWhole};
 ghost use Rattle.world.specs.WorldSteps.{actor_of};
+ghost use Rattle.drawing.specs.Gathered.{
+  arrows_after,
+  crashes_now,
+  idle_mark,
+  is_none,
+  mark_of,
+  notes_of,
+  stretches_of,
+  text_of,
+  with_arrow,
+  with_crash,
+  AddsIf,
+  AddsNotes,
+  AddsSome,
+  IsIntact,
+  RowShows,
+  Watches,
+};
 ghost use Rattle.drawing.specs.Rows.{AddsFlight, AddsRow};
 
 use crate::events::{actor_of, event_text, put_submitted};
@@ -109,7 +138,9 @@ fn compare(
     after: Standing,
     watched: &mut Watched,
     notes: &mut Notes,
-) -> Option<Stretch> {
+) -> Option<Stretch>
+    ensures { AddsSome notes.old notes.new }
+{
     put_changes(alloc, &watched.standing, &after, notes);
     let role = role(&after, replicas);
     watched.standing = after;
@@ -138,7 +169,13 @@ impl Recorder {
     }
 
     /// The next of the replicas, as it stands at the top.
-    pub fn watch(&mut self, standing: Standing) {
+    pub fn watch(&mut self, standing: Standing)
+        ensures watched { self.new.failed ≡ false →
+            Watches self.old.watched.items self.new.watched.items standing }
+        ensures failed { self.new.failed ≡ false → self.old.failed ≡ false }
+        ensures others { self.new
+            ≡ record self.old { watched = self.new.watched; failed = self.new.failed } }
+    {
         let role = role(&standing, self.config.replicas());
         let watched = Watched {
             standing,
@@ -163,7 +200,14 @@ impl Recorder {
 
     /// The arrow of a delivery. Appends what was delivered.
     fn deliver(&mut self, index: u64, to: Actor, row: usize, detail: &mut Text)
-        ensures { self.new.picture.rows ≡ self.old.picture.rows }
+        ensures arrow { self.new.failed ≡ false → self.new.picture.arrows.items
+            ≡ with_arrow (slice_get self.old.flights.items index) to row
+            self.old.picture.arrows.items }
+        ensures text { Grows detail.old detail.new
+            (text_of (slice_get self.old.flights.items index)) }
+        ensures failed { self.new.failed ≡ false → self.old.failed ≡ false }
+        ensures notes { self.new.notes ≡ self.old.notes }
+        ensures rows { self.new.picture.rows ≡ self.old.picture.rows }
     {
         if let Some(flight) = self.flights.get_mut(index as usize) {
             detail.put(flight.text.as_str());
@@ -176,7 +220,11 @@ impl Recorder {
 
     /// What was delivered or submitted.
     fn detail<T: OpText>(&mut self, event: &Event, row: usize) -> Result<String, NoMemory>
-        ensures { self.new.picture.rows ≡ self.old.picture.rows }
+        ensures arrow { self.new.failed ≡ false → self.new.picture.arrows.items
+            ≡ arrows_after event.now row self.old.flights.items self.old.picture.arrows.items }
+        ensures failed { self.new.failed ≡ false → self.old.failed ≡ false }
+        ensures notes { self.new.notes ≡ self.old.notes }
+        ensures rows { self.new.picture.rows ≡ self.old.picture.rows }
     {
         let mut detail = Text::new(self.alloc);
         match event {
@@ -188,7 +236,8 @@ impl Recorder {
 
     /// What a client did in a turn.
     pub fn put_said(&mut self, notes: Vec<Note>)
-        ensures { self.new.picture.rows ≡ self.old.picture.rows }
+        ensures { self.new
+            ≡ record self.old { notes = record self.old.notes { written = notes } } }
     {
         self.notes.set(notes);
     }
@@ -198,6 +247,7 @@ impl Recorder {
         ensures flight { self.new.failed ≡ false → self.new.flights.items
             ≡ self.old.flights.items ++ flight ∷ [] }
         ensures failed { self.new.failed ≡ false → self.old.failed ≡ false }
+        ensures notes { self.new.notes ≡ self.old.notes }
         ensures rows { self.new.picture.rows ≡ self.old.picture.rows }
     {
         match self.flights.push(flight) {
@@ -215,6 +265,7 @@ impl Recorder {
               sent = turn.row;
               dest = dest;
             }) }
+        ensures note { AddsNotes self.old.notes self.new.notes (notes_of label.note) }
         ensures failed { self.new.failed ≡ false → self.old.failed ≡ false }
         ensures rows { self.new.picture.rows ≡ self.old.picture.rows }
     {
@@ -241,23 +292,46 @@ impl Recorder {
         }
     }
 
+    /// Appends the stretch of a role that ended, if one did.
+    fn put_stretch(&mut self, stretch: Option<Stretch>)
+        ensures stretch { self.new.failed ≡ false → self.new.picture.stretches.items
+            ≡ self.old.picture.stretches.items ++ stretches_of stretch }
+        ensures failed { self.new.failed ≡ false → self.old.failed ≡ false }
+        ensures notes { self.new.notes ≡ self.old.notes }
+        ensures rows { self.new.picture.rows ≡ self.old.picture.rows }
+    {
+        if let Some(stretch) = stretch {
+            self.failed |= self.picture.stretches.push(stretch).is_err();
+        }
+    }
+
     /// How a replica stands after a turn.
     pub fn put_standing(&mut self, turn: Turn, after: Standing)
-        ensures { self.new.picture.rows ≡ self.old.picture.rows }
+        ensures notes { AddsSome self.old.notes self.new.notes }
+        ensures failed { self.new.failed ≡ false → self.old.failed ≡ false }
+        ensures rows { self.new.picture.rows ≡ self.old.picture.rows }
     {
         let replicas = self.config.replicas();
         let notes = &mut self.notes;
         if let Some(watched) = self.watched.get_mut(after.number as usize) {
             let stretch = compare(self.alloc, replicas, turn.row, after, watched, notes);
-            if let Some(stretch) = stretch {
-                self.failed |= self.picture.stretches.push(stretch).is_err();
-            }
+            self.put_stretch(stretch);
         }
     }
 
     /// Keeps the crash of an event that is one, unless the actor had crashed before.
     fn put_crash(&mut self, event: &Event, turn: Turn)
-        ensures { self.new.picture.rows ≡ self.old.picture.rows }
+        ensures crash { self.new.failed ≡ false → self.new.crashes.items
+            ≡ with_crash (crashes_now event.now self.old.notes.written.items) turn
+            self.old.crashes.items }
+        ensures note { AddsIf (crashes_now event.now self.old.notes.written.items)
+            self.old.notes self.new.notes Mark.Crashed }
+        ensures failed { self.new.failed ≡ false → self.old.failed ≡ false }
+        ensures others { self.new ≡ record self.old {
+          crashes = self.new.crashes;
+          notes = self.new.notes;
+          failed = self.new.failed;
+        } }
     {
         if matches!(event, Event::Crash(_)) && self.notes.is_empty() {
             let crash = Crash {
@@ -273,7 +347,9 @@ impl Recorder {
 
     /// One note at least: whether something was sent.
     fn fill(&mut self, turn: Turn)
-        ensures { self.new.picture.rows ≡ self.old.picture.rows }
+        ensures note { AddsIf (is_none self.old.notes.written.items) self.old.notes self.new.notes
+            (idle_mark turn (length self.old.flights.items)) }
+        ensures others { self.new ≡ record self.old { notes = self.new.notes } }
     {
         if self.notes.is_empty() {
             let sends = self.flights.len() as u64 > turn.sent_before;
@@ -284,8 +360,16 @@ impl Recorder {
 
     /// The row of a turn, after all that was seen of it.
     pub fn end<T: OpText>(&mut self, line: u32, event: &Event, turn: Turn) -> Result<(), NoMemory>
-        ensures { OnOk result (AddsRow self.old.picture.rows.items self.new.picture.rows.items line
-            event.now turn.actor) }
+        ensures row { OnOk result (AddsRow self.old.picture.rows.items
+            self.new.picture.rows.items line event.now turn.actor) }
+        ensures notes { OnOk result (RowShows self.old.picture.rows.items
+            self.new.picture.rows.items self.old.notes.written.items
+            (mark_of event.now turn (length self.old.flights.items))) }
+        ensures left { OnOk result (self.new.notes.written.items ≡ []) }
+        ensures arrow { OnOk result (self.new.picture.arrows.items
+            ≡ arrows_after event.now turn.row self.old.flights.items
+            self.old.picture.arrows.items) }
+        ensures intact { OnOk result (IsIntact self.old) }
     {
         self.put_crash(event, turn);
         self.fill(turn);

@@ -7,6 +7,7 @@ ghost use Rattle.transcript_text.specs.Transcript.{sent_text};
 ghost use Rattle.world.specs.WorldSteps.{actor_of};
 ghost use Rattle.drawing.specs.Errors.{complaint_text, IsOfEvent, IsOfSchedule};
 ghost use Rattle.drawing.specs.Errors.{IsUnwritten};
+ghost use Rattle.drawing.specs.Gathered.{IsIntact};
 ghost use Rattle.drawing.specs.Rows.{AddsRow, Wrote};
 
 use crate::error::DrawError;
@@ -29,8 +30,9 @@ fn keep<H: Host, T: OpText>(
     lines: &Lines,
     recorder: &mut Recorder,
 ) -> Result<(), NoMemory>
-    ensures { OnOk result (AddsRow recorder.old.picture.rows.items
+    ensures row { OnOk result (AddsRow recorder.old.picture.rows.items
         recorder.new.picture.rows.items line event.now (actor_of event.now)) }
+    ensures intact { OnOk result (IsIntact recorder.old) }
 {
     let turn = recorder.turn(event);
     observe::<H, T>(alloc, world, turn, lines, recorder)?;
@@ -47,6 +49,7 @@ fn carry_out<H: Host, T: OpText>(
 ) -> Result<(), DrawError>
     ensures row { OnOk result (AddsRow recorder.old.picture.rows.items
         recorder.new.picture.rows.items line event.now (actor_of event.now)) }
+    ensures intact { OnOk result (IsIntact recorder.old) }
     ensures err { IfErr result IsOfEvent }
 {
     match world.step(event) {

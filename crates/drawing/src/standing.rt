@@ -1,5 +1,7 @@
 //! How a replica stands, and what a step changed.
 
+ghost use Rattle.drawing.specs.Gathered.{AddsMarked, AddsSome};
+
 use crate::notes::Notes;
 use nop_types::{Entry, Host, NoMemory, Phase, View, leader_of};
 use picture::{Mark, Role, Text};
@@ -93,7 +95,9 @@ fn role_in(view: View, number: u8, replicas: u8) -> Role {
 }
 
 /// Appends a note, one of whose parts is a number.
-fn put_count(alloc: Global, mark: Mark, before: &str, n: u64, after: &str, notes: &mut Notes) {
+fn put_count(alloc: Global, mark: Mark, before: &str, n: u64, after: &str, notes: &mut Notes)
+    ensures { AddsMarked notes.old notes.new mark }
+{
     let mut text = Text::new(alloc);
     text.numbered(before, n);
     text.put(after);
@@ -114,7 +118,9 @@ fn put_phase(view: View, status: Phase, to: &mut Text) -> Mark {
     }
 }
 
-fn note_view(alloc: Global, after: &Standing, notes: &mut Notes) {
+fn note_view(alloc: Global, after: &Standing, notes: &mut Notes)
+    ensures { AddsSome notes.old notes.new }
+{
     let mut text = Text::new(alloc);
     let mark = put_phase(after.view, after.status, &mut text);
     notes.put(mark, text);
@@ -135,7 +141,9 @@ fn put_held(slot: u64, held: Option<Held>, to: &mut Text) -> Mark {
     }
 }
 
-fn note_slot(alloc: Global, slot: u64, held: Option<Held>, notes: &mut Notes) {
+fn note_slot(alloc: Global, slot: u64, held: Option<Held>, notes: &mut Notes)
+    ensures { AddsSome notes.old notes.new }
+{
     let mut text = Text::new(alloc);
     let mark = put_held(slot, held, &mut text);
     notes.put(mark, text);
@@ -168,7 +176,9 @@ impl Standing {
 }
 
 /// Appends the notes of the first slots with another entry than before, and says how many such slots there are.
-fn put_changed(alloc: Global, before: &Standing, after: &Standing, notes: &mut Notes) -> usize {
+fn put_changed(alloc: Global, before: &Standing, after: &Standing, notes: &mut Notes) -> usize
+    ensures { AddsSome notes.old notes.new }
+{
     let mut changed = 0usize;
     let mut slot = u64::from(after.known);
     for held in &after.slots {
@@ -183,7 +193,9 @@ fn put_changed(alloc: Global, before: &Standing, after: &Standing, notes: &mut N
     changed
 }
 
-fn put_log(alloc: Global, before: &Standing, after: &Standing, notes: &mut Notes) {
+fn put_log(alloc: Global, before: &Standing, after: &Standing, notes: &mut Notes)
+    ensures { AddsSome notes.old notes.new }
+{
     let changed = put_changed(alloc, before, after, notes);
     let more = changed.saturating_sub(MAX_SLOT_NOTES) as u64;
     if more > 0 {
@@ -195,7 +207,9 @@ fn put_log(alloc: Global, before: &Standing, after: &Standing, notes: &mut Notes
 }
 
 /// Appends what changed from one standing of a replica to another.
-pub fn put_changes(alloc: Global, before: &Standing, after: &Standing, notes: &mut Notes) {
+pub fn put_changes(alloc: Global, before: &Standing, after: &Standing, notes: &mut Notes)
+    ensures { AddsSome notes.old notes.new }
+{
     if !before.view.is(after.view) || before.status != after.status {
         note_view(alloc, after, notes);
     }
