@@ -1,5 +1,5 @@
 use kv_host::KvHost;
-use nop_types::{Actor, Config, Dest, Entry, Host};
+use nop_types::{Actor, Config, Dest, Entry, Host, Out, Outbox};
 use outside::ReadMem;
 use safety::run_events;
 use schedule_text::{Event, Reader};
@@ -83,12 +83,17 @@ fn events_of(rt: &impl Abort, alloc: Global, schedule: &str) -> Vec<Event> {
     events
 }
 
-fn check_sent<H: Host>(rt: &impl Abort, alloc: Global, world: &World<H>, index: u64, row: &str) {
+/// The bytes of a row of digits.
+fn bytes_of(rt: &impl Abort, alloc: Global, row: &str) -> Vec<u8> {
     let mut digits = String::new(alloc);
     for word in row.split_whitespace() {
         digits.push_str(word).expect(rt, "memory");
     }
-    let told = hex::decode(alloc, &digits).expect(rt, "hexadecimal");
+    hex::decode(alloc, &digits).expect(rt, "hexadecimal")
+}
+
+fn check_sent<H: Host>(rt: &impl Abort, alloc: Global, world: &World<H>, index: u64, row: &str) {
+    let told = bytes_of(rt, alloc, row);
     let given = world.sent(index).expect(rt, "memory");
     let given = given.expect(rt, "a datagram");
     assert!(rt; given.as_slice() == told.as_slice(), "{index}");
@@ -145,6 +150,40 @@ fn a_put_over_three_replicas(rt: HostRuntime) {
     let config = Config::new(3, 1, 1, 1).expect(&rt, "a group");
     let events = events_of(&rt, rt.alloc(), ONE_PUT);
     check_events::<KvHost>(&rt, rt.alloc(), config, &events);
+}
+
+/// How many outputs the submit gives and the delivery of what it sent, and where the last one of them sends its datagram.
+const GIVEN: [(usize, Dest); 2] = [(2, Dest::Sequencers), (1, Dest::Replicas)];
+
+fn is_send(out: &Out, to: Dest, told: &[u8]) -> bool {
+    match out {
+        Out::Send(dest, bytes) => *dest == to && bytes.as_slice() == told,
+        _ => false,
+    }
+}
+
+/// What the actor of an event gave.
+fn given_by<H: Host>(rt: &impl Abort, world: &mut World<H>, event: &Event) -> Option<Outbox> {
+    world.step_outs(event).ok().expect(rt, "refused")
+}
+
+#[test]
+fn outputs_as_values(rt: HostRuntime) {
+    let config = Config::new(3, 1, 1, 1).expect(&rt, "a group");
+    let events = events_of(&rt, rt.alloc(), ONE_PUT);
+    let world = World::new(rt.alloc(), config);
+    let mut world: World<KvHost> = world.ok().expect(&rt, "memory");
+    for ((event, row), (count, dest)) in events.iter().zip(SENT.lines()).zip(&GIVEN) {
+        let given = given_by(&rt, &mut world, event).expect(&rt, "outputs");
+        let last = given.as_slice().last().expect(&rt, "a datagram");
+        assert!(rt; given.as_slice().len() == *count);
+        assert!(rt; is_send(last, *dest, &bytes_of(&rt, rt.alloc(), row)));
+    }
+    assert!(rt; world.sent_count() == 2);
+    let crash = Event::Crash(Actor::Client(0));
+    let given = given_by(&rt, &mut world, &crash).expect(&rt, "outputs");
+    assert!(rt; given.as_slice().is_empty());
+    assert!(rt; given_by(&rt, &mut world, &crash).is_none());
 }
 
 /// Two controllers move to one sequencer. Controller 0 is told the greater session of the other one, and goes on in an epoch above it.
