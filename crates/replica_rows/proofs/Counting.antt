@@ -1,7 +1,7 @@
 -- How many messages a row sends to other replicas, and that it keeps the configuration.
 use Rattle.std.proofs.Common.{◌≡◌, ◌==◌, ◌≤◌, ℕ, zero, suc, ◌+◌, ◌-◌, Bool, true, false, Option, Some, None, refl, sym, ap, subst, ◌∙◌}
 use Rattle.std.proofs.Common.{arith, List, [], ◌∷◌, ◌++◌, length, zero-add}
-use Rattle.std.specs.Prelude.{not, map, max, nat_le, nat_lt, ◌&&◌}
+use Rattle.std.specs.Prelude.{⊤, not, map, max, nat_le, nat_lt, ◌&&◌}
 use Rattle.std.proofs.lemmas.Bool.Decides.{nat_tests}
 use Rattle.nop_types.specs.declared.limits.TheConstants.{NUMBER_END}
 use Rattle.nop_types.specs.CheckpointedLogs.{slot_result}
@@ -9,8 +9,6 @@ use Rattle.nop_types.specs.Logs.{Log, Keeping, length_of, above}
 use Rattle.nop_types.specs.Meaning.{Meaning}
 use Rattle.nop_types.specs.PlainChanges.{plain}
 use Rattle.nop_types.specs.Views.{is_view, join_of}
-use Rattle.nop_types.specs.declared.input.Tick.{Tick}
-use Rattle.nop_types.specs.declared.input.Tick.TheVariants as ticks
 use Rattle.nop_types.specs.declared.view.View.{View}
 use Rattle.nop_types.specs.declared.replica_state.Phase.{Phase}
 use Rattle.nop_types.specs.declared.replica_state.Phase.TheVariants.{Normal, Change}
@@ -21,7 +19,6 @@ use Rattle.nop_types.specs.declared.request.Entry.{Entry}
 use Rattle.nop_types.specs.declared.request.Entry.TheVariants.{NoOp, Req}
 use Rattle.nop_types.specs.declared.datagram.Stamped.{Stamped}
 use Rattle.nop_types.specs.declared.peer.Change as peer
-use Rattle.nop_types.specs.declared.peer.Peer.{Peer}
 use Rattle.nop_types.specs.declared.peer.Body.{Body}
 use Rattle.nop_types.specs.declared.peer.Body.TheVariants as bodies
 use Rattle.gap_agree.specs.Agreement.{Agreement}
@@ -36,8 +33,8 @@ use Rattle.view_change.specs.Gathering.{Gathering}
 use Rattle.replica_state.specs.declared.sending.Sending.{Sending}
 use Rattle.replica_state.specs.declared.sending.Sending.TheVariants.{ToClient, ToReplicas, Trims}
 use Rattle.replica_state.specs.declared.state.ReplicaState.{ReplicaState}
-use Rattle.replica_state.specs.State.{others, leads, is_normal, drains, waits, has_room, may_append, is_from_leader, is_to_leader}
-use Rattle.replica_state.specs.State.{is_other, may_adopt, has_risen}
+use Rattle.replica_state.specs.State.{others, leads, is_normal, drains, waits, has_room, may_append}
+use Rattle.replica_state.specs.State.{may_adopt, has_risen}
 use Rattle.replica_state.specs.Sends.{Effect, still, then_do, when, to_leader, to_all, to_all_if, message_count}
 use Rattle.replica_state.specs.Replies.{reply_to, reply_if, leader_reply, reply_for, replies_to, replies_above}
 use Rattle.replica_state.specs.Moves.{ask_if, gap_opened, open_gap, write_gap, add_gap, drain_drop, drain_at, drain_by, drain, entered}
@@ -46,8 +43,8 @@ use Rattle.replica_state.specs.Moves.{open_sync, commit_if, count_sync_vote, que
 use Rattle.replica_state.specs.Moves.{begin_session, hear, sync_commit, raise}
 use Rattle.replica_state.specs.Repeating.{gap_again, lookup_again, change_again, resend_by, resend, sync_if, sync}
 use Rattle.replica_rows.specs.Rows as rows
-use Rattle.replica_rows.specs.Messages.{loads_in, Arrival, Packet, Told, Ticked, from_leader, from_follower, by_role, in_view, on_body}
-use Rattle.replica_rows.specs.Messages.{on_message, ticked, arrive}
+use Rattle.replica_rows.specs.Messages.{Arrival, arrive}
+use Rattle.replica_rows.proofs.EachRow.{change_in, EachRow, arrive_row}
 
 pub count_append : (a b : List Sending) → message_count (a ++ b) ≡ message_count a + message_count b
 count_append [] b = sym (zero-add (message_count b))
@@ -375,53 +372,12 @@ unfolding rows.sync_reply
 sync_reply_few m k q n s =
     and_rise m k 1 (commit_if_few s (count_sync_vote s q n).0 n (vote_for s.sync q n) refl)
 
--- ---- messages
-
-from_leader_few : {S : Type 0} (m : Meaning S) (k : Keeping) (body : Body) (s : ReplicaState) → Few 2 s (from_leader m k body s)
-from_leader_few m k (bodies.GapCommit n) s = gap_commit_few m k n s
-from_leader_few m k (bodies.Found n r) s = more 1 2 (omega arith) (found_few m k n r s)
-from_leader_few m k (bodies.SyncPrepare l) s = prepare_few m k l s
-from_leader_few m k (bodies.SyncCommit n) s = more 1 2 (omega arith) (commit_row_few m k n s)
-from_leader_few m k _ s = still_few 2 s
-
-from_follower_few : {S : Type 0} (m : Meaning S) (k : Keeping) (q : ℕ) (body : Body) (s : ReplicaState)
-    → Few 2 s (from_follower m k q body s)
-from_follower_few m k q (bodies.SlotLookup n) s = lookup_few m k q n s
-from_follower_few m k q (bodies.GapRep n) s = more 1 2 (omega arith) (gap_reply_few m k q n s)
-from_follower_few m k q (bodies.SyncRep n) s = sync_reply_few m k q n s
-from_follower_few m k q _ s = still_few 2 s
-
-by_role_few : {S : Type 0} (m : Meaning S) (k : Keeping) (a b : Bool) (q : ℕ) (body : Body) (s : ReplicaState)
-    → Few 8 s (by_role m k a b q body s)
-by_role_few m k true b q body s = more 2 8 (omega arith) (from_leader_few m k body s)
-by_role_few m k false true q body s = more 2 8 (omega arith) (from_follower_few m k q body s)
-by_role_few m k false false q body s = still_few 8 s
-
-in_view_few : {S : Type 0} (m : Meaning S) (k : Keeping) (q : ℕ) (v : View) (body : Body) (s : ReplicaState)
-    → Few 8 s (in_view m k q v body s)
-in_view_few m k q v body s = by_role_few m k (is_from_leader s v q) (is_to_leader s v) q body s
-
-on_body_few : {S : Type 0} (m : Meaning S) (k : Keeping) (p : Peer) (body : Body) (s : ReplicaState) → Few 8 s (on_body m k p body s)
-on_body_few m k p bodies.ViewChangeReq s = more 5 8 (omega arith) (request_few m k s p.view)
-on_body_few m k p (bodies.ViewChange u x l) s = more 7 8 (omega arith) (view_change_few m k s p.view _)
-on_body_few m k p (bodies.StartView x l) s = more 1 8 (omega arith) (start_view_few m k s p.sender p.view x l)
-on_body_few m k p body s = in_view_few m k p.sender p.view body s
-
-on_message_few : {S : Type 0} (m : Meaning S) (k : Keeping) (s : ReplicaState) (p : Peer) → Few 8 s (on_message m k p s)
-unfolding on_message
-on_message_few m k s p = when_few 8 (is_other s p.sender) _ s (on_body_few m k p p.body s)
-
 -- ---- ticks
 
 suspect_few : {S : Type 0} (m : Meaning S) (k : Keeping) (s : ReplicaState) → Few 8 s (rows.suspect m k s)
 suspect_few m k s =
     when_few 8 (nat_lt s.view.leader rows.last_leader) (rows.enter_and_drain m k (rows.next_leader s.view)) s
     (more 5 8 (omega arith) (enter_and_drain_few m k (rows.next_leader s.view) s))
-
-watch_few : {S : Type 0} (m : Meaning S) (k : Keeping) (a b : Bool) (s : ReplicaState) → Few 8 s (rows.watch_if m k a b s)
-watch_few m k true b s = still_few 8 s
-watch_few m k false true s = changed_few 8 s (record s { heard = false }) refl
-watch_few m k false false s = suspect_few m k s
 
 gap_again_few : (o : Option Agreement) (s : ReplicaState) → Few 1 s (gap_again o s)
 gap_again_few None s = still_few 1 s
@@ -460,20 +416,30 @@ sync_row_few : {S : Type 0} (m : Meaning S) (k : Keeping) (s : ReplicaState) →
 unfolding rows.sync
 sync_row_few m k s = and_rise m k 1 (sync_few k s)
 
-tick_few : {S : Type 0} (m : Meaning S) (k : Keeping) (s : ReplicaState) (tick : Tick) → Few 8 s (ticked m k tick s)
-tick_few m k s ticks.Suspect = suspect_few m k s
-tick_few m k s ticks.Watch = watch_few m k (is_normal s.status && leads s) s.heard s
-tick_few m k s ticks.Resend = more 2 8 (omega arith) (resend_few k s)
-tick_few m k s ticks.Sync = more 2 8 (omega arith) (sync_row_few m k s)
-tick_few m k s _ = still_few 8 s
-
 -- ---- all that arrives
 
+each_few : {S : Type 0} (m : Meaning S) (k : Keeping) → EachRow m k (λ s. ⊤) (λ p. ⊤) (λ p. ⊤) (Few 8)
+each_few m k = record {
+  nothing = λ s i. still_few 8 s;
+  stamped = λ s p i f. more 5 8 (omega arith) (stamped_few m k s p);
+  request = λ s p i g. more 5 8 (omega arith) (request_few m k s p.view);
+  view_change = λ s p u x l i g. more 7 8 (omega arith) (view_change_few m k s p.view (change_in p u x l));
+  start_view = λ s p x l i g. more 1 8 (omega arith) (start_view_few m k s p.sender p.view x l);
+  gap_commit = λ s p n i g. more 2 8 (omega arith) (gap_commit_few m k n s);
+  found = λ s p n r i g. more 1 8 (omega arith) (found_few m k n r s);
+  sync_prepare = λ s p l i g. more 2 8 (omega arith) (prepare_few m k l s);
+  sync_commit = λ s p n i g. more 1 8 (omega arith) (commit_row_few m k n s);
+  slot_lookup = λ s p n i g. more 2 8 (omega arith) (lookup_few m k p.sender n s);
+  gap_reply = λ s p n i g. more 1 8 (omega arith) (gap_reply_few m k p.sender n s);
+  sync_reply = λ s p n i g. more 2 8 (omega arith) (sync_reply_few m k p.sender n s);
+  suspect = λ s i. suspect_few m k s;
+  unheard = λ s i. changed_few 8 s (record s { heard = false }) refl;
+  resend = λ s i. more 2 8 (omega arith) (resend_few k s);
+  sync = λ s i. more 2 8 (omega arith) (sync_row_few m k s);
+}
+
 arrive_few : {S : Type 0} (m : Meaning S) (k : Keeping) (s : ReplicaState) (a : Arrival) → Few 8 s (arrive m k s a)
-unfolding arrive
-arrive_few m k s (Packet p) = more 5 8 (omega arith) (stamped_few m k s p)
-arrive_few m k s (Told p) = when_few 8 (loads_in m p.body) (on_message m k p) s (on_message_few m k s p)
-arrive_few m k s (Ticked tick) = tick_few m k s tick
+arrive_few m k s a = arrive_row m k _ _ _ (Few 8) (each_few m k) s a tt (λ p e. tt) (λ p e is. tt)
 
 pub arrive_sends_few : {S : Type 0} (m : Meaning S) (k : Keeping) (s : ReplicaState) (a : Arrival) → message_count (arrive m k s a).1 ≤ 8
 arrive_sends_few m k s a = (arrive_few m k s a).few

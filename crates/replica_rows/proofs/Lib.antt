@@ -2,6 +2,8 @@ mod Adopted
 mod Branches
 pub mod Counting
 pub mod Draining
+pub mod EachMove
+pub mod EachRow
 mod Entered
 pub mod Fields
 pub mod Following

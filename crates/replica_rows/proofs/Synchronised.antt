@@ -1,11 +1,12 @@
 -- Where logs are kept whole, what is synchronised stays, whatever arrives, unless a log is told with a greater sync point.
-use Rattle.std.proofs.Common.{◌≡◌, ◌≤◌, ℕ, zero, suc, ◌+◌, ◌-◌, Bool, true, false, cond, Option, Some, None, refl, sym, ap, subst, ◌∙◌}
+use Rattle.std.proofs.Common.{◌≡◌, ◌≤◌, ℕ, zero, suc, ◌+◌, ◌-◌, Bool, true, false, cond, Option, Some, refl, sym, ap, subst, ◌∙◌}
 use Rattle.std.proofs.Common.{arith, List, [], ◌∷◌, ◌++◌, length, take, drop, filter, length-append}
-use Rattle.std.specs.Prelude.{not, map, max, nat_le, nat_lt, ◌==◌, ◌&&◌, slice_set}
+use Rattle.std.specs.Prelude.{⊤, not, map, max, nat_le, nat_lt, ◌==◌, ◌&&◌, slice_set}
+use Rattle.std.specs.List.{AllByRecursion}
 use Rattle.std.proofs.lemmas.Bool.Decides.{nat_tests}
 use Rattle.std.proofs.lemmas.Bool.{le-ltb}
 use Rattle.std.proofs.lemmas.List.{take-append-le, length-take-le}
-use Rattle.nop_types.specs.declared.limits.TheConstants.{MAX_SLOTS, NUMBER_END}
+use Rattle.nop_types.specs.declared.limits.TheConstants.{MAX_SLOTS}
 use Rattle.nop_types.specs.Meaning.{Meaning}
 use Rattle.nop_types.specs.Logs as logs
 use Rattle.nop_types.specs.Logs.{Log, Whole, unsynced, with_noop}
@@ -13,43 +14,34 @@ use Rattle.nop_types.specs.PlainChanges as plains
 use Rattle.nop_types.specs.PlainChanges.{plain}
 use Rattle.nop_types.specs.Slots.{set_slot, laid}
 use Rattle.nop_types.specs.Views.{is_view, join_of}
-use Rattle.nop_types.specs.declared.input.Tick.{Tick}
-use Rattle.nop_types.specs.declared.input.Tick.TheVariants as ticks
 use Rattle.nop_types.specs.declared.view.View.{View}
-use Rattle.nop_types.specs.declared.replica_state.Phase.{Phase}
-use Rattle.nop_types.specs.declared.replica_state.Phase.TheVariants.{Normal, Change}
-use Rattle.nop_types.specs.declared.request.Request.{Request}
 use Rattle.nop_types.specs.declared.request.Entry.{Entry}
 use Rattle.nop_types.specs.declared.request.Entry.TheVariants.{NoOp, Req}
-use Rattle.nop_types.specs.declared.datagram.Stamped.{Stamped}
 use Rattle.nop_types.specs.declared.peer.Change as peer
-use Rattle.nop_types.specs.declared.peer.Peer.{Peer}
-use Rattle.nop_types.specs.declared.peer.Body.{Body}
 use Rattle.nop_types.specs.declared.peer.Body.TheVariants as bodies
 use Rattle.lemmas.proofs.Slots.{length-set_slot}
-use Rattle.gap_agree.specs.Agreement.{Agreement}
 use Rattle.log_merge.specs.Merging.{kept_told, merged}
 use Rattle.log_merge.specs.Starting.{greatest, greatest_point, start_of}
 use Rattle.log_merge.proofs.WholeLogs.{kept_is_plain, merged_point}
 use Rattle.oum_receiver.specs.Front.{Front, Nothing, Message, Dropped}
 use Rattle.oum_receiver.specs.Receiving.{front_of}
 use Rattle.replica_log.proofs.Adopted.{adopted_near, adopted_point, overlaid_point, length-spliced}
-use Rattle.slot_lookup.specs.Answer.{Answer, Found, Begin, answer_of}
-use Rattle.slot_lookup.specs.Answer as answers
 use Rattle.view_change.specs.Gathering.{Gathering, teller, counted, has_sender}
+use Rattle.replica_state.specs.declared.sending.Sending.{Sending}
 use Rattle.replica_state.specs.declared.state.ReplicaState.{ReplicaState}
-use Rattle.replica_state.specs.State.{PointsMeet, leads, is_normal, drains, waits, has_room, may_append, may_adopt}
-use Rattle.replica_state.specs.State.{is_from_leader, is_to_leader, is_other, has_risen}
-use Rattle.replica_state.specs.Sends.{Effect, then_do, when}
+use Rattle.replica_state.specs.State.{PointsMeet, leads, is_normal, drains, waits}
+use Rattle.replica_state.specs.State.{has_risen}
+use Rattle.replica_state.specs.Sends.{Effect, then_do, when, to_all}
 use Rattle.replica_state.specs.Moves.{ask_if, gap_opened, open_gap, gap_written, write_gap, add_gap, drain_drop, drain_at, drain_by, drain}
-use Rattle.replica_state.specs.Moves.{entered, enter_as, enter, adopted, adopt, open_view, open_if_enough, overlay}
+use Rattle.replica_state.specs.Moves.{entered, enter_as, enter, adopted, adopt, open_view, overlay}
 use Rattle.replica_state.specs.Moves.{queue, keep_change, count_gap_vote, count_sync_vote, logged, appended, begin_session}
-use Rattle.replica_state.specs.Moves.{hear, obey, sync_commit, risen, raise}
-use Rattle.replica_state.specs.Repeating.{gap_again, lookup_again, change_again, resend_by, resend, sync_if, sync}
+use Rattle.replica_state.specs.Moves.{hear, obey, sync_commit, risen, raise, session_view, fill}
+use Rattle.replica_state.specs.Repeating.{sync_if, sync}
 use Rattle.replica_rows.specs.Rows as rows
-use Rattle.replica_rows.specs.Messages.{loads_in, Arrival, Packet, Told, Ticked, from_leader, from_follower, by_role, in_view, on_body}
-use Rattle.replica_rows.specs.Messages.{on_message, ticked, arrive}
+use Rattle.replica_rows.specs.Messages.{Arrival, arrive}
 use Rattle.replica_rows.specs.Telling.{told_in, told_by, gathered_point}
+use Rattle.replica_rows.proofs.EachRow.{change_in, arrive_row}
+use Rattle.replica_rows.proofs.EachMove.{Kept, EachMove, each_row}
 
 -- ---- fronts of lists
 
@@ -114,14 +106,6 @@ both s t u h g = record {
   within = let p = h.point in let w = g.within in omega (arith, p, w);
   gathered = let p = h.point in let c = g.gathered in omega (arith, p, c);
 }
-
-then_keeps : (s : ReplicaState) (e : Effect) (f : ReplicaState → Effect) → Keeps s e.0 → (Low e.0 → Keeps e.0 (f e.0).0)
-    → Keeps s (then_do e f).0
-then_keeps s e f h g = both s e.0 (f e.0).0 h (g (low_after s e.0 h))
-
-when_keeps : (b : Bool) (f : ReplicaState → Effect) (s : ReplicaState) → Low s → Keeps s (f s).0 → Keeps s (when b f s).0
-when_keeps true f s low h = h
-when_keeps false f s low h = same s s refl refl refl low
 
 -- ---- drains
 
@@ -208,9 +192,6 @@ drain_grows m s = (drain_by_grows m (MAX_SLOTS - unsynced Whole s.log)).at s
 drain_keeps : {S : Type 0} (m : Meaning S) (s : ReplicaState) → Low s → Keeps s (drain m Whole s).0
 drain_keeps m s low = grown s (drain m Whole s).0 low (drain_grows m s)
 
-and_drain : {S : Type 0} (m : Meaning S) (s : ReplicaState) (e : Effect) → Keeps s e.0 → Keeps s (then_do e (drain m Whole)).0
-and_drain m s e h = then_keeps s e (drain m Whole) h (drain_keeps m e.0)
-
 more : (s t : ReplicaState) (x : Entry) → t.sync.sync_point ≡ s.sync.sync_point → t.log ≡ logs.appended s.log x → t.changes ≡ s.changes
     → Low s → Keeps s t
 more s t x p l c low = grown s t low (grows_more s t x p l c)
@@ -287,43 +268,6 @@ opened_point cs =
     let most = kept_point (λ c. is_view c.last_normal (greatest (map plain cs))) (map plain cs) in
     omega (arith, point, same, most)
 
-open_if_keeps : {S : Type 0} (m : Meaning S) (o : Option (Gathering peer.Change)) (s : ReplicaState)
-    → gathered_point o ≤ s.sync.sync_point → Low s
-    → Keeps s (open_if_enough m Whole o s).0
-open_if_keeps m None s le low = same s s refl refl refl low
-open_if_keeps m (Some g) s le low =
-    let most = opened_point g.changes in
-    when_keeps (nat_lt g.f (length g.changes)) (open_view m Whole g) s low
-    (adopt_keeps m s s.view (start_of g.view (map plain g.changes)).next (merged Whole (kept_told g.changes)) (omega (arith, most, le)) low)
-
-enter_view_keeps : {S : Type 0} (m : Meaning S) (v : View) (s : ReplicaState) → Low s → Keeps s (rows.enter_view m Whole v s).0
-unfolding rows.enter_view
-enter_view_keeps m v s low =
-    then_keeps s (enter s v) (λ t. open_if_enough m Whole t.changes t) (enter_keeps s v low)
-    (λ h. open_if_keeps m (enter s v).0.changes (enter s v).0 h.gathered h)
-
-enter_and_drain_keeps : {S : Type 0} (m : Meaning S) (v : View) (s : ReplicaState) → Low s → Keeps s (rows.enter_and_drain m Whole v s).0
-enter_and_drain_keeps m v s low = and_drain m s (rows.enter_view m Whole v s) (enter_view_keeps m v s low)
-
--- ---- rows of packets and view changes
-
-stamped_if_keeps : {S : Type 0} (m : Meaning S) (b : Bool) (s : ReplicaState) (p : Stamped) → Low s
-    → Keeps s (rows.stamped_if m Whole b p s).0
-stamped_if_keeps m true s p low =
-    let v : View = record { leader = s.view.leader; session = p.session } in
-    both s (begin_session s p) (rows.enter_and_drain m Whole v (begin_session s p)).0 (same s (begin_session s p) refl refl refl low)
-    (enter_and_drain_keeps m v (begin_session s p) (record { points = low.points; within = low.within; gathered = low.gathered }))
-stamped_if_keeps m false s p low = and_drain m s (queue s p) (same s (queue s p).0 refl refl refl low)
-
-stamped_keeps : {S : Type 0} (m : Meaning S) (s : ReplicaState) (p : Stamped) → Low s → Keeps s (rows.stamped m Whole p s).0
-unfolding rows.stamped
-stamped_keeps m s p low = stamped_if_keeps m (nat_lt s.view.session p.session) s p low
-
-request_keeps : {S : Type 0} (m : Meaning S) (s : ReplicaState) (v : View) → Low s → Keeps s (rows.view_change_request m Whole v s).0
-request_keeps m s v low =
-    when_keeps (not (is_view (join_of s.view v) s.view)) (rows.enter_and_drain m Whole (join_of s.view v)) s low
-    (enter_and_drain_keeps m (join_of s.view v) s low)
-
 more_point : (cs : List peer.Change) (c : peer.Change) (n : ℕ) → greatest_point (map plain cs) ≤ n → c.log.sync_point ≤ n
     → greatest_point (map plain (cs ++ c ∷ [])) ≤ n
 more_point [] c n h le = omega (arith, le)
@@ -336,37 +280,6 @@ counted_point g c n h le = at (has_sender teller g.changes c.sender)
     at : (b : Bool) → greatest_point (map plain (cond b g.changes (g.changes ++ c ∷ []))) ≤ n
     at true = h
     at false = more_point g.changes c n h le
-
-gather_keeps : {S : Type 0} (m : Meaning S) (o : Option (Gathering peer.Change)) (c : peer.Change) (s : ReplicaState)
-    → gathered_point o ≤ s.sync.sync_point → c.log.sync_point ≤ s.sync.sync_point → Low s → Keeps s (rows.gather m Whole o c s).0
-gather_keeps m None c s h le low = same s s refl refl refl low
-gather_keeps m (Some g) c s h le low =
-    let t : ReplicaState = (keep_change s g c).0 in
-    let more = counted_point g c s.sync.sync_point h le in
-    then_keeps s (keep_change s g c) (λ t. open_if_enough m Whole t.changes t) (changed s t refl refl more low)
-    (open_if_keeps m t.changes t more)
-
-gather_by_keeps : {S : Type 0} (m : Meaning S) (status : Phase) (c : peer.Change) (s : ReplicaState) → c.log.sync_point ≤ s.sync.sync_point
-    → Low s → Keeps s (rows.gather_by m Whole status c s).0
-gather_by_keeps m Change c s le low = gather_keeps m s.changes c s low.gathered le low
-gather_by_keeps m Normal c s le low = same s s refl refl refl low
-
-view_change_keeps : {S : Type 0} (m : Meaning S) (s : ReplicaState) (v : View) (c : peer.Change)
-    → c.log.sync_point ≤ s.sync.sync_point → Low s
-    → Keeps s (rows.view_change m Whole v c s).0
-unfolding rows.view_change
-view_change_keeps m s v c le low =
-    let t : ReplicaState = (rows.view_change_request m Whole v s).0 in
-    let asked = request_keeps m s v low in
-    let same_point = asked.point in
-    then_keeps s (rows.view_change_request m Whole v s) (rows.take_change m Whole v c) asked
-    (λ h. when_keeps (is_view v t.view && leads t) (rows.gather_by m Whole t.status c) t h
-    (gather_by_keeps m t.status c t (omega (arith, le, same_point)) h))
-
-start_view_keeps : {S : Type 0} (m : Meaning S) (s : ReplicaState) (q : ℕ) (v : View) (x : ℕ) (l : Log) → l.sync_point ≤ s.sync.sync_point
-    → Low s → Keeps s (rows.start_view m Whole q v x l s).0
-unfolding rows.start_view
-start_view_keeps m s q v x l le low = when_keeps (may_adopt Whole s q v l) (λ t. adopt m Whole t v x l) s low (adopt_keeps m s v x l le low)
 
 -- ---- rows of the leader's messages
 
@@ -392,29 +305,6 @@ written_keeps s k low = at (nat_le k s.sync.sync_point) refl
       within = let len = length-set_slot s.log.entries k NoOp in let w = low.within in omega (arith, len, w);
       gathered = low.gathered;
     }
-
-gap_commit_if_keeps : {S : Type 0} (m : Meaning S) (a b : Bool) (k : ℕ) (s : ReplicaState) → Low s
-    → Keeps s (rows.gap_commit_if m Whole a b k s).0
-gap_commit_if_keeps m true b k s low =
-    let w = written_keeps s k low in
-    and_drain m s (write_gap Whole (hear s) k)
-    (record { point = w.point; points = w.points; front = w.front; within = w.within; gathered = w.gathered })
-gap_commit_if_keeps m false true k s low =
-    and_drain m s (add_gap Whole (hear s)) (more s (add_gap Whole (hear s)).0 NoOp refl refl refl low)
-gap_commit_if_keeps m false false k s low = same s s refl refl refl low
-
-gap_commit_keeps : {S : Type 0} (m : Meaning S) (k : ℕ) (s : ReplicaState) → Low s → Keeps s (rows.gap_commit m Whole k s).0
-unfolding rows.gap_commit
-gap_commit_keeps m k s low =
-    gap_commit_if_keeps m (nat_le k (length s.log.entries)) ((k == length s.log.entries + 1) && may_append Whole s) k s low
-
-found_keeps : {S : Type 0} (m : Meaning S) (k : ℕ) (r : Request) (s : ReplicaState) → Low s → Keeps s (rows.found m Whole k r s).0
-unfolding rows.found
-found_keeps m k r s low =
-    let t : ReplicaState = appended (hear s) (Req r) in
-    let h = more s t (Req r) refl refl refl low in
-    when_keeps ((k == length s.log.entries + 1) && may_append Whole s) _ s low
-    (both s t (drain m Whole t).0 h (drain_keeps m t (low_after s t h)))
 
 abbrev overlaid_by : Log → Log → Bool → List Entry
 overlaid_by l own b =
@@ -449,40 +339,6 @@ overlay_keeps m s l le low =
       within = omega (arith, within, points);
       gathered = low.gathered;
     }
-
-prepare_keeps : {S : Type 0} (m : Meaning S) (l : Log) (s : ReplicaState) → l.sync_point ≤ s.sync.sync_point → Low s
-    → Keeps s (rows.sync_prepare m Whole l s).0
-unfolding rows.sync_prepare
-prepare_keeps m l s le low =
-    let h = overlay_keeps m (hear s) l le (record { points = low.points; within = low.within; gathered = low.gathered }) in
-    when_keeps (nat_le (s.next + (length l.entries - length s.log.entries)) NUMBER_END)
-    (λ t. then_do (overlay m Whole (hear t) l) (drain m Whole)) s low
-    (and_drain m s (overlay m Whole (hear s) l)
-    (record { point = h.point; points = h.points; front = h.front; within = h.within; gathered = h.gathered }))
-
--- ---- rows of followers' messages
-
-lookup_by_keeps : {S : Type 0} (m : Meaning S) (r : Answer) (q k : ℕ) (s : ReplicaState) → Low s
-    → Keeps s (rows.slot_lookup_by m Whole r q k s).0
-lookup_by_keeps m Begin q k s low =
-    when_keeps (nat_lt s.next NUMBER_END) (λ t. then_do (open_gap Whole t) (drain m Whole)) s low
-    (and_drain m s (open_gap Whole s) (open_gap_keeps s low))
-lookup_by_keeps m _ q k s low = same s s refl refl refl low
-
-lookup_keeps : {S : Type 0} (m : Meaning S) (q k : ℕ) (s : ReplicaState) → Low s → Keeps s (rows.slot_lookup m Whole q k s).0
-unfolding rows.slot_lookup
-lookup_keeps m q k s low = lookup_by_keeps m (answer_of Whole s.log (waits s.gap) k) q k s low
-
-gap_reply_at_keeps : {S : Type 0} (m : Meaning S) (o : Option Agreement) (q k : ℕ) (s : ReplicaState) → Low s
-    → Keeps s (rows.gap_reply_at m Whole o q k s).0
-gap_reply_at_keeps m None q k s low = same s s refl refl refl low
-gap_reply_at_keeps m (Some g) q k s low =
-    when_keeps (g.slot == k) (λ t. then_do (count_gap_vote t g q) (drain m Whole)) s low
-    (and_drain m s (count_gap_vote s g q) (same s (count_gap_vote s g q).0 refl refl refl low))
-
-gap_reply_keeps : {S : Type 0} (m : Meaning S) (q k : ℕ) (s : ReplicaState) → Low s → Keeps s (rows.gap_reply m Whole q k s).0
-unfolding rows.gap_reply
-gap_reply_keeps m q k s low = gap_reply_at_keeps m s.gap q k s low
 
 -- ---- rows that move the sync point leave the log, and may drain
 
@@ -537,102 +393,80 @@ sync_front m s low =
     let t : ReplicaState = (sync Whole s).0 in
     risen_by m (has_risen t) s t low (synced_log s)
 
--- ---- messages
+module _ {S : Type 0} (m : Meaning S) (o : ReplicaState) where
+  -- of what is sent nothing is said
+  sent : (sends : List Sending) → AllByRecursion (λ x. ⊤) sends
+  sent [] = tt
+  sent (x ∷ sends) = (tt, sent sends)
 
-from_leader_front : {S : Type 0} (m : Meaning S) (body : Body) (s : ReplicaState) → told_in body ≤ s.sync.sync_point → Low s
-    → Stays s (from_leader m Whole body s).0
-from_leader_front m (bodies.GapCommit k) s le low = (gap_commit_keeps m k s low).front
-from_leader_front m (bodies.Found k r) s le low = (found_keeps m k r s low).front
-from_leader_front m (bodies.SyncPrepare l) s le low = (prepare_keeps m l s le low).front
-from_leader_front m (bodies.SyncCommit k) s le low = commit_front m k s low
-from_leader_front m _ s le low = refl
+  goes : (s : ReplicaState) (e : Effect) → Keeps o s → (Low s → Keeps s e.0) → Kept (Keeps o) (λ x. ⊤) e
+  goes s e h f = record { state = both o s e.0 h (f (low_after o s h)); sends = sent e.1 }
 
-from_follower_front : {S : Type 0} (m : Meaning S) (q : ℕ) (body : Body) (s : ReplicaState) → Low s
-    → Stays s (from_follower m Whole q body s).0
-from_follower_front m q (bodies.SlotLookup k) s low = (lookup_keeps m q k s low).front
-from_follower_front m q (bodies.GapRep k) s low = (gap_reply_keeps m q k s low).front
-from_follower_front m q (bodies.SyncRep k) s low = reply_front m q k s low
-from_follower_front m q _ s low = refl
+  unchanged : (s t : ReplicaState) → Keeps o s → t.sync.sync_point ≡ s.sync.sync_point → t.log ≡ s.log → t.changes ≡ s.changes → Keeps o t
+  unchanged s t h p l c = both o s t h (same s t p l c (low_after o s h))
 
-by_role_front : {S : Type 0} (m : Meaning S) (a b : Bool) (q : ℕ) (body : Body) (s : ReplicaState)
-    → told_in body ≤ s.sync.sync_point → Low s
-    → Stays s (by_role m Whole a b q body s).0
-by_role_front m true b q body s le low = from_leader_front m body s le low
-by_role_front m false true q body s le low = from_follower_front m q body s low
-by_role_front m false false q body s le low = refl
+  stays : (s t : ReplicaState) → Keeps o s → Stays s t → Stays o t
+  stays s t h e = subst (λ (n : ℕ). take n t.log.entries ≡ take n s.log.entries) h.point e ∙ h.front
 
-in_view_front : {S : Type 0} (m : Meaning S) (q : ℕ) (v : View) (body : Body) (s : ReplicaState) → told_in body ≤ s.sync.sync_point → Low s
-    → Stays s (in_view m Whole q v body s).0
-in_view_front m q v body s le low = by_role_front m (is_from_leader s v q) (is_to_leader s v) q body s le low
+  told_low : (s : ReplicaState) (n : ℕ) → Keeps o s → n ≤ o.sync.sync_point → n ≤ s.sync.sync_point
+  told_low s n h le = let p = h.point in omega (arith, p, le)
 
-on_body_front : {S : Type 0} (m : Meaning S) (p : Peer) (body : Body) (s : ReplicaState) → told_in body ≤ s.sync.sync_point → Low s
-    → Stays s (on_body m Whole p body s).0
-on_body_front m p bodies.ViewChangeReq s le low = (request_keeps m s p.view low).front
-on_body_front m p (bodies.ViewChange u x l) s le low =
-    (view_change_keeps m s p.view (record { sender = p.sender; last_normal = u; next = x; log = l }) le low).front
-on_body_front m p (bodies.StartView x l) s le low = (start_view_keeps m s p.sender p.view x l le low).front
-on_body_front m p body s le low = in_view_front m p.sender p.view body s le low
+  gathered_low : (s : ReplicaState) (g : Gathering peer.Change) → Keeps o s → s.changes ≡ Some g
+      → greatest_point (map plain g.changes) ≤ s.sync.sync_point
+  gathered_low s g h is =
+      let low = (low_after o s h).gathered in
+      subst (λ (c : Option (Gathering peer.Change)). gathered_point c ≤ s.sync.sync_point) is low
 
-when_front : (b : Bool) (f : ReplicaState → Effect) (s : ReplicaState) → Stays s (f s).0 → Stays s (when b f s).0
-when_front true f s h = h
-when_front false f s h = refl
+  open_keeps : (s : ReplicaState) (g : Gathering peer.Change) → greatest_point (map plain g.changes) ≤ s.sync.sync_point → Low s
+      → Keeps s (open_view m Whole g s).0
+  open_keeps s g le low =
+      let most = opened_point g.changes in
+      adopt_keeps m s s.view (start_of g.view (map plain g.changes)).next (merged Whole (kept_told g.changes)) (omega (arith, most, le)) low
 
-on_message_front : {S : Type 0} (m : Meaning S) (s : ReplicaState) (p : Peer) → told_in p.body ≤ s.sync.sync_point → Low s
-    → Stays s (on_message m Whole p s).0
-unfolding on_message
-on_message_front m s p le low = when_front (is_other s p.sender) (on_body m Whole p p.body) s (on_body_front m p p.body s le low)
-
--- ---- ticks
-
-suspect_keeps : {S : Type 0} (m : Meaning S) (s : ReplicaState) → Low s → Keeps s (rows.suspect m Whole s).0
-suspect_keeps m s low =
-    when_keeps (nat_lt s.view.leader rows.last_leader) (rows.enter_and_drain m Whole (rows.next_leader s.view)) s low
-    (enter_and_drain_keeps m (rows.next_leader s.view) s low)
-
-watch_front : {S : Type 0} (m : Meaning S) (a b : Bool) (s : ReplicaState) → Low s → Stays s (rows.watch_if m Whole a b s).0
-watch_front m true b s low = refl
-watch_front m false true s low = refl
-watch_front m false false s low = (suspect_keeps m s low).front
-
-gap_again_front : (o : Option Agreement) (s : ReplicaState) → Stays s (gap_again o s).0
-gap_again_front None s = refl
-gap_again_front (Some g) s = refl
-
-lookup_again_front : (front : Front) (s : ReplicaState) → Stays s (lookup_again Whole front s).0
-lookup_again_front Nothing s = refl
-lookup_again_front (Message r) s = refl
-lookup_again_front Dropped s = when_front (has_room Whole s) _ s refl
-
-change_again_front : (b : Bool) (s : ReplicaState) → Stays s (change_again b s).0
-change_again_front true s = refl
-change_again_front false s = refl
-
-resend_by_front : (status : Phase) (b : Bool) (s : ReplicaState) → Stays s (resend_by Whole status b s).0
-resend_by_front Change b s = change_again_front b s
-resend_by_front Normal true s = gap_again_front s.gap s
-resend_by_front Normal false s = lookup_again_front (front_of s.receiver) s
-
-resend_front : (s : ReplicaState) → Stays s (resend Whole s).0
-unfolding resend
-resend_front s = resend_by_front s.status (leads s) s
-
-tick_front : {S : Type 0} (m : Meaning S) (s : ReplicaState) (tick : Tick) → Low s → Stays s (ticked m Whole tick s).0
-tick_front m s ticks.Suspect low = (suspect_keeps m s low).front
-tick_front m s ticks.Watch low = watch_front m (is_normal s.status && leads s) s.heard s low
-tick_front m s ticks.Resend low = resend_front s
-tick_front m s ticks.Sync low = sync_front m s low
-tick_front m s _ low = refl
-
--- ---- all that arrives
+  move_keeps : EachMove m Whole (Keeps o) (λ p. ⊤) (λ p. told_in p.body ≤ o.sync.sync_point) (λ x. ⊤) (λ s e. Stays o e.0)
+  move_keeps = record {
+    ends = λ s e i h. h.state.front;
+    sync_commit = λ s p n i g. stays s (rows.sync_commit m Whole n s).0 i (commit_front m n s (low_after o s i));
+    sync_reply = λ s p n i g. stays s (rows.sync_reply m Whole p.sender n s).0 i (reply_front m p.sender n s (low_after o s i));
+    sync = λ s i. stays s (rows.sync m Whole s).0 i (sync_front m s (low_after o s i));
+    drain = λ s i. goes s (drain m Whole s) i (drain_keeps m s);
+    queue = λ s p i f. unchanged s (queue s p).0 i refl refl refl;
+    session = λ s p i f.
+        let t : ReplicaState = begin_session s p in
+        let h = unchanged s t i refl refl refl in
+        goes t (enter t (session_view s p)) h (enter_keeps t (session_view s p));
+    join = λ s p i g. goes s (enter s (join_of s.view p.view)) i (enter_keeps s (join_of s.view p.view));
+    next = λ s i e. goes s (enter s (rows.next_leader s.view)) i (enter_keeps s (rows.next_leader s.view));
+    opens = λ s g i is many. goes s (open_view m Whole g s) i (open_keeps s g (gathered_low s g i is));
+    gather = λ s p u x l g i le is.
+        let t : ReplicaState = (keep_change s g (change_in p u x l)).0 in
+        let more = counted_point g (change_in p u x l) s.sync.sync_point (gathered_low s g i is) (told_low s l.sync_point i le) in
+        both o s t i (changed s t refl refl more (low_after o s i));
+    start_again = λ s p i g. (tt, tt);
+    adopt = λ s p x l i le. goes s (adopt m Whole s p.view x l) i (adopt_keeps m s p.view x l (told_low s l.sync_point i le));
+    write_gap = λ s p n i g.
+        let h = unchanged s (hear s) i refl refl refl in goes (hear s) (write_gap Whole (hear s) n) h (written_keeps (hear s) n);
+    add_gap = λ s i may. goes s (add_gap Whole (hear s)) i (more s (add_gap Whole (hear s)).0 NoOp refl refl refl);
+    fill = λ s p n r i g may. goes s (fill m Whole (hear s) r) i (more s (appended (hear s) (Req r)) (Req r) refl refl refl);
+    overlay = λ s p l i le high.
+        let h = unchanged s (hear s) i refl refl refl in
+        goes (hear s) (overlay m Whole (hear s) l) h (overlay_keeps m (hear s) l (told_low s l.sync_point i le));
+    synced = λ s p i g. (tt, tt);
+    found_again = λ s p n r i g is. (tt, tt);
+    gap_told = λ s p n i g. (tt, tt);
+    open_gap = λ s n i is high. goes s (open_gap Whole s) i (open_gap_keeps s);
+    vote = λ s g q i is. unchanged s (count_gap_vote s g q).0 i refl refl refl;
+    unheard = λ s i. unchanged s (record s { heard = false }) i refl refl refl;
+    request_again = λ s i. sent (to_all s bodies.ViewChangeReq);
+    change_again = λ s i. (tt, tt);
+    gap_again = λ s g i is. sent (to_all s (bodies.GapCommit g.slot));
+    lookup_again = λ s i room. (tt, tt);
+  }
 
 pub synchronised_stays : {S : Type 0} (m : Meaning S) (s : ReplicaState) (a : Arrival) → PointsMeet s
     → s.sync.sync_point ≤ length s.log.entries → gathered_point s.changes ≤ s.sync.sync_point → told_by a ≤ s.sync.sync_point
     → take s.sync.sync_point (arrive m Whole s a).0.log.entries ≡ take s.sync.sync_point s.log.entries
-unfolding arrive
-synchronised_stays m s (Packet p) points within gathered told =
-    (stamped_keeps m s p (record { points = points; within = within; gathered = gathered })).front
-synchronised_stays m s (Told p) points within gathered told =
-    when_front (loads_in m p.body) (on_message m Whole p) s
-    (on_message_front m s p told (record { points = points; within = within; gathered = gathered }))
-synchronised_stays m s (Ticked tick) points within gathered told =
-    tick_front m s tick (record { points = points; within = within; gathered = gathered })
+synchronised_stays m s a points within gathered told =
+    let low : Low s = record { points = points; within = within; gathered = gathered } in
+    arrive_row m Whole _ _ _ _ (each_row m Whole _ _ _ _ _ (move_keeps m s)) s a (same s s refl refl refl low) (λ p e. tt)
+    (λ p e is. subst (λ (x : Arrival). told_by x ≤ s.sync.sync_point) e told)
