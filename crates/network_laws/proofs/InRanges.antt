@@ -7,8 +7,6 @@ use Rattle.std.proofs.lemmas.Bool.{and_parts, lt-ltb}
 use Rattle.std.proofs.lemmas.Bool.Decides.{nat_tests}
 use Rattle.std.proofs.lemmas.List.{length-drop}
 use Rattle.nop_types.specs.declared.limits.TheConstants.{MAX_RESULT_BYTES, MAX_SLOTS, MAX_LENGTH, NUMBER_END}
-use Rattle.nop_types.specs.declared.input.Tick.{Tick}
-use Rattle.nop_types.specs.declared.input.Tick.TheVariants as ticks
 use Rattle.nop_types.specs.declared.view.View.{View}
 use Rattle.nop_types.specs.declared.replica_state.Phase.{Phase}
 use Rattle.nop_types.specs.declared.replica_state.Phase.TheVariants.{Normal, Change}
@@ -19,8 +17,6 @@ use Rattle.nop_types.specs.declared.request.Entry.{Entry}
 use Rattle.nop_types.specs.declared.request.Entry.TheVariants.{NoOp, Req}
 use Rattle.nop_types.specs.declared.datagram.Stamped.{Stamped}
 use Rattle.nop_types.specs.declared.peer.Change as peer
-use Rattle.nop_types.specs.declared.peer.Peer.{Peer}
-use Rattle.nop_types.specs.declared.peer.Body.{Body}
 use Rattle.nop_types.specs.declared.peer.Body.TheVariants as bodies
 use Rattle.nop_types.specs.Bounds.{Bounds}
 use Rattle.nop_types.specs.CheckpointedLogs.{slot_result}
@@ -29,9 +25,9 @@ use Rattle.nop_types.specs.Logs.{Log, Keeping, Whole, Trimmed, length_of, unsync
 use Rattle.nop_types.specs.Lists.{slot_of}
 use Rattle.nop_types.specs.Meaning.{Meaning}
 use Rattle.nop_types.specs.PlainChanges.{plain}
-use Rattle.nop_types.specs.Ranges.{ViewFits, RequestFits, EntryFits, LogIsIn, NextFits, SlotFits, StampedFits, BodyIsIn, PeerIsIn}
+use Rattle.nop_types.specs.Ranges.{ViewFits, RequestFits, EntryFits, LogIsIn, NextFits, SlotFits, StampedFits, PeerIsIn}
 use Rattle.nop_types.specs.Ranges.{ChangeIsIn}
-use Rattle.nop_types.specs.Views.{is_view, join_of}
+use Rattle.nop_types.specs.Views.{join_of}
 use Rattle.lemmas.proofs.Limits.{is_configuration-few_replicas}
 use Rattle.gap_agree.specs.Agreement.{Agreement, counted}
 use Rattle.gap_agree.specs.Votes.{vote_of}
@@ -42,8 +38,7 @@ use Rattle.oum_receiver.specs.Receiving.{Receiving, IsSound, opened, verdict_of,
 use Rattle.oum_receiver.specs.Receiving.{advanced}
 use Rattle.oum_receiver.proofs.Sound.{opened_sound, offered_sound, taken_sound, advanced_sound}
 use Rattle.replica_log.proofs.InRanges.{first_fits}
-use Rattle.slot_lookup.specs.Answer.{Answer, Below, Found, GapAgain, Begin, answer_by, may_begin, answer_above, answer_of}
-use Rattle.slot_lookup.specs.Answer as answers
+use Rattle.slot_lookup.specs.Answer.{Answer, Below, Found, Begin, answer_by, may_begin, answer_above, answer_of}
 use Rattle.sync_points.specs.Synchronisation as synchronisation
 use Rattle.sync_points.specs.Synchronisation.{Synchronisation}
 use Rattle.view_change.specs.Gathering.{Gathering, teller}
@@ -51,18 +46,17 @@ use Rattle.view_change.specs.Gathering as gathering
 use Rattle.replica_state.specs.declared.sending.Sending.{Sending}
 use Rattle.replica_state.specs.declared.state.ReplicaState.{ReplicaState}
 use Rattle.replica_state.specs.State.{opening, others, leader, leads, is_normal, drains, waits, waiting, has_room, may_append}
-use Rattle.replica_state.specs.State.{is_from_leader, is_to_leader, is_other, may_adopt, has_risen}
+use Rattle.replica_state.specs.State.{has_risen}
 use Rattle.replica_state.specs.Sends.{Effect, then_do, when, to_leader, to_all, SendingIsIn}
 use Rattle.replica_state.specs.Replies.{leader_reply, reply_if, reply_to, reply_for, replies_to, replies_above}
-use Rattle.replica_state.specs.Moves.{queue, begin_session, logged, take_front, appended, fill, ask_if, gap_opened, open_gap, write_gap}
+use Rattle.replica_state.specs.Moves.{queue, begin_session, session_view, logged, take_front, appended, fill, ask_if, gap_opened, open_gap, write_gap}
 use Rattle.replica_state.specs.Moves.{add_gap, count_gap_vote, drain_drop, drain_at, drain_by, drain, listening, entered, own_change}
-use Rattle.replica_state.specs.Moves.{change_told, enter_as, enter, adopted, adopt, open_with, open_view, open_if_enough, keep_change}
-use Rattle.replica_state.specs.Moves.{start_len, tell_synced, count_sync_vote}
+use Rattle.replica_state.specs.Moves.{change_told, enter_as, enter, adopted, adopt, open_with, open_view, keep_change}
+use Rattle.replica_state.specs.Moves.{start_len, count_sync_vote}
 use Rattle.replica_state.specs.Moves.{resend_start, overlaid, overlay, hear, obey, sync_commit, commit_if, raise}
-use Rattle.replica_state.specs.Repeating.{gap_again, lookup_again, change_again, resend_by, resend, sync_if, sync}
+use Rattle.replica_state.specs.Repeating.{sync_if, sync}
 use Rattle.replica_rows.specs.Rows as rows
-use Rattle.replica_rows.specs.Messages.{loads_in, Arrival, Packet, Told, Ticked, from_leader, from_follower, by_role, in_view, on_body}
-use Rattle.replica_rows.specs.Messages.{on_message, ticked, arrive}
+use Rattle.replica_rows.specs.Messages.{Arrival, arrive}
 use Rattle.replica_state.specs.Within.{IsIn}
 use Rattle.replica_rows.specs.Within.{ArrivalIsIn}
 use Rattle.replica_rows.proofs.Running.{
@@ -76,6 +70,8 @@ use Rattle.replica_rows.proofs.Running.{
   overlaid_within,
   waiting_fits,
 }
+use Rattle.replica_rows.proofs.EachRow.{change_in, arrive_row}
+use Rattle.replica_rows.proofs.EachMove.{Kept, EachMove, each_row}
 use Rattle.replica_rows.proofs.Opening.{opened_next_fits, opened_told_fits, counted_fits}
 use Rattle.replica_rows.proofs.Ready.{opens_within}
 use Rattle.network_laws.specs.Ranges.{StaysInRanges}
@@ -95,26 +91,7 @@ use Rattle.replica_rows.proofs.Fields.{
   committed_grows,
   counted_grows,
 }
-use Rattle.network_laws.proofs.FieldRanges.{
-  below,
-  IsGood,
-  good,
-  after,
-  all_behind,
-  still_stays,
-  then_stays,
-  when_stays,
-  number_small,
-  to_replica_fits,
-  to_all_fits,
-  own_change_fits,
-  judged_next,
-  cond_sound,
-  message_fits,
-  not_nothing,
-  hears,
-  entered_within,
-}
+use Rattle.network_laws.proofs.FieldRanges.{below, IsGood, good, after, all_behind, still_stays, then_stays, number_small, to_replica_fits, to_all_fits, own_change_fits, judged_next, cond_sound, message_fits, not_nothing, hears, entered_within}
 
 -- ---- the opening
 
@@ -266,6 +243,9 @@ module _ {S : Type 0} (m : Meaning S) (k : Keeping) (bounds : Bounds m k) where
             (waiting_fits (counted g q) fits (vote_of (counted g q).f (counted g q).votes));
         sound = h.sound;
       })
+
+  slot_fits : (s : ReplicaState) (g : Agreement) → IsGood k s → s.gap ≡ Some g → SlotFits g.slot
+  slot_fits s g h is = subst (λ (o : Option Agreement). IfSome o (λ x. SlotFits x.slot)) is h.within.gap
 
   ask_if_stays : (b : Bool) (s : ReplicaState) → IsGood k s → has_room k s ≡ true → StaysInRanges k (ask_if k b s)
   ask_if_stays true s g room = still_stays s g
@@ -449,25 +429,12 @@ module _ {S : Type 0} (m : Meaning S) (k : Keeping) (bounds : Bounds m k) where
       (to_all_fits s (bodies.StartView x l) g.within (record { number = next; told = told })))
       (adopt_stays s s.view x l g g.within.view next told)
 
-  open_if_stays : (o : Option (Gathering peer.Change)) (s : ReplicaState) → IsGood k s
-      → IfSome o (λ g. AllByRecursion (ChangeIsIn k) g.changes) → StaysInRanges k (open_if_enough m k o s)
-  open_if_stays None s h fits = still_stays s h
-  open_if_stays (Some g) s h fits =
-      when_stays (nat_lt g.f (length g.changes)) (open_view m k g) s h
-      (λ e. let many = below _ _ e in
+  open_view_stays : (s : ReplicaState) (g : Gathering peer.Change) → IsGood k s → AllByRecursion (ChangeIsIn k) g.changes
+      → g.f < length g.changes → StaysInRanges k (open_view m k g s)
+  open_view_stays s g h fits many =
       open_with_stays s (starting.start_of g.view (map plain g.changes)).next (merged k (kept_told g.changes)) h
       (opened_next_fits k g.view g.changes fits (omega (arith, many)))
-      (opened_told_fits k g.changes fits))
-
-  enter_view_stays : (s : ReplicaState) (v : View) → IsGood k s → ViewFits v → StaysInRanges k (rows.enter_view m k v s)
-  unfolding rows.enter_view
-  enter_view_stays s v g fits =
-      let first = enter_stays s v g fits in
-      then_stays (enter s v) (λ t. open_if_enough m k t.changes t) first
-      (open_if_stays (enter s v).0.changes (enter s v).0 (after (enter s v) first) first.within.changes)
-
-  enter_and_drain_stays : (v : View) (s : ReplicaState) → IsGood k s → ViewFits v → StaysInRanges k (rows.enter_and_drain m k v s)
-  enter_and_drain_stays v s g fits = and_drain (rows.enter_view m k v s) (enter_view_stays s v g fits)
+      (opened_told_fits k g.changes fits)
 
   -- the first entries of the own log
   front_told : (s : ReplicaState) (n : ℕ) → IsIn k s → s.sync.sync_point ≤ n → LogIsIn k (first k s.log n)
@@ -502,20 +469,11 @@ module _ {S : Type 0} (m : Meaning S) (k : Keeping) (bounds : Bounds m k) where
       → ViewFits (record { leader = s.view.leader; session = p.session })
   session_fits s p w fits = record { leader = w.view.leader; session = fits.session }
 
-  stamped_if_stays : (b : Bool) (s : ReplicaState) (p : Stamped) → IsGood k s → StampedFits p
-      → StaysInRanges k (rows.stamped_if m k b p s)
-  stamped_if_stays true s p g fits =
-      enter_and_drain_stays (record { leader = s.view.leader; session = p.session }) (begin_session s p)
-      (record {
-        within = begun_within k s p g.within;
-        sound = offered_sound (opened p.session 1) p (opened_sound p.session 1 (omega arith)) fits;
-      })
-      (session_fits s p g.within fits)
-  stamped_if_stays false s p g fits = and_drain (queue s p) (queue_stays s p g fits)
-
-  stamped_stays : (s : ReplicaState) (p : Stamped) → IsGood k s → StampedFits p → StaysInRanges k (rows.stamped m k p s)
-  unfolding rows.stamped
-  stamped_stays s p g fits = stamped_if_stays (nat_lt s.view.session p.session) s p g fits
+  begin_good : (s : ReplicaState) (p : Stamped) → IsGood k s → StampedFits p → IsGood k (begin_session s p)
+  begin_good s p g fits = record {
+    within = begun_within k s p g.within;
+    sound = offered_sound (opened p.session 1) p (opened_sound p.session 1 (omega arith)) fits;
+  }
 
   join_fits : (a b : View) → ViewFits a → ViewFits b → ViewFits (join_of a b)
   join_fits a b f g =
@@ -527,61 +485,7 @@ module _ {S : Type 0} (m : Meaning S) (k : Keeping) (bounds : Bounds m k) where
       let gh = g.session.high in
       record { leader = grind (arith, fl, gl); session = record { low = grind (arith, low); high = grind (arith, fh, gh) } }
 
-  request_stays : (s : ReplicaState) (v : View) → IsGood k s → ViewFits v → StaysInRanges k (rows.view_change_request m k v s)
-  request_stays s v g fits =
-      when_stays (not (is_view (join_of s.view v) s.view)) (rows.enter_and_drain m k (join_of s.view v)) s g
-      (λ _. enter_and_drain_stays (join_of s.view v) s g (join_fits s.view v g.within.view fits))
-
-  gather_stays : (o : Option (Gathering peer.Change)) (c : peer.Change) (s : ReplicaState) → IsGood k s
-      → IfSome o (λ g. AllByRecursion (ChangeIsIn k) g.changes) → ChangeIsIn k c → StaysInRanges k (rows.gather m k o c s)
-  gather_stays None c s h all fits = still_stays s h
-  gather_stays (Some g) c s h all fits =
-      let kept = keep_stays s g c h all fits in
-      then_stays (keep_change s g c) (λ t. open_if_enough m k t.changes t) kept
-      (open_if_stays (keep_change s g c).0.changes (keep_change s g c).0 (after (keep_change s g c) kept) kept.within.changes)
-
-  gather_by_stays : (status : Phase) (c : peer.Change) (s : ReplicaState) → IsGood k s → ChangeIsIn k c
-      → StaysInRanges k (rows.gather_by m k status c s)
-  gather_by_stays Change c s g fits = gather_stays s.changes c s g g.within.changes fits
-  gather_by_stays Normal c s g fits = resend_start_stays s c.sender g
-
-  view_change_stays : (s : ReplicaState) (v : View) (c : peer.Change) → IsGood k s → ViewFits v → ChangeIsIn k c
-      → StaysInRanges k (rows.view_change m k v c s)
-  unfolding rows.view_change
-  view_change_stays s v c g view fits =
-      let first = request_stays s v g view in
-      let t : ReplicaState = (rows.view_change_request m k v s).0 in
-      let h = after (rows.view_change_request m k v s) first in
-      then_stays (rows.view_change_request m k v s) (rows.take_change m k v c) first
-      (when_stays (is_view v t.view && leads t) (rows.gather_by m k t.status c) t h (λ _. gather_by_stays t.status c t h fits))
-
-  start_view_stays : (s : ReplicaState) (q : ℕ) (v : View) (x : ℕ) (l : Log) → IsGood k s → ViewFits v → NextFits x
-      → LogIsIn k l → StaysInRanges k (rows.start_view m k q v x l s)
-  unfolding rows.start_view
-  start_view_stays s q v x l g view next told =
-      when_stays (may_adopt k s q v l) (λ t. adopt m k t v x l) s g (λ _. adopt_stays s v x l g view next told)
-
-  -- ---- rows of the leader's messages
-
-  gap_commit_if_stays : (a b : Bool) (n : ℕ) (s : ReplicaState) → IsGood k s → SlotFits n → (b ≡ true → may_append k s ≡ true)
-      → StaysInRanges k (rows.gap_commit_if m k a b n s)
-  gap_commit_if_stays true b n s g fits may = and_drain (write_gap k (hear s) n) (write_gap_stays (hear s) n (hears s g) fits)
-  gap_commit_if_stays false true n s g fits may = and_drain (add_gap k (hear s)) (add_gap_stays (hear s) (hears s g) (may refl))
-  gap_commit_if_stays false false n s g fits may = still_stays s g
-
-  gap_commit_stays : (n : ℕ) (s : ReplicaState) → IsGood k s → SlotFits n → StaysInRanges k (rows.gap_commit m k n s)
-  unfolding rows.gap_commit
-  gap_commit_stays n s g fits =
-      gap_commit_if_stays (nat_le n (length_of k s.log)) ((n == length_of k s.log + 1) && may_append k s) n s g fits
-      (λ e. (and_parts (n == length_of k s.log + 1) (may_append k s) e).1)
-
-  found_stays : (n : ℕ) (r : Request) (s : ReplicaState) → IsGood k s → RequestFits r → StaysInRanges k (rows.found m k n r s)
-  unfolding rows.found
-  found_stays n r s g fits =
-      when_stays ((n == length_of k s.log + 1) && may_append k s)
-      (λ t. then_do (fill m k (hear t) r) (drain m k)) s g
-      (λ e. and_drain (fill m k (hear s) r)
-      (fill_stays (hear s) r (hears s g) fits (and_parts (n == length_of k s.log + 1) (may_append k s) e).1))
+  -- ---- sync points
 
   overlay_stays : (s : ReplicaState) (l : Log) → IsGood k s → LogIsIn k l
       → s.next + (length_of k l - length_of k s.log) ≤ NUMBER_END
@@ -603,13 +507,6 @@ module _ {S : Type 0} (m : Meaning S) (k : Keeping) (bounds : Bounds m k) where
   at_most : (a b : ℕ) → nat_le a b ≡ true → a ≤ b
   at_most a b e = grind (arith, nat_tests, e)
 
-  prepare_stays : (l : Log) (s : ReplicaState) → IsGood k s → LogIsIn k l → StaysInRanges k (rows.sync_prepare m k l s)
-  unfolding rows.sync_prepare
-  prepare_stays l s g told =
-      when_stays (nat_le (s.next + (length_of k l - length_of k s.log)) NUMBER_END)
-      (λ t. then_do (overlay m k (hear t) l) (drain m k)) s g
-      (λ e. and_drain (overlay m k (hear s) l) (overlay_stays (hear s) l (hears s g) told (at_most _ _ e)))
-
   commit_moves : (n : ℕ) (s : ReplicaState) → IsGood k s → MovesPoint (sync_commit n s)
   unfolding sync_commit
   commit_moves n s g =
@@ -620,13 +517,6 @@ module _ {S : Type 0} (m : Meaning S) (k : Keeping) (bounds : Bounds m k) where
   commit_row_stays : (n : ℕ) (s : ReplicaState) → IsGood k s → StaysInRanges k (rows.sync_commit m k n s)
   unfolding rows.sync_commit
   commit_row_stays n s g = and_raise (sync_commit n s) (commit_moves n s g)
-
-  -- ---- rows of followers' messages
-
-  begin_gap_stays : (s : ReplicaState) → IsGood k s → has_room k s ≡ true → StaysInRanges k (rows.begin_gap m k s)
-  begin_gap_stays s g room =
-      when_stays (nat_lt s.next NUMBER_END) (λ t. then_do (open_gap k t) (drain m k)) s g
-      (λ e. and_drain (open_gap k s) (open_gap_stays s g (room_test s room (below _ _ e))))
 
   -- what the answer to a lookup says of the log
   record AnswerFits (s : ReplicaState) (r : Answer) : Type 0 where
@@ -661,36 +551,6 @@ module _ {S : Type 0} (m : Meaning S) (k : Keeping) (bounds : Bounds m k) where
       (λ e. (and_parts (not (waits s.gap)) (has_room k s) (and_parts (n == length_of k s.log + 1) _ e).1).1) in
       unless_below s (nat_le n s.log.sync_point) (answer_above k s.log (waits s.gap) n) above
 
-  lookup_by_stays : (r : Answer) (q n : ℕ) (s : ReplicaState) → IsGood k s → SlotFits n → AnswerFits s r
-      → StaysInRanges k (rows.slot_lookup_by m k r q n s)
-  lookup_by_stays Below q n s g place fits =
-      good (tell_synced k s q) g
-      (to_replica_fits s q (bodies.SyncPrepare (first k s.log s.sync.sync_point)) g.within
-      (front_told s s.sync.sync_point g.within (omega arith)))
-  lookup_by_stays (Found r) q n s g place fits =
-      good (rows.slot_lookup_by m k (Found r) q n s) g
-      (to_replica_fits s q (bodies.Found n r) g.within (record { place = place; request = fits.found r refl }))
-  lookup_by_stays GapAgain q n s g place fits =
-      good (rows.slot_lookup_by m k GapAgain q n s) g (to_replica_fits s q (bodies.GapCommit n) g.within place)
-  lookup_by_stays Begin q n s g place fits = begin_gap_stays s g (fits.room refl)
-  lookup_by_stays answers.Nothing q n s g place fits = still_stays s g
-
-  lookup_stays : (q n : ℕ) (s : ReplicaState) → IsGood k s → SlotFits n → StaysInRanges k (rows.slot_lookup m k q n s)
-  unfolding rows.slot_lookup
-  lookup_stays q n s g fits =
-      lookup_by_stays (answer_of k s.log (waits s.gap) n) q n s g fits (answer_fits s n g.within)
-
-  gap_reply_at_stays : (o : Option Agreement) (q n : ℕ) (s : ReplicaState) → IsGood k s → IfSome o (λ g. SlotFits g.slot)
-      → StaysInRanges k (rows.gap_reply_at m k o q n s)
-  gap_reply_at_stays None q n s h fits = still_stays s h
-  gap_reply_at_stays (Some g) q n s h fits =
-      when_stays (g.slot == n) (λ t. then_do (count_gap_vote t g q) (drain m k)) s h
-      (λ _. and_drain (count_gap_vote s g q) (gap_vote_stays s g q h fits))
-
-  gap_reply_stays : (q n : ℕ) (s : ReplicaState) → IsGood k s → StaysInRanges k (rows.gap_reply m k q n s)
-  unfolding rows.gap_reply
-  gap_reply_stays q n s g = gap_reply_at_stays s.gap q n s g g.within.gap
-
   commit_if_fits : (s : ReplicaState) (n : ℕ) (v : Vote) → IsIn k s → n < 2 ^ 32 → AllByRecursion (SendingIsIn k) (commit_if s n v)
   commit_if_fits s n Settled w less = to_all_fits s (bodies.SyncCommit n) w less
   commit_if_fits s n Waiting w less = tt
@@ -703,90 +563,6 @@ module _ {S : Type 0} (m : Meaning S) (k : Keeping) (bounds : Bounds m k) where
       (counted_in_fits (length_of k s.log) s.sync s.sync.syncing q n (sync_of k s g.within) g.within.syncing)
       (counted_grows s.sync s.sync.syncing q n)
       (commit_if_fits s n (synchronisation.vote_for s.sync q n) g.within less))
-
-  -- ---- all messages
-
-  from_leader_stays : (body : Body) (s : ReplicaState) → IsGood k s → BodyIsIn k body → StaysInRanges k (from_leader m k body s)
-  from_leader_stays (bodies.GapCommit n) s g fits = gap_commit_stays n s g fits
-  from_leader_stays (bodies.Found n r) s g fits = found_stays n r s g fits.request
-  from_leader_stays (bodies.SyncPrepare l) s g fits = prepare_stays l s g fits
-  from_leader_stays (bodies.SyncCommit n) s g fits = commit_row_stays n s g
-  from_leader_stays _ s g fits = still_stays s g
-
-  from_follower_stays : (q : ℕ) (body : Body) (s : ReplicaState) → IsGood k s → BodyIsIn k body
-      → StaysInRanges k (from_follower m k q body s)
-  from_follower_stays q (bodies.SlotLookup n) s g fits = lookup_stays q n s g fits
-  from_follower_stays q (bodies.GapRep n) s g fits = gap_reply_stays q n s g
-  from_follower_stays q (bodies.SyncRep n) s g fits = sync_reply_stays q n s g fits
-  from_follower_stays q _ s g fits = still_stays s g
-
-  by_role_stays : (a b : Bool) (q : ℕ) (body : Body) (s : ReplicaState) → IsGood k s → BodyIsIn k body
-      → StaysInRanges k (by_role m k a b q body s)
-  by_role_stays true b q body s g fits = from_leader_stays body s g fits
-  by_role_stays false true q body s g fits = from_follower_stays q body s g fits
-  by_role_stays false false q body s g fits = still_stays s g
-
-  in_view_stays : (q : ℕ) (v : View) (body : Body) (s : ReplicaState) → IsGood k s → BodyIsIn k body
-      → StaysInRanges k (in_view m k q v body s)
-  in_view_stays q v body s g fits = by_role_stays (is_from_leader s v q) (is_to_leader s v) q body s g fits
-
-  on_body_stays : (p : Peer) (body : Body) (s : ReplicaState) → IsGood k s → PeerIsIn k p → BodyIsIn k body
-      → StaysInRanges k (on_body m k p body s)
-  on_body_stays p bodies.ViewChangeReq s g p_fits fits = request_stays s p.view g p_fits.view
-  on_body_stays p (bodies.ViewChange u x l) s g p_fits fits =
-      view_change_stays s p.view (record { sender = p.sender; last_normal = u; next = x; log = l }) g p_fits.view
-      (record { sender = p_fits.sender; rest = fits })
-  on_body_stays p (bodies.StartView x l) s g p_fits fits =
-      start_view_stays s p.sender p.view x l g p_fits.view fits.number fits.told
-  on_body_stays p body s g p_fits fits = in_view_stays p.sender p.view body s g fits
-
-  on_message_stays : (s : ReplicaState) (p : Peer) → IsGood k s → PeerIsIn k p → StaysInRanges k (on_message m k p s)
-  unfolding on_message
-  on_message_stays s p g fits =
-      when_stays (is_other s p.sender) (on_body m k p p.body) s g (λ _. on_body_stays p p.body s g fits fits.body)
-
-  -- ---- ticks
-
-  suspect_stays : (s : ReplicaState) → IsGood k s → StaysInRanges k (rows.suspect m k s)
-  suspect_stays s g =
-      when_stays (nat_lt s.view.leader rows.last_leader) (rows.enter_and_drain m k (rows.next_leader s.view)) s g
-      (λ e. let less = below _ _ e in
-      enter_and_drain_stays (rows.next_leader s.view) s g (record { leader = omega (arith, less); session = g.within.view.session }))
-
-  watch_stays : (a b : Bool) (s : ReplicaState) → IsGood k s → StaysInRanges k (rows.watch_if m k a b s)
-  watch_stays true b s g = still_stays s g
-  watch_stays false true s g = still_stays (record s { heard = false }) (record { within = with_heard k s false g.within; sound = g.sound })
-  watch_stays false false s g = suspect_stays s g
-
-  gap_again_stays : (o : Option Agreement) (s : ReplicaState) → IsGood k s → IfSome o (λ g. SlotFits g.slot)
-      → StaysInRanges k (gap_again o s)
-  gap_again_stays None s h fits = still_stays s h
-  gap_again_stays (Some g) s h fits = good (gap_again (Some g) s) h (to_all_fits s (bodies.GapCommit g.slot) h.within fits)
-
-  lookup_again_stays : (front : Front) (s : ReplicaState) → IsGood k s → StaysInRanges k (lookup_again k front s)
-  lookup_again_stays Nothing s g = still_stays s g
-  lookup_again_stays (Message r) s g = still_stays s g
-  lookup_again_stays Dropped s g =
-      when_stays (has_room k s) (λ t. (t, to_leader t (bodies.SlotLookup (length_of k t.log + 1)))) s g
-      (λ e. good (s, to_leader s (bodies.SlotLookup (length_of k s.log + 1))) g
-      (to_replica_fits s (leader s) (bodies.SlotLookup (length_of k s.log + 1)) g.within (next_slot s e)))
-
-  change_again_stays : (b : Bool) (s : ReplicaState) → IsGood k s → StaysInRanges k (change_again b s)
-  change_again_stays true s g = still_stays s g
-  change_again_stays false s g =
-      good (s, change_told s) g
-      (to_replica_fits s (leader s) (bodies.ViewChange s.last_normal s.next s.log) g.within (own_change_fits s g.within).rest)
-
-  resend_by_stays : (status : Phase) (b : Bool) (s : ReplicaState) → IsGood k s → StaysInRanges k (resend_by k status b s)
-  resend_by_stays Change b s g =
-      then_stays (s, to_all s bodies.ViewChangeReq) (change_again b)
-      (good (s, to_all s bodies.ViewChangeReq) g (to_all_fits s bodies.ViewChangeReq g.within tt)) (change_again_stays b s g)
-  resend_by_stays Normal true s g = gap_again_stays s.gap s g g.within.gap
-  resend_by_stays Normal false s g = lookup_again_stays (front_of s.receiver) s g
-
-  resend_stays : (s : ReplicaState) → IsGood k s → StaysInRanges k (resend k s)
-  unfolding resend
-  resend_stays s g = resend_by_stays s.status (leads s) s g
 
   sync_if_moves : (b : Bool) (s : ReplicaState) → IsGood k s → MovesPoint (sync_if k b s)
   sync_if_moves true s g =
@@ -809,20 +585,63 @@ module _ {S : Type 0} (m : Meaning S) (k : Keeping) (bounds : Bounds m k) where
   unfolding rows.sync
   sync_row_stays s g = and_raise (sync k s) (sync_moves s g)
 
-  ticked_stays : (s : ReplicaState) (tick : Tick) → IsGood k s → StaysInRanges k (ticked m k tick s)
-  ticked_stays s ticks.Suspect g = suspect_stays s g
-  ticked_stays s ticks.Watch g = watch_stays (is_normal s.status && leads s) s.heard s g
-  ticked_stays s ticks.Resend g = resend_stays s g
-  ticked_stays s ticks.Sync g = sync_row_stays s g
-  ticked_stays s _ g = still_stays s g
-
   -- ---- all that arrives
+
+  kept : (e : Effect) → StaysInRanges k e → Kept (IsGood k) (SendingIsIn k) e
+  kept e h = record { state = after e h; sends = h.sends }
+
+  move_stays : EachMove m k (IsGood k) StampedFits (λ p. PeerIsIn k p) (SendingIsIn k) (λ s e. StaysInRanges k e)
+  move_stays = record {
+    ends = λ s e g h. good e h.state h.sends;
+    sync_commit = λ s p n g fits. commit_row_stays n s g;
+    sync_reply = λ s p n g fits. sync_reply_stays p.sender n s g fits.body;
+    sync = sync_row_stays;
+    drain = λ s g. kept (drain m k s) (drain_stays s g);
+    queue = λ s p g fits. after (queue s p) (queue_stays s p g fits);
+    session = λ s p g fits.
+        let t : ReplicaState = begin_session s p in
+        kept (enter t (session_view s p)) (enter_stays t (session_view s p) (begin_good s p g fits) (session_fits s p g.within fits));
+    join = λ s p g fits.
+        let v : View = join_of s.view p.view in
+        kept (enter s v) (enter_stays s v g (join_fits s.view p.view g.within.view fits.view));
+    next = λ s g e.
+        let v : View = rows.next_leader s.view in
+        let less = below s.view.leader rows.last_leader e in
+        kept (enter s v) (enter_stays s v g (record { leader = omega (arith, less); session = g.within.view.session }));
+    opens = λ s o g is many.
+        let all = subst (λ (c : Option (Gathering peer.Change)). IfSome c (λ x. AllByRecursion (ChangeIsIn k) x.changes)) is g.within.changes in
+        kept (open_view m k o s) (open_view_stays s o g all (below o.f (length o.changes) many));
+    gather = λ s p u x l o g fits is.
+        let all = subst (λ (c : Option (Gathering peer.Change)). IfSome c (λ x. AllByRecursion (ChangeIsIn k) x.changes)) is g.within.changes in
+        let c : peer.Change = change_in p u x l in
+        after (keep_change s o c) (keep_stays s o c g all (record { sender = fits.sender; rest = fits.body }));
+    start_again = λ s p g fits. (resend_start_stays s p.sender g).sends;
+    adopt = λ s p x l g fits. kept (adopt m k s p.view x l) (adopt_stays s p.view x l g fits.view fits.body.number fits.body.told);
+    write_gap = λ s p n g fits. kept (write_gap k (hear s) n) (write_gap_stays (hear s) n (hears s g) fits.body);
+    add_gap = λ s g may. kept (add_gap k (hear s)) (add_gap_stays (hear s) (hears s g) may);
+    fill = λ s p n r g fits may. kept (fill m k (hear s) r) (fill_stays (hear s) r (hears s g) fits.body.request may);
+    overlay = λ s p l g fits e. kept (overlay m k (hear s) l) (overlay_stays (hear s) l (hears s g) fits.body (at_most _ _ e));
+    synced = λ s p g fits.
+        to_replica_fits s p.sender (bodies.SyncPrepare (first k s.log s.sync.sync_point)) g.within
+        (front_told s s.sync.sync_point g.within (omega arith));
+    found_again = λ s p n r g fits is.
+        let asked = answer_fits s n g.within in
+        to_replica_fits s p.sender (bodies.Found n r) g.within (record { place = fits.body; request = asked.found r is });
+    gap_told = λ s p n g fits. to_replica_fits s p.sender (bodies.GapCommit n) g.within fits.body;
+    open_gap = λ s n g is more.
+        let asked = answer_fits s n g.within in
+        kept (open_gap k s) (open_gap_stays s g (room_test s (asked.room is) (below s.next NUMBER_END more)));
+    vote = λ s o q g is. after (count_gap_vote s o q) (gap_vote_stays s o q g (slot_fits s o g is));
+    unheard = λ s g. record { within = with_heard k s false g.within; sound = g.sound };
+    request_again = λ s g. to_all_fits s bodies.ViewChangeReq g.within tt;
+    change_again = λ s g.
+        to_replica_fits s (leader s) (bodies.ViewChange s.last_normal s.next s.log) g.within (own_change_fits s g.within).rest;
+    gap_again = λ s o g is. to_all_fits s (bodies.GapCommit o.slot) g.within (slot_fits s o g is);
+    lookup_again = λ s g room. to_replica_fits s (leader s) (bodies.SlotLookup (length_of k s.log + 1)) g.within (next_slot s room);
+  }
 
   pub arrive_stays : (s : ReplicaState) (a : Arrival) → IsIn k s → IsSound s.receiver → ArrivalIsIn k a
       → StaysInRanges k (arrive m k s a)
-  unfolding arrive
-  arrive_stays s (Packet p) w sound fits = stamped_stays s p (record { within = w; sound = sound }) fits
-  arrive_stays s (Told p) w sound fits =
-      when_stays (loads_in m p.body) (on_message m k p) s (record { within = w; sound = sound })
-      (λ _. on_message_stays s p (record { within = w; sound = sound }) fits)
-  arrive_stays s (Ticked tick) w sound fits = ticked_stays s tick (record { within = w; sound = sound })
+  arrive_stays s a w sound fits =
+      arrive_row m k _ _ _ _ (each_row m k _ _ _ _ _ move_stays) s a (record { within = w; sound = sound })
+      (λ p e. subst (ArrivalIsIn k) e fits) (λ p e is. subst (ArrivalIsIn k) e fits)
