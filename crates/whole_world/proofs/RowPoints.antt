@@ -7,7 +7,7 @@ use Rattle.std.specs.List.{AllByRecursion}
 use Rattle.std.proofs.lemmas.Bool.{leb-true, ltb-false}
 use Rattle.std.proofs.lemmas.List.{take-append-le}
 use Rattle.std.proofs.lemmas.Option.{same_Some}
-use Rattle.nop_types.specs.declared.limits.TheConstants.{MAX_SLOTS, NUMBER_END}
+use Rattle.nop_types.specs.declared.limits.TheConstants.{MAX_SLOTS}
 use Rattle.nop_types.specs.CheckpointedLogs.{slot_result}
 use Rattle.nop_types.specs.Lists.{Has}
 use Rattle.nop_types.specs.Logs as logs
@@ -15,15 +15,9 @@ use Rattle.nop_types.specs.Logs.{Log, Whole, unsynced, above, between, whole, wi
 use Rattle.nop_types.specs.Meaning.{Meaning}
 use Rattle.nop_types.specs.PlainChanges.{plain}
 use Rattle.nop_types.specs.Views.{is_view, join_of}
-use Rattle.nop_types.specs.declared.datagram.Stamped.{Stamped}
-use Rattle.nop_types.specs.declared.input.Tick.{Tick}
-use Rattle.nop_types.specs.declared.input.Tick.TheVariants as ticks
 use Rattle.nop_types.specs.declared.peer.Body.{Body}
 use Rattle.nop_types.specs.declared.peer.Body.TheVariants as bodies
 use Rattle.nop_types.specs.declared.peer.Change.{Change}
-use Rattle.nop_types.specs.declared.peer.Peer.{Peer}
-use Rattle.nop_types.specs.declared.replica_state.Phase.{Phase}
-use Rattle.nop_types.specs.declared.replica_state.Phase.TheVariants as phases
 use Rattle.nop_types.specs.declared.replica_state.Vote.{Vote}
 use Rattle.nop_types.specs.declared.replica_state.Vote.TheVariants.{Settled, Waiting}
 use Rattle.nop_types.specs.declared.request.Entry.{Entry}
@@ -31,7 +25,6 @@ use Rattle.nop_types.specs.declared.request.Entry.TheVariants.{NoOp, Req}
 use Rattle.nop_types.specs.declared.request.Request.{Request}
 use Rattle.nop_types.specs.declared.view.View.{View}
 use Rattle.lemmas.proofs.Members.{Has-one, Has-push_cases, Has-from_filter}
-use Rattle.gap_agree.specs.Agreement.{Agreement}
 use Rattle.gap_agree.specs.Votes.{with_vote}
 use Rattle.log_merge.specs.Merging.{kept_told, best, merged, merged_from}
 use Rattle.log_merge.specs.Starting.{greatest, start_of}
@@ -39,8 +32,6 @@ use Rattle.log_merge.proofs.Best.{best_is_best}
 use Rattle.oum_receiver.specs.Front.{Front, Nothing, Message, Dropped}
 use Rattle.oum_receiver.specs.Receiving.{front_of}
 use Rattle.replica_log.proofs.Adopted.{adopted_point, overlaid_point}
-use Rattle.slot_lookup.specs.Answer.{Answer, Below, Found, GapAgain, Begin, answer_of}
-use Rattle.slot_lookup.specs.Answer as answers
 use Rattle.sync_points.specs.Synchronisation.{Round, Synchronisation, begun, with_round, with_vote_for, round_vote, closed, counted_in}
 use Rattle.sync_points.specs.Synchronisation.{vote_for, committed}
 use Rattle.view_change.specs.Gathering as gathering
@@ -48,20 +39,20 @@ use Rattle.view_change.specs.Gathering.{Gathering, counted, has_sender, teller}
 use Rattle.replica_state.specs.declared.sending.Sending.{Sending}
 use Rattle.replica_state.specs.declared.sending.Sending.TheVariants.{ToClient, ToReplicas, Trims}
 use Rattle.replica_state.specs.declared.state.ReplicaState.{ReplicaState}
-use Rattle.replica_state.specs.State.{others, leads, is_normal, waits, drains, has_room, has_risen, may_append, may_adopt}
-use Rattle.replica_state.specs.State.{is_other, is_from_leader, is_to_leader}
+use Rattle.replica_state.specs.State.{others, leads, is_normal, waits, drains, has_risen}
 use Rattle.replica_state.specs.Sends.{Effect, still, then_do, when, to_leader, to_all, to_all_if}
 use Rattle.replica_state.specs.Replies.{leader_reply, reply_if, reply_to, reply_for, replies_to, replies_above}
-use Rattle.replica_state.specs.Moves.{hear, queue, begin_session, session_view, logged, take_front, appended, fill, ask_if, gap_opened}
-use Rattle.replica_state.specs.Moves.{open_gap, gap_written, write_gap, add_gap, count_gap_vote, drain_drop, drain_at, drain_by, drain}
+use Rattle.replica_state.specs.Moves.{hear, queue, begin_session, session_view, logged, take_front, appended, ask_if, gap_opened}
+use Rattle.replica_state.specs.Moves.{open_gap, gap_written, add_gap, count_gap_vote, drain_drop, drain_at, drain_by, drain}
 use Rattle.replica_state.specs.Moves.{entered, own_change, change_told, enter_as, enter, adopted, adopt, open_with, open_view}
-use Rattle.replica_state.specs.Moves.{open_if_enough, keep_change, overlaid, overlay, obey, sync_commit, commit_if, risen, raise}
+use Rattle.replica_state.specs.Moves.{overlaid, overlay, obey, sync_commit, commit_if, risen, raise}
 use Rattle.replica_state.specs.Moves.{count_sync_vote}
-use Rattle.replica_state.specs.Repeating.{gap_again, lookup_again, change_again, resend_by, resend, sync_if, sync}
+use Rattle.replica_state.specs.Repeating.{sync_if, sync}
 use Rattle.replica_rows.specs.Rows as rows
-use Rattle.replica_rows.specs.Messages.{Arrival, Packet, Told, Ticked, from_leader, from_follower, by_role, in_view, on_body, on_message}
-use Rattle.replica_rows.specs.Messages.{ticked, loads_in, arrive}
+use Rattle.replica_rows.specs.Messages.{Arrival, arrive}
 use Rattle.replica_rows.specs.Telling.{told_in, told_by}
+use Rattle.replica_rows.proofs.EachRow.{change_in, arrive_row}
+use Rattle.replica_rows.proofs.EachMove.{Kept, all_behind, then_kept, EachMove, each_row}
 use Rattle.trimmed_rows.specs.Premises.{PointsWithin}
 
 -- ---- a sync point that rises stays within the log
@@ -121,6 +112,9 @@ module _ (a : ℕ) where
     pub state : IsLow e.0
     pub sends : AllByRecursion TellsLow e.1
 
+  abbrev KeptLow : Effect → Type 0
+  KeptLow e = Kept IsLow TellsLow e
+
   zero_low : 0 ≤ a
   zero_low = omega arith
 
@@ -130,21 +124,8 @@ module _ (a : ℕ) where
   some_low : (g : Gathering Change) → ((c : Change) → Has g.changes c → c.log.sync_point ≤ a) → LowChanges (Some g)
   some_low g h x c e i = h c (subst (λ (y : Gathering Change). Has y.changes c) (sym (same_Some g x e)) i)
 
-  all_behind : (xs ys : List Sending) → AllByRecursion TellsLow xs → AllByRecursion TellsLow ys → AllByRecursion TellsLow (xs ++ ys)
-  all_behind [] ys f g = g
-  all_behind (x ∷ xs) ys f g = (f.0, all_behind xs ys f.1 g)
-
-  still_low : (s : ReplicaState) → IsLow s → StaysLow (still s)
-  still_low s h = record { state = h; sends = tt }
-
-  then_low : (e : Effect) (f : ReplicaState → Effect) → StaysLow e → (IsLow e.0 → StaysLow (f e.0)) → StaysLow (then_do e f)
-  then_low e f h g =
-      let n = g h.state in
-      record { state = n.state; sends = all_behind e.1 (f e.0).1 h.sends n.sends }
-
-  when_low : (b : Bool) (f : ReplicaState → Effect) (s : ReplicaState) → IsLow s → StaysLow (f s) → StaysLow (when b f s)
-  when_low true f s low h = h
-  when_low false f s low h = still_low s low
+  both_low : (xs ys : List Sending) → AllByRecursion TellsLow xs → AllByRecursion TellsLow ys → AllByRecursion TellsLow (xs ++ ys)
+  both_low xs ys f g = all_behind IsLow TellsLow xs ys f g
 
   -- ---- messages
 
@@ -155,8 +136,16 @@ module _ (a : ℕ) where
   all_low : (s : ReplicaState) (body : Body) → told_in body ≤ a → AllByRecursion TellsLow (to_all s body)
   all_low s body h = all_if_low (others s == 0) s body h
 
+  changed_low : (s t : ReplicaState) → IsLow s → t.sync.sync_point ≡ s.sync.sync_point → t.log.sync_point ≡ s.log.sync_point
+      → t.changes ≡ s.changes → IsLow t
+  changed_low s t low p l c = record {
+    point = let x = low.point in omega (arith, p, x);
+    told = let x = low.told in omega (arith, l, x);
+    gathered = subst LowChanges (sym c) low.gathered;
+  }
+
   heard_low : (s : ReplicaState) → IsLow s → IsLow (hear s)
-  heard_low s low = record { point = low.point; told = low.told; gathered = low.gathered }
+  heard_low s low = changed_low s (hear s) low refl refl refl
 
   -- ---- entries are appended, and no log is told
 
@@ -172,20 +161,8 @@ module _ (a : ℕ) where
   record AlwaysGrows (f : ReplicaState → Effect) : Type 0 where
     at : (s : ReplicaState) → Grows s (f s)
 
-  grown_low : (s : ReplicaState) (e : Effect) → IsLow s → Grows s e → StaysLow e
-  grown_low s e low g =
-      let p = g.point in
-      let t = g.told in
-      let own = low.point in
-      let log = low.told in
-      record {
-        state = record {
-          point = omega (arith, p, own);
-          told = omega (arith, t, log);
-          gathered = subst LowChanges (sym g.changes) low.gathered;
-        };
-        sends = g.sends;
-      }
+  grown_low : (s : ReplicaState) (e : Effect) → IsLow s → Grows s e → KeptLow e
+  grown_low s e low g = record { state = changed_low s e.0 low g.point g.told g.changes; sends = g.sends }
 
   grows_none : (s t : ReplicaState) (sends : List Sending) → t.sync.sync_point ≡ s.sync.sync_point → t.log ≡ s.log → t.changes ≡ s.changes
       → AllByRecursion TellsLow sends → Grows s (t, sends)
@@ -217,7 +194,7 @@ module _ (a : ℕ) where
     changes = g.changes ∙ h.changes;
     front = λ n low. g.front n (let w = h.longer in omega (arith, low, w)) ∙ h.front n low;
     longer = let x = h.longer in let y = g.longer in omega (arith, x, y);
-    sends = all_behind e.1 (f e.0).1 h.sends g.sends;
+    sends = both_low e.1 (f e.0).1 h.sends g.sends;
   }
 
   open_gap_grows : (s : ReplicaState) → Grows s (open_gap Whole s)
@@ -279,7 +256,7 @@ module _ (a : ℕ) where
     replies_low : (s : ReplicaState) (slot : ℕ) (l : List Entry) → AllByRecursion TellsLow (replies_to m Whole s slot l)
     replies_low s slot [] = tt
     replies_low s slot (e ∷ l) =
-        all_behind (reply_for m Whole s slot e) (replies_to m Whole s (slot + 1) l) (entry_low s slot e) (replies_low s (slot + 1) l)
+        both_low (reply_for m Whole s slot e) (replies_to m Whole s (slot + 1) l) (entry_low s slot e) (replies_low s (slot + 1) l)
 
     above_low : (s : ReplicaState) (slot : ℕ) → AllByRecursion TellsLow (replies_above m Whole s slot)
     above_low s slot = replies_low s (slot + 1) (above Whole s.log slot)
@@ -306,8 +283,8 @@ module _ (a : ℕ) where
     unfolding drain
     drain_grows s = (drain_by_grows (MAX_SLOTS - unsynced Whole s.log)).at s
 
-    and_drain : (e : Effect) → StaysLow e → StaysLow (then_do e (drain m Whole))
-    and_drain e h = then_low e (drain m Whole) h (λ low. grown_low e.0 (drain m Whole e.0) low (drain_grows e.0))
+    and_drain : (e : Effect) → KeptLow e → KeptLow (then_do e (drain m Whole))
+    and_drain e h = then_kept IsLow TellsLow e (drain m Whole) h (λ low. grown_low e.0 (drain m Whole e.0) low (drain_grows e.0))
 
     -- ---- views
 
@@ -317,17 +294,17 @@ module _ (a : ℕ) where
         let t = low.told in
         omega (arith, e, t))
 
-    enter_as_low : (b : Bool) (s : ReplicaState) → IsLow s → StaysLow (enter_as b s)
+    enter_as_low : (b : Bool) (s : ReplicaState) → IsLow s → KeptLow (enter_as b s)
     enter_as_low true s low = record {
       state = record { point = low.point; told = low.told; gathered = own_low s low };
       sends = all_low s bodies.ViewChangeReq zero_low;
     }
     enter_as_low false s low = record {
       state = low;
-      sends = all_behind (to_all s bodies.ViewChangeReq) (change_told s) (all_low s bodies.ViewChangeReq zero_low) (low.told, tt);
+      sends = both_low (to_all s bodies.ViewChangeReq) (change_told s) (all_low s bodies.ViewChangeReq zero_low) (low.told, tt);
     }
 
-    enter_low : (s : ReplicaState) (v : View) → IsLow s → StaysLow (enter s v)
+    enter_low : (s : ReplicaState) (v : View) → IsLow s → KeptLow (enter s v)
     unfolding enter
     enter_low s v low =
         enter_as_low (leads (entered s v)) (entered s v) (record { point = low.point; told = low.told; gathered = none_low })
@@ -343,16 +320,16 @@ module _ (a : ℕ) where
           gathered = none_low;
         }
 
-    adopt_low : (s : ReplicaState) (v : View) (x : ℕ) (l : Log) → l.sync_point ≤ a → IsLow s → StaysLow (adopt m Whole s v x l)
+    adopt_low : (s : ReplicaState) (v : View) (x : ℕ) (l : Log) → l.sync_point ≤ a → IsLow s → KeptLow (adopt m Whole s v x l)
     unfolding adopt
     adopt_low s v x l le low =
         let t : ReplicaState = adopted Whole s v x l in
         and_drain (t, replies_above m Whole t t.sync.sync_point)
         (record { state = adopted_low s v x l le low; sends = above_low t t.sync.sync_point })
 
-    open_with_low : (s : ReplicaState) (x : ℕ) (l : Log) → l.sync_point ≤ a → IsLow s → StaysLow (open_with m Whole s x l)
+    open_with_low : (s : ReplicaState) (x : ℕ) (l : Log) → l.sync_point ≤ a → IsLow s → KeptLow (open_with m Whole s x l)
     open_with_low s x l le low =
-        then_low (s, to_all s (bodies.StartView x l)) (λ t. adopt m Whole t t.view x l)
+        then_kept IsLow TellsLow (s, to_all s (bodies.StartView x l)) (λ t. adopt m Whole t t.view x l)
         (record { state = low; sends = all_low s (bodies.StartView x l) le }) (λ h. adopt_low s s.view x l le h)
 
     -- what a view starts with has the sync point of a change that was gathered
@@ -365,40 +342,7 @@ module _ (a : ℕ) where
             let kept = (best_is_best (kept_told cs) g e).member in
             h g (Has-from_filter (λ c. is_view c.last_normal (greatest (map plain cs))) g cs kept).0
 
-    open_if_low : (o : Option (Gathering Change)) (s : ReplicaState) → LowChanges o → IsLow s → StaysLow (open_if_enough m Whole o s)
-    open_if_low None s h low = still_low s low
-    open_if_low (Some g) s h low =
-        when_low (nat_lt g.f (length g.changes)) (open_view m Whole g) s low
-        (open_with_low s (start_of g.view (map plain g.changes)).next (merged Whole (kept_told g.changes))
-        (merged_low g.changes (λ c i. h g c refl i)) low)
-
-    enter_view_low : (v : View) (s : ReplicaState) → IsLow s → StaysLow (rows.enter_view m Whole v s)
-    unfolding rows.enter_view
-    enter_view_low v s low =
-        then_low (enter s v) (λ t. open_if_enough m Whole t.changes t) (enter_low s v low)
-        (λ h. open_if_low (enter s v).0.changes (enter s v).0 h.gathered h)
-
-    enter_and_drain_low : (v : View) (s : ReplicaState) → IsLow s → StaysLow (rows.enter_and_drain m Whole v s)
-    enter_and_drain_low v s low = and_drain (rows.enter_view m Whole v s) (enter_view_low v s low)
-
-    -- ---- rows of packets and view changes
-
-    stamped_if_low : (b : Bool) (p : Stamped) (s : ReplicaState) → IsLow s → StaysLow (rows.stamped_if m Whole b p s)
-    stamped_if_low true p s low =
-        enter_and_drain_low (session_view s p) (begin_session s p)
-        (record { point = low.point; told = low.told; gathered = low.gathered })
-    stamped_if_low false p s low =
-        and_drain (queue s p)
-        (record { state = record { point = low.point; told = low.told; gathered = low.gathered }; sends = tt })
-
-    stamped_low : (p : Stamped) (s : ReplicaState) → IsLow s → StaysLow (rows.stamped m Whole p s)
-    unfolding rows.stamped
-    stamped_low p s low = stamped_if_low (nat_lt s.view.session p.session) p s low
-
-    request_low : (v : View) (s : ReplicaState) → IsLow s → StaysLow (rows.view_change_request m Whole v s)
-    request_low v s low =
-        when_low (not (is_view (join_of s.view v) s.view)) (rows.enter_and_drain m Whole (join_of s.view v)) s low
-        (enter_and_drain_low (join_of s.view v) s low)
+    -- ---- changes
 
     counted_low : (g : Gathering Change) (c : Change) → LowChanges (Some g) → c.log.sync_point ≤ a
         → LowChanges (Some (counted teller g c))
@@ -411,35 +355,7 @@ module _ (a : ℕ) where
           | inr new ↦ (let e : c.log.sync_point ≡ x.log.sync_point = ap (λ (y : Change). y.log.sync_point) new in omega (arith, e, le))
         ]
 
-    gather_low : (o : Option (Gathering Change)) (c : Change) (s : ReplicaState) → LowChanges o → c.log.sync_point ≤ a → IsLow s
-        → StaysLow (rows.gather m Whole o c s)
-    gather_low None c s h le low = still_low s low
-    gather_low (Some g) c s h le low =
-        let more = counted_low g c h le in
-        then_low (keep_change s g c) (λ t. open_if_enough m Whole t.changes t)
-        (record { state = record { point = low.point; told = low.told; gathered = more }; sends = tt })
-        (λ k. open_if_low (Some (counted teller g c)) (keep_change s g c).0 more k)
-
-    gather_by_low : (status : Phase) (c : Change) (s : ReplicaState) → c.log.sync_point ≤ a → IsLow s
-        → StaysLow (rows.gather_by m Whole status c s)
-    gather_by_low phases.Change c s le low = gather_low s.changes c s low.gathered le low
-    gather_by_low phases.Normal c s le low = record { state = low; sends = (low.told, tt) }
-
-    view_change_low : (v : View) (c : Change) (s : ReplicaState) → c.log.sync_point ≤ a → IsLow s
-        → StaysLow (rows.view_change m Whole v c s)
-    unfolding rows.view_change
-    view_change_low v c s le low =
-        let t : ReplicaState = (rows.view_change_request m Whole v s).0 in
-        then_low (rows.view_change_request m Whole v s) (rows.take_change m Whole v c) (request_low v s low)
-        (λ h. when_low (is_view v t.view && leads t) (rows.gather_by m Whole t.status c) t h (gather_by_low t.status c t le h))
-
-    start_view_low : (q : ℕ) (v : View) (x : ℕ) (l : Log) (s : ReplicaState) → l.sync_point ≤ a → IsLow s
-        → StaysLow (rows.start_view m Whole q v x l s)
-    unfolding rows.start_view
-    start_view_low q v x l s le low =
-        when_low (may_adopt Whole s q v l) (λ t. adopt m Whole t v x l) s low (adopt_low s v x l le low)
-
-    -- ---- rows of the leader's messages
+    -- ---- slots and sync points
 
     written_low : (n : ℕ) (s : ReplicaState) → IsLow s → IsLow (gap_written Whole s n)
     written_low n s low = record { point = low.point; told = by (nat_le n s.sync.sync_point); gathered = low.gathered }
@@ -448,29 +364,7 @@ module _ (a : ℕ) where
         by true = low.told
         by false = low.told
 
-    gap_commit_if_low : (b next : Bool) (n : ℕ) (s : ReplicaState) → IsLow s → StaysLow (rows.gap_commit_if m Whole b next n s)
-    gap_commit_if_low true next n s low =
-        and_drain (write_gap Whole (hear s) n) (record { state = written_low n (hear s) (heard_low s low); sends = (zero_low, tt) })
-    gap_commit_if_low false true n s low =
-        and_drain (add_gap Whole (hear s))
-        (record { state = record { point = low.point; told = low.told; gathered = low.gathered }; sends = (zero_low, tt) })
-    gap_commit_if_low false false n s low = still_low s low
-
-    gap_commit_low : (n : ℕ) (s : ReplicaState) → IsLow s → StaysLow (rows.gap_commit m Whole n s)
-    unfolding rows.gap_commit
-    gap_commit_low n s low =
-        gap_commit_if_low (nat_le n (length s.log.entries)) ((n == length s.log.entries + 1) && may_append Whole s) n s low
-
-    found_low : (n : ℕ) (r : Request) (s : ReplicaState) → IsLow s → StaysLow (rows.found m Whole n r s)
-    unfolding rows.found
-    found_low n r s low =
-        when_low ((n == length s.log.entries + 1) && may_append Whole s) (λ t. then_do (fill m Whole (hear t) r) (drain m Whole)) s low
-        (and_drain (fill m Whole (hear s) r) (record {
-          state = record { point = low.point; told = low.told; gathered = low.gathered };
-          sends = reply_low (appended (hear s) (Req r)) (length s.log.entries + 1) r;
-        }))
-
-    overlay_low : (s : ReplicaState) (l : Log) → l.sync_point ≤ a → IsLow s → StaysLow (overlay m Whole s l)
+    overlay_low : (s : ReplicaState) (l : Log) → l.sync_point ≤ a → IsLow s → KeptLow (overlay m Whole s l)
     unfolding overlay
     overlay_low s l le low =
         let t : ReplicaState = overlaid Whole s l in
@@ -484,45 +378,9 @@ module _ (a : ℕ) where
             told = subst (λ (n : ℕ). n ≤ a) (sym (overlaid_point l s.log)) most;
             gathered = low.gathered;
           };
-          sends = all_behind (replies_above m Whole t from) (to_leader s (bodies.SyncRep (length l.entries))) (above_low t from)
+          sends = both_low (replies_above m Whole t from) (to_leader s (bodies.SyncRep (length l.entries))) (above_low t from)
               (zero_low, tt);
         }
-
-    prepare_low : (l : Log) (s : ReplicaState) → l.sync_point ≤ a → IsLow s → StaysLow (rows.sync_prepare m Whole l s)
-    unfolding rows.sync_prepare
-    prepare_low l s le low =
-        when_low (nat_le (s.next + (length l.entries - length s.log.entries)) NUMBER_END)
-        (λ t. then_do (overlay m Whole (hear t) l) (drain m Whole)) s low
-        (and_drain (overlay m Whole (hear s) l) (overlay_low (hear s) l le (heard_low s low)))
-
-    -- ---- rows of followers' messages
-
-    begin_gap_low : (s : ReplicaState) → IsLow s → StaysLow (rows.begin_gap m Whole s)
-    begin_gap_low s low =
-        when_low (nat_lt s.next NUMBER_END) (λ t. then_do (open_gap Whole t) (drain m Whole)) s low
-        (and_drain (open_gap Whole s) (grown_low s (open_gap Whole s) low (open_gap_grows s)))
-
-    lookup_by_low : (r : Answer) (q n : ℕ) (s : ReplicaState) → IsLow s → StaysLow (rows.slot_lookup_by m Whole r q n s)
-    lookup_by_low Below q n s low = record { state = low; sends = (low.told, tt) }
-    lookup_by_low (Found r) q n s low = record { state = low; sends = (zero_low, tt) }
-    lookup_by_low GapAgain q n s low = record { state = low; sends = (zero_low, tt) }
-    lookup_by_low Begin q n s low = begin_gap_low s low
-    lookup_by_low answers.Nothing q n s low = still_low s low
-
-    lookup_low : (q n : ℕ) (s : ReplicaState) → IsLow s → StaysLow (rows.slot_lookup m Whole q n s)
-    unfolding rows.slot_lookup
-    lookup_low q n s low = lookup_by_low (answer_of Whole s.log (waits s.gap) n) q n s low
-
-    gap_reply_at_low : (o : Option Agreement) (q n : ℕ) (s : ReplicaState) → IsLow s → StaysLow (rows.gap_reply_at m Whole o q n s)
-    gap_reply_at_low None q n s low = still_low s low
-    gap_reply_at_low (Some g) q n s low =
-        when_low (g.slot == n) (λ t. then_do (count_gap_vote t g q) (drain m Whole)) s low
-        (and_drain (count_gap_vote s g q)
-        (record { state = record { point = low.point; told = low.told; gathered = low.gathered }; sends = tt }))
-
-    gap_reply_low : (q n : ℕ) (s : ReplicaState) → IsLow s → StaysLow (rows.gap_reply m Whole q n s)
-    unfolding rows.gap_reply
-    gap_reply_low q n s low = gap_reply_at_low s.gap q n s low
 
     -- ---- rows that let the sync point rise
 
@@ -561,7 +419,7 @@ module _ (a : ℕ) where
                 told = omega (arith, point, log);
                 gathered = subst LowChanges (sym h.changes) low.gathered;
               };
-              sends = all_behind e.1 [] h.sends tt;
+              sends = both_low e.1 [] h.sends tt;
             })
 
     commit_moves : (n : ℕ) (s : ReplicaState) → PointsWithin s → Moves s (sync_commit n s)
@@ -620,102 +478,55 @@ module _ (a : ℕ) where
     unfolding rows.sync
     sync_leaves s w low = rises s (sync Whole s) low (sync_moves s w low)
 
-    -- ---- messages
-
-    from_leader_leaves : (body : Body) (s : ReplicaState) → told_in body ≤ a → PointsWithin s → IsLow s → Leaves s (from_leader m Whole body s)
-    from_leader_leaves (bodies.GapCommit n) s le w low = inl (gap_commit_low n s low)
-    from_leader_leaves (bodies.Found n r) s le w low = inl (found_low n r s low)
-    from_leader_leaves (bodies.SyncPrepare l) s le w low = inl (prepare_low l s le low)
-    from_leader_leaves (bodies.SyncCommit n) s le w low = commit_leaves n s w low
-    from_leader_leaves _ s le w low = inl (still_low s low)
-
-    from_follower_leaves : (q : ℕ) (body : Body) (s : ReplicaState) → PointsWithin s → IsLow s → Leaves s (from_follower m Whole q body s)
-    from_follower_leaves q (bodies.SlotLookup n) s w low = inl (lookup_low q n s low)
-    from_follower_leaves q (bodies.GapRep n) s w low = inl (gap_reply_low q n s low)
-    from_follower_leaves q (bodies.SyncRep n) s w low = vote_leaves q n s w low
-    from_follower_leaves q _ s w low = inl (still_low s low)
-
-    by_role_leaves : (b to_leader : Bool) (q : ℕ) (body : Body) (s : ReplicaState) → told_in body ≤ a → PointsWithin s → IsLow s
-        → Leaves s (by_role m Whole b to_leader q body s)
-    by_role_leaves true to_leader q body s le w low = from_leader_leaves body s le w low
-    by_role_leaves false true q body s le w low = from_follower_leaves q body s w low
-    by_role_leaves false false q body s le w low = inl (still_low s low)
-
-    in_view_leaves : (q : ℕ) (v : View) (body : Body) (s : ReplicaState) → told_in body ≤ a → PointsWithin s → IsLow s
-        → Leaves s (in_view m Whole q v body s)
-    in_view_leaves q v body s le w low = by_role_leaves (is_from_leader s v q) (is_to_leader s v) q body s le w low
-
-    on_body_leaves : (p : Peer) (body : Body) (s : ReplicaState) → told_in body ≤ a → PointsWithin s → IsLow s
-        → Leaves s (on_body m Whole p body s)
-    on_body_leaves p bodies.ViewChangeReq s le w low = inl (request_low p.view s low)
-    on_body_leaves p (bodies.ViewChange u x l) s le w low =
-        inl (view_change_low p.view (record { sender = p.sender; last_normal = u; next = x; log = l }) s le low)
-    on_body_leaves p (bodies.StartView x l) s le w low = inl (start_view_low p.sender p.view x l s le low)
-    on_body_leaves p body s le w low = in_view_leaves p.sender p.view body s le w low
-
-    when_leaves : (b : Bool) (f : ReplicaState → Effect) (s : ReplicaState) → IsLow s → Leaves s (f s) → Leaves s (when b f s)
-    when_leaves true f s low h = h
-    when_leaves false f s low h = inl (still_low s low)
-
-    on_message_leaves : (p : Peer) (s : ReplicaState) → told_in p.body ≤ a → PointsWithin s → IsLow s → Leaves s (on_message m Whole p s)
-    unfolding on_message
-    on_message_leaves p s le w low =
-        when_leaves (is_other s p.sender) (on_body m Whole p p.body) s low (on_body_leaves p p.body s le w low)
-
-    -- ---- ticks
-
-    suspect_low : (s : ReplicaState) → IsLow s → StaysLow (rows.suspect m Whole s)
-    suspect_low s low =
-        when_low (nat_lt s.view.leader rows.last_leader) (rows.enter_and_drain m Whole (rows.next_leader s.view)) s low
-        (enter_and_drain_low (rows.next_leader s.view) s low)
-
-    watch_low : (b heard : Bool) (s : ReplicaState) → IsLow s → StaysLow (rows.watch_if m Whole b heard s)
-    watch_low true heard s low = still_low s low
-    watch_low false true s low =
-        record { state = record { point = low.point; told = low.told; gathered = low.gathered }; sends = tt }
-    watch_low false false s low = suspect_low s low
-
-    gap_again_low : (o : Option Agreement) (s : ReplicaState) → IsLow s → StaysLow (gap_again o s)
-    gap_again_low None s low = still_low s low
-    gap_again_low (Some g) s low = record { state = low; sends = all_low s (bodies.GapCommit g.slot) zero_low }
-
-    lookup_again_low : (front : Front) (s : ReplicaState) → IsLow s → StaysLow (lookup_again Whole front s)
-    lookup_again_low Dropped s low =
-        when_low (has_room Whole s) (λ t. (t, to_leader t (bodies.SlotLookup (length t.log.entries + 1)))) s low
-        (record { state = low; sends = (zero_low, tt) })
-    lookup_again_low _ s low = still_low s low
-
-    change_again_low : (b : Bool) (s : ReplicaState) → IsLow s → StaysLow (change_again b s)
-    change_again_low true s low = still_low s low
-    change_again_low false s low = record { state = low; sends = (low.told, tt) }
-
-    resend_by_low : (status : Phase) (b : Bool) (s : ReplicaState) → IsLow s → StaysLow (resend_by Whole status b s)
-    resend_by_low phases.Change b s low =
-        then_low (s, to_all s bodies.ViewChangeReq) (change_again b)
-        (record { state = low; sends = all_low s bodies.ViewChangeReq zero_low }) (λ h. change_again_low b s h)
-    resend_by_low phases.Normal true s low = gap_again_low s.gap s low
-    resend_by_low phases.Normal false s low = lookup_again_low (front_of s.receiver) s low
-
-    resend_low : (s : ReplicaState) → IsLow s → StaysLow (resend Whole s)
-    unfolding resend
-    resend_low s low = resend_by_low s.status (leads s) s low
-
-    tick_leaves : (tick : Tick) (s : ReplicaState) → PointsWithin s → IsLow s → Leaves s (ticked m Whole tick s)
-    tick_leaves ticks.Suspect s w low = inl (suspect_low s low)
-    tick_leaves ticks.Watch s w low = inl (watch_low (is_normal s.status && leads s) s.heard s low)
-    tick_leaves ticks.Resend s w low = inl (resend_low s low)
-    tick_leaves ticks.Sync s w low = sync_leaves s w low
-    tick_leaves _ s w low = inl (still_low s low)
-
     -- ---- all that arrives
 
+    open_low : (s : ReplicaState) (g : Gathering Change) → s.changes ≡ Some g → IsLow s → KeptLow (open_view m Whole g s)
+    open_low s g is low =
+        open_with_low s (start_of g.view (map plain g.changes)).next (merged Whole (kept_told g.changes))
+        (merged_low g.changes (λ c i. low.gathered g c is i)) low
+
+    move_low : EachMove m Whole IsLow (λ p. ⊤) (λ p. told_in p.body ≤ a) TellsLow (λ s e. PointsWithin s → Leaves s e)
+    move_low = record {
+      ends = λ s e low h w. inl (record { state = h.state; sends = h.sends });
+      sync_commit = λ s p n low g w. commit_leaves n s w low;
+      sync_reply = λ s p n low g w. vote_leaves p.sender n s w low;
+      sync = λ s low w. sync_leaves s w low;
+      drain = λ s low. grown_low s (drain m Whole s) low (drain_grows s);
+      queue = λ s p low f. changed_low s (queue s p).0 low refl refl refl;
+      session = λ s p low f.
+          let t : ReplicaState = begin_session s p in enter_low t (session_view s p) (changed_low s t low refl refl refl);
+      join = λ s p low g. enter_low s (join_of s.view p.view) low;
+      next = λ s low e. enter_low s (rows.next_leader s.view) low;
+      opens = λ s g low is many. open_low s g is low;
+      gather = λ s p u x l g low le is.
+          let more = counted_low g (change_in p u x l) (subst LowChanges is low.gathered) le in
+          record { point = low.point; told = low.told; gathered = more };
+      start_again = λ s p low g. (low.told, tt);
+      adopt = λ s p x l low le. adopt_low s p.view x l le low;
+      write_gap = λ s p n low g. record { state = written_low n (hear s) (heard_low s low); sends = (zero_low, tt) };
+      add_gap = λ s low may. record { state = changed_low s (add_gap Whole (hear s)).0 low refl refl refl; sends = (zero_low, tt) };
+      fill = λ s p n r low g may. record {
+        state = changed_low s (appended (hear s) (Req r)) low refl refl refl;
+        sends = reply_low (appended (hear s) (Req r)) (length s.log.entries + 1) r;
+      };
+      overlay = λ s p l low le high. overlay_low (hear s) l le (heard_low s low);
+      synced = λ s p low g. (low.told, tt);
+      found_again = λ s p n r low g is. (zero_low, tt);
+      gap_told = λ s p n low g. (zero_low, tt);
+      open_gap = λ s n low is high. grown_low s (open_gap Whole s) low (open_gap_grows s);
+      vote = λ s g q low is. changed_low s (count_gap_vote s g q).0 low refl refl refl;
+      unheard = λ s low. changed_low s (record s { heard = false }) low refl refl refl;
+      request_again = λ s low. all_low s bodies.ViewChangeReq zero_low;
+      change_again = λ s low. (low.told, tt);
+      gap_again = λ s g low is. all_low s (bodies.GapCommit g.slot) zero_low;
+      lookup_again = λ s low room. (zero_low, tt);
+    }
+
     pub row_leaves : (s : ReplicaState) (x : Arrival) → told_by x ≤ a → PointsWithin s → IsLow s → Leaves s (arrive m Whole s x)
-    unfolding arrive
-    row_leaves s (Packet p) le w low = inl (stamped_low p s low)
-    row_leaves s (Told p) le w low =
-        when_leaves (loads_in m p.body) (on_message m Whole p) s low (on_message_leaves p s le w low)
-    row_leaves s (Ticked tick) le w low = tick_leaves tick s w low
+    row_leaves s x le w low =
+        arrive_row m Whole _ _ _ _ (each_row m Whole _ _ _ _ _ move_low) s x low (λ p e. tt)
+        (λ p e is. subst (λ (y : Arrival). told_by y ≤ a) e le) w
 
     -- where nothing is taken
     pub rest_leaves : (s : ReplicaState) → IsLow s → Leaves s (still s)
-    rest_leaves s low = inl (still_low s low)
+    rest_leaves s low = inl (record { state = low; sends = tt })
