@@ -145,9 +145,9 @@ module _ (at : Address) (number : ℕ) (op : List ℕ) (turns : ℕ) (a b : Link
   stopped_calls es lost s = (
     lost,
     record {
-      before = calls s.front;
+      before = calls s.prefix;
       rest = calls s.rest;
-      split = ap calls s.split ∙ calls_append s.front s.rest;
+      split = ap calls s.split ∙ calls_append s.prefix s.rest;
       sends = s.sends;
     },
   )
@@ -174,9 +174,9 @@ module _ (at : Address) (number : ℕ) (op : List ℕ) (turns : ℕ) (a b : Link
   ends_failed serves.NoMemory answers values run = ends_stopped answers values run
 
 no_calls : (trace : Option (List LinkCall)) (losses : ℕ) → Sends [] (side trace 0 losses) (side trace 0 losses)
-no_calls None losses = record { tries = []; all = refl; trace = tt; lost = refl; losses = refl; told = tt }
+no_calls None losses = record { tries = []; all = refl; trace = tt; lost = refl; losses = refl; observed = tt }
 no_calls (Some cs) losses =
-    record { tries = []; all = refl; trace = ap Some (sym (append-nil cs)); lost = refl; losses = refl; told = refl }
+    record { tries = []; all = refl; trace = ap Some (sym (append-nil cs)); lost = refl; losses = refl; observed = refl }
 
 -- memory ran out before the first turn
 pub ends_before : (at : Address) (number : ℕ) (op : List ℕ) (turns : ℕ) (answers : Option (List PollAnswer)) (values : Option (List ℕ))

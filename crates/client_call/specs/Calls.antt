@@ -19,7 +19,7 @@ use Rattle.udp_node.specs.Effects.{calls, effects_by, lines}
 use Rattle.udp_node.specs.Folding.{AllOutside}
 use Rattle.udp_node.specs.NodeRun.{NodeRun, run_after}
 use Rattle.udp_node.specs.Ports.{port_of}
-use Rattle.udp_node.specs.Sends.{LinkSide, Sends, SendsFront, side}
+use Rattle.udp_node.specs.Sends.{LinkSide, Sends, SendsPrefix, side}
 use Rattle.udp_node.specs.declared.address.Address.{Address}
 use Rattle.udp_node.specs.declared.errors.ServeError.{ServeError}
 use Rattle.udp_node.specs.declared.errors.ServeError.TheVariants as serves
@@ -96,7 +96,7 @@ CallsMade cs a b = (lost : ℕ) × Sends cs a (record b { lost = lost })
 
 -- or only the first of them
 abbrev pub SomeCallsMade : List LinkCall → LinkSide → LinkSide → Type 0
-SomeCallsMade cs a b = (lost : ℕ) × SendsFront cs a (record b { lost = lost })
+SomeCallsMade cs a b = (lost : ℕ) × SendsPrefix cs a (record b { lost = lost })
 
 -- the client was done: the lines of the run are those of its request and of the acceptance with this result
 pub record Answered (at : Address) (number : ℕ) (op result : List ℕ) (r : NodeRun) (a b : LinkSide) : Type 0 where

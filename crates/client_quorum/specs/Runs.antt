@@ -129,7 +129,7 @@ HasNoSubmit (Submit op ∷ xs) = ⊥
 
 -- xs ends with these
 abbrev pub EndsWith : List (List ℕ) → List (List ℕ) → Type 0
-EndsWith xs rest = (front : List (List ℕ)) × (xs ≡ front ++ rest)
+EndsWith xs rest = (prefix : List (List ℕ)) × (xs ≡ prefix ++ rest)
 
 -- how the last request stands, after these outputs
 pub data Stands (outs : List Out) (s : ClientState) : Type 0 where

@@ -29,7 +29,7 @@ some-map : {A B : Type 0} (f : A → B) (o : Option A) → is_some (option_map f
 some-map f None = refl
 some-map f (Some x) = refl
 
--- a client for which something is kept stands in the code's map
+-- a client for which something is kept is in the code's map
 pub has-answer : (m : BTreeMap ℕ Answer) (q : ℕ) → IsSome (kept_for (table_of m) q) → IsSome (get nat_cmp m q)
 has-answer m q h = sym (some-map account_of (get nat_cmp m q)) ∙ sym (ap is_some (kept-table_of m q)) ∙ h
 

@@ -1,6 +1,6 @@
 ghost use Rattle.nop_types.specs.Ranges.{DatagramFits};
 
-use crate::rows::{bytes_of, check_text, is_told, text};
+use crate::rows::{bytes_of, check_text, is_expected, text};
 use nop_types::Datagram;
 use oum_codec::{decode, encode, read_request, read_u16, read_u32, read_u64, read_view};
 use std::alloc::Global;
@@ -95,9 +95,9 @@ fn shown(rt: &impl Abort, alloc: Global, bytes: &[u8]) -> String {
 }
 
 fn check_row(rt: &impl Abort, alloc: Global, row: &str) {
-    let (bytes, told) = row.split_once("= ").expect(rt, "a row");
+    let (bytes, expected) = row.split_once("= ").expect(rt, "a row");
     let given = shown(rt, alloc, &bytes_of(rt, alloc, bytes));
-    assert!(rt; is_told(&given, told), "{row}");
+    assert!(rt; is_expected(&given, expected), "{row}");
 }
 
 fn check_rows(rt: &impl Abort, alloc: Global, rows: &str) {
@@ -129,6 +129,6 @@ fn fields(rt: HostRuntime) {
     );
     assert!(rt; read_view(&bytes, 9) == None);
     let request = read_request(alloc, &bytes, 4).expect(&rt, "memory");
-    let told = "Some(Request { client: 2, id: 1, op: Op { bytes: [107, 48] } })";
-    check_text(&rt, &text(&rt, alloc, &request), told);
+    let expected = "Some(Request { client: 2, id: 1, op: Op { bytes: [107, 48] } })";
+    check_text(&rt, &text(&rt, alloc, &request), expected);
 }

@@ -113,9 +113,9 @@ fn start_view(rt: &impl Abort, alloc: Global, last: &str) -> Vec<u8> {
         "16 01 00000001 0000000000000001 0000000000000004 00000000 00000003 01 00000000 0000000000000001 0280 78*640 01 00000000 0000000000000002 0280 78*640 01 00000000 0000000000000003 {last}"
     );
     let bytes = bytes_of(rt, alloc, &row.expect(rt, "memory"));
-    let told = shown(rt, alloc, &bytes);
+    let expected = shown(rt, alloc, &bytes);
     assert!(rt;
-        told.starts_with(
+        expected.starts_with(
             "Peer { sender: 1, view: View { leader: 1, session: 1 }, body: StartView {"
         )
     );

@@ -1,7 +1,7 @@
 ghost use Rattle.nop_types.specs.Checkpoints.{CheckpointFits};
 ghost use Rattle.nop_types.specs.Ranges.{PeerFits};
 
-use crate::rows::{bytes_of, is_told, text};
+use crate::rows::{bytes_of, is_expected, text};
 use nop_types::{Bytes, Checkpoint, Entry, LogRef, Peer, SavedClient, View};
 use peer_codec::{EncodedPeer, LogBody, decode_peer, encode_peer, encode_with_log, read_peer};
 use std::alloc::Global;
@@ -95,12 +95,12 @@ pub fn shown(rt: &impl Abort, alloc: Global, bytes: &[u8]) -> String {
 }
 
 fn check_row(rt: &impl Abort, alloc: Global, row: &str) {
-    let (bytes, told) = row.split_once("= ").expect(rt, "a row");
+    let (bytes, expected) = row.split_once("= ").expect(rt, "a row");
     let bytes = bytes_of(rt, alloc, bytes);
     let given = shown(rt, alloc, &bytes);
-    assert!(rt; is_told(&given, told), "{row}");
+    assert!(rt; is_expected(&given, expected), "{row}");
     let read = read_peer(alloc, &bytes).expect(rt, "memory");
-    assert!(rt; read.is_some() == told.starts_with("Peer"), "{row}");
+    assert!(rt; read.is_some() == expected.starts_with("Peer"), "{row}");
 }
 
 #[test]

@@ -31,10 +31,10 @@ pub fn request(rt: &impl Abort, alloc: Global, client: u32, id: u64, op: &[u8]) 
 }
 
 /// Whether a text is the one that is told, or begins so where that ends in two dots.
-pub fn is_told(shown: &str, told: &str) -> bool {
-    match told.strip_suffix("..") {
-        Some(front) => shown.starts_with(front),
-        None => shown == told,
+pub fn is_expected(shown: &str, expected: &str) -> bool {
+    match expected.strip_suffix("..") {
+        Some(prefix) => shown.starts_with(prefix),
+        None => shown == expected,
     }
 }
 
@@ -43,6 +43,6 @@ pub fn text<T: Debug>(rt: &impl Abort, alloc: Global, value: &T) -> String {
     format!(in alloc; "{value:?}").expect(rt, "memory")
 }
 
-pub fn check_text(rt: &impl Abort, given: &str, told: &str) {
-    assert!(rt; given == told, "{given}");
+pub fn check_text(rt: &impl Abort, given: &str, expected: &str) {
+    assert!(rt; given == expected, "{given}");
 }

@@ -132,22 +132,22 @@ fn put_plain(rt: &impl Abort, written: &str, count: u32, text: &mut Vec<u8>) {
 /// The text of a row, without the letters that it gives.
 fn text_of(rt: &impl Abort, alloc: Global, row: &str) -> Vec<u8> {
     let (first, row) = row.split_once('|').expect(rt, "a first line");
-    let (front, row) = row.split_once('|').expect(rt, "a front");
+    let (prefix, row) = row.split_once('|').expect(rt, "a front");
     let (byte, count) = row.split_once('|').expect(rt, "a byte");
     let mut text = Vec::new(alloc);
     if first == "+" {
         text.extend_from_slice(FIRST).expect(rt, "memory");
     }
-    put_plain(rt, front, 1, &mut text);
+    put_plain(rt, prefix, 1, &mut text);
     let count = count.parse::<u32>().expect(rt, "a number");
     put_plain(rt, byte, count, &mut text);
     text
 }
 
 fn check_row(rt: &impl Abort, alloc: Global, row: &str, most: usize) {
-    let (row, told) = row.rsplit_once('|').expect(rt, "letters");
+    let (row, expected) = row.rsplit_once('|').expect(rt, "letters");
     let given = letters(rt, alloc, text_of(rt, alloc, row), most, 4);
-    assert!(rt; given.as_slice() == told.as_bytes(), "{row}");
+    assert!(rt; given.as_slice() == expected.as_bytes(), "{row}");
 }
 
 #[test]

@@ -40,9 +40,9 @@ fn checkpoints(rt: HostRuntime) {
 #[test]
 fn copies(rt: HostRuntime) {
     let alloc = rt.alloc();
-    let told =
+    let expected =
         "Log { sync_point: 1, checkpoint: Some(Checkpoint { host: Bytes { bytes: [104] }, clients: [SavedClient { client: 7, id: 2, result: Bytes { bytes: [61] } }, SavedClient { client: 8, id: 2, result: Bytes { bytes: [61] } }] }), entries: [Req(Request { client: 7, id: 3, op: Op { bytes: [111, 112] } }), NoOp] }";
-    check_text(&rt, &text(&rt, alloc, &log(&rt, alloc)), told);
+    check_text(&rt, &text(&rt, alloc, &log(&rt, alloc)), expected);
     let bytes = Bytes::new(alloc, b"abc").expect(&rt, "memory");
     let copy = bytes.try_clone().expect(&rt, "memory").into_vec();
     assert!(rt; copy.as_slice() == b"abc".as_slice());
@@ -62,8 +62,8 @@ fn outputs(rt: HostRuntime) {
     let mut first = busy(&rt, rt.alloc(), 1);
     let second = busy(&rt, rt.alloc(), 2);
     first.append(second).expect(&rt, "memory");
-    let told = "Outbox { outs: [Busy(1), Busy(2)] }";
-    check_text(&rt, &text(&rt, rt.alloc(), &first), told);
+    let expected = "Outbox { outs: [Busy(1), Busy(2)] }";
+    check_text(&rt, &text(&rt, rt.alloc(), &first), expected);
 }
 
 /// Two views of which neither is at most the other, and the least view above both.

@@ -10,7 +10,7 @@ use Rattle.judge.specs.Verdicts.{verdict_line}
 use Rattle.judge.specs.declared.tally.Tally.{Tally}
 use Rattle.nop_types.specs.Meaning.{Meaning}
 use Rattle.outside.specs.Causes.{CountsFor, StaysOrRises}
-use Rattle.outside.specs.Fronts.{AppendsUpTo}
+use Rattle.outside.specs.Prefixes.{AppendsUpTo}
 use Rattle.transcript_reader.specs.declared.check_error.CheckError.{CheckError}
 use Rattle.transcript_reader.specs.declared.check_error.CheckError.TheVariants as errors
 use Rattle.udp_node.proofs.EffectLemmas.{Appends_none}
@@ -22,27 +22,27 @@ all_of line before now wrote =
 
 module _ {S : Type 0} (m : Meaning S) (bytes left before now : Option (List ℕ)) where
   -- by the verdict that was written
-  pub told : (verdict : Result Tally CheckError) (s : Status) → s ≡ verdict_status verdict → IsVerdict m bytes left verdict
+  pub wrote_verdict : (verdict : Result Tally CheckError) (s : Status) → s ≡ verdict_status verdict → IsVerdict m bytes left verdict
       → Appends before now (verdict_line verdict) → CheckEnds m bytes left before now s
-  told (Ok tally) s is v wrote = rw is (tally, record { is = v; line = wrote })
-  told (Err (errors.Refuted line clause)) s is v wrote = rw is (line, clause, record { is = v; line = wrote })
-  told (Err errors.ReadFault) s is v wrote = rw is (record { is = v; line = wrote })
-  told (Err errors.NoMemory) s is v wrote =
+  wrote_verdict (Ok tally) s is v wrote = rw is (tally, record { is = v; line = wrote })
+  wrote_verdict (Err (errors.Refuted line clause)) s is v wrote = rw is (line, clause, record { is = v; line = wrote })
+  wrote_verdict (Err errors.ReadFault) s is v wrote = rw is (record { is = v; line = wrote })
+  wrote_verdict (Err errors.NoMemory) s is v wrote =
       rw is (record { verdict = Err errors.NoMemory; is = v; line = all_of (verdict_line (Err errors.NoMemory)) before now wrote })
 
 -- ---- a read that fails is told
 
 -- at any verdict at most one read failed
 pub may_have_risen : (a b : ℕ) (verdict : Result Tally CheckError) → CountsFor a b errors.ReadFault verdict → StaysOrRises a b
-may_have_risen a b (Ok tally) h = inl (h.others (λ told. cc))
-may_have_risen a b (Err (errors.Refuted line clause)) h = inl (h.others (λ told. cc))
+may_have_risen a b (Ok tally) h = inl (h.others (λ failed. cc))
+may_have_risen a b (Err (errors.Refuted line clause)) h = inl (h.others (λ failed. cc))
 may_have_risen a b (Err errors.ReadFault) h = inr (h.failed refl)
-may_have_risen a b (Err errors.NoMemory) h = inl (h.others (λ told. cc))
+may_have_risen a b (Err errors.NoMemory) h = inl (h.others (λ failed. cc))
 
 pub verdict_reads : (a b : ℕ) (verdict : Result Tally CheckError) (s : Status) → s ≡ verdict_status verdict
     → CountsFor a b errors.ReadFault verdict → ReadsTo a b s
-verdict_reads a b (Ok tally) s is h = rw is (h.others (λ told. cc))
-verdict_reads a b (Err (errors.Refuted line clause)) s is h = rw is (h.others (λ told. cc))
+verdict_reads a b (Ok tally) s is h = rw is (h.others (λ failed. cc))
+verdict_reads a b (Err (errors.Refuted line clause)) s is h = rw is (h.others (λ failed. cc))
 verdict_reads a b (Err errors.ReadFault) s is h = rw is (h.failed refl)
 verdict_reads a b (Err errors.NoMemory) s is h = rw is (may_have_risen a b (Err errors.NoMemory) h)
 

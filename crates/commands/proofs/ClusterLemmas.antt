@@ -52,4 +52,4 @@ module _ {S L : Type 0} (m : Meaning S) (w : boxed.LinkView L) (p : PortsView L)
 
     pub finishes : (boxed : Boxed) (done : Bool) (h i : Option (List ℕ)) → boxed.done ≡ done → ServesAll m site xs w p values (Ok boxed) h i
         → ClusterFinished m site ops w p values done h i
-    finishes boxed done h i told serves = record { boxed = boxed; told = told; serves = serves_same (Ok boxed) h i serves }
+    finishes boxed done h i same_done serves = record { boxed = boxed; same_done = same_done; serves = serves_same (Ok boxed) h i serves }

@@ -3,11 +3,11 @@ use Rattle.std.proofs.Common.{◌≡◌, ℕ, List, [], ◌∷◌, ◌++◌, tru
 use Rattle.nop_types.specs.Meaning.{Meaning}
 use Rattle.one_box.specs.Showing.{LinkView}
 use Rattle.outside.specs.Causes.{Rose}
-use Rattle.outside.specs.Fronts.{AppendsFront}
-use Rattle.replay.specs.Outcome.{WroteFront}
+use Rattle.outside.specs.Prefixes.{AppendsPrefix}
+use Rattle.replay.specs.Outcome.{WrotePrefix}
 use Rattle.replay.specs.Output.{output}
 use Rattle.replay.specs.Generated.{drawn_summary}
-use Rattle.replay.proofs.Fronts.{front_nil}
+use Rattle.replay.proofs.Prefixes.{prefix_nil}
 use Rattle.replay.proofs.Summaries.{summary_some}
 use Rattle.replay.proofs.Texts.{output_some}
 use Rattle.udp_node.proofs.EffectLemmas.{Appends_none}
@@ -63,16 +63,16 @@ module _ {S L : Type 0} (m : Meaning S) (w : LinkView L) (p : PortsView L) (valu
 
 -- ---- nothing was written
 
-pub no_front : {S : Type 0} (m : Meaning S) (bytes h : Option (List ℕ)) → WroteFront m bytes h h
-no_front m None h = tt
-no_front m (Some bytes) h = front_nil h (output m true bytes).text (output_some m bytes)
+pub no_prefix : {S : Type 0} (m : Meaning S) (bytes h : Option (List ℕ)) → WrotePrefix m bytes h h
+no_prefix m None h = tt
+no_prefix m (Some bytes) h = prefix_nil h (output m true bytes).text (output_some m bytes)
 
-pub no_usage : (program : List ℕ) (h : Option (List ℕ)) → AppendsFront h h (usage_line program)
+pub no_usage : (program : List ℕ) (h : Option (List ℕ)) → AppendsPrefix h h (usage_line program)
 unfolding usage_line
 no_usage program h = record { count = 0; below = search rules; appended = Appends_none h }
 
 pub no_drawing : {S : Type 0} (m : Meaning S) (c : Option Command) (h : Option (List ℕ)) → DrawingEnds m c statuses.NoMemory h h
-no_drawing m (Some (Gen number count)) h = front_nil h (drawn_summary m number count) (summary_some m number count)
+no_drawing m (Some (Gen number count)) h = prefix_nil h (drawn_summary m number count) (summary_some m number count)
 no_drawing m _ h = tt
 
 -- a command that draws a schedule ends well where no write failed

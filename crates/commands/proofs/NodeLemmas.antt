@@ -5,7 +5,7 @@ use Rattle.std.proofs.KnownBytes.{Appends-trans}
 use Rattle.std.specs.Io.KnownBytes.{Appends}
 use Rattle.one_box.specs.Showing.{LinkView}
 use Rattle.outside.specs.Causes.{Rose, next_count}
-use Rattle.outside.specs.Fronts.{AppendsFront}
+use Rattle.outside.specs.Prefixes.{AppendsPrefix}
 use Rattle.outside.specs.Ports.{GivesNext, next_link}
 use Rattle.outside.specs.declared.errors.DeviceError.TheVariants as devices
 use Rattle.outside.proofs.Counts.{counts_none}
@@ -15,7 +15,7 @@ use Rattle.outside.specs.declared.ports.Ports as ports_trait
 use Rattle.outside.specs.declared.sink.Sink as sinks
 use Rattle.outside.specs.declared.link.PollAnswer.{PollAnswer}
 use Rattle.outside.specs.declared.link.LinkCall.{LinkCall}
-use Rattle.udp_node.specs.Effects.{Line, effects, effects_by, lines, WroteFront}
+use Rattle.udp_node.specs.Effects.{Line, effects, effects_by, lines, WrotePrefix}
 use Rattle.udp_node.specs.Folding.{folded, TookSome}
 use Rattle.udp_node.specs.Ports.{port_of}
 use Rattle.udp_node.specs.NodeRun.{NodeRun, ServedRun, ServesAfter}
@@ -25,7 +25,7 @@ use Rattle.udp_node.specs.declared.serving.Served.{Served}
 use Rattle.udp_node.proofs.EffectLemmas.{done_then, stops_then, stops_more, wrote_line}
 use Rattle.commands.specs.Nodes.{served_line, last_effects, end_status, IsNodeStatus, IsUnattachedStatus, EndsNodeWithoutFault}
 use Rattle.commands.specs.Nodes.{LastLine, EndsInLine, NodeEndsOver}
-use Rattle.commands.specs.Nodes.{Finished, RunEnds, NodeTask, run_of, RunTold, PortsView, NodeEnds}
+use Rattle.commands.specs.Nodes.{Finished, RunEnds, NodeTask, run_of, RunObserved, PortsView, NodeEnds}
 use Rattle.commands.specs.declared.status.Status.{Status}
 use Rattle.commands.specs.declared.status.Status.TheVariants as statuses
 
@@ -38,7 +38,7 @@ last_is r turns lost works same =
 
 module _ {S : Type 0} (k : NodeTask S) (losses losses_now : ℕ) (served : Served) (last : S) (h i j : Option (List ℕ))
     (most : served.turns ≤ k.turns) (spent : served.done ≡ false → served.turns ≡ k.turns)
-    (counted : min (losses + served.lost) last_count ≤ losses_now) (told : served.done ≡ k.is_done last)
+    (counted : min (losses + served.lost) last_count ≤ losses_now) (same_done : served.done ≡ k.is_done last)
     (took : TookSome k.next k.at k.first k.opening last h i) (wrote : Appends i j (served_line served.turns served.lost)) where
   last_line : (s : Status) → s ≡ end_status k.waits served.done → (s ≡ statuses.Unanswered → served.turns ≡ k.turns)
       → LastLine k losses losses_now s h j
@@ -50,7 +50,7 @@ module _ {S : Type 0} (k : NodeTask S) (losses losses_now : ℕ) (served : Serve
     most = most;
     all = all;
     counted = counted;
-    ends = is ∙ ap (end_status k.waits) (told ∙ ap k.is_done took.state);
+    ends = is ∙ ap (end_status k.waits) (same_done ∙ ap k.is_done took.state);
     line = Appends-trans h i j (lines (effects k.at (folded k.next k.opening (k.first ++ took.inputs)).1)) (served_line served.turns served.lost)
         took.written wrote;
   }
@@ -88,7 +88,7 @@ module _ {S : Type 0} (k : NodeTask S) where
 
   pub ends_served : (o : Option (List PollAnswer)) (v : Option (List ℕ)) (served : Served) (s : Status) (a b : LinkSide)
       (h i j : Option (List ℕ)) → ServesAfter k.next k.is_done k.first k.timers k.at k.turns k.opening o v (Ok served) a b h i
-      → Appends i j (served_line served.turns served.lost) → s ≡ end_status k.waits served.done → RunTold k o v s a b h j
+      → Appends i j (served_line served.turns served.lost) → s ≡ end_status k.waits served.done → RunObserved k o v s a b h j
   ends_served None v served s a b h i j serves wrote is = tt
   ends_served (Some x) None served s a b h i j serves wrote is = tt
   ends_served (Some x) (Some y) served s a b h i j serves wrote is =
@@ -96,7 +96,7 @@ module _ {S : Type 0} (k : NodeTask S) where
 
   pub ends_in_line : (o : Option (List PollAnswer)) (v : Option (List ℕ)) (served : Served) (a b : LinkSide)
       (h i j : Option (List ℕ)) → ServesAfter k.next k.is_done k.first k.timers k.at k.turns k.opening o v (Ok served) a b h i
-      → AppendsFront i j (served_line served.turns served.lost) → RunTold k o v statuses.WriteFault a b h j
+      → AppendsPrefix i j (served_line served.turns served.lost) → RunObserved k o v statuses.WriteFault a b h j
   ends_in_line None v served a b h i j serves wrote = tt
   ends_in_line (Some x) None served a b h i j serves wrote = tt
   ends_in_line (Some x) (Some y) served a b h i j serves wrote = (
@@ -110,7 +110,7 @@ module _ {S : Type 0} (k : NodeTask S) where
 
   pub ends_short : (o : Option (List PollAnswer)) (v : Option (List ℕ)) (served : Served) (a b : LinkSide)
       (h i j : Option (List ℕ)) → ServesAfter k.next k.is_done k.first k.timers k.at k.turns k.opening o v (Ok served) a b h i
-      → WroteFront (served_line served.turns served.lost) i j → RunTold k o v statuses.NoMemory a b h j
+      → WrotePrefix (served_line served.turns served.lost) i j → RunObserved k o v statuses.NoMemory a b h j
   ends_short None v served a b h i j serves wrote = tt
   ends_short (Some x) None served a b h i j serves wrote = tt
   ends_short (Some x) (Some y) served a b h i j serves wrote = (
@@ -124,14 +124,14 @@ module _ {S : Type 0} (k : NodeTask S) where
 
   pub ends_broken : (o : Option (List PollAnswer)) (v : Option (List ℕ)) (a b : LinkSide) (h i : Option (List ℕ))
       → ServesAfter k.next k.is_done k.first k.timers k.at k.turns k.opening o v (Err serve_errors.LinkFault) a b h i
-      → RunTold k o v statuses.LinkFault a b h i
+      → RunObserved k o v statuses.LinkFault a b h i
   ends_broken None v a b h i serves = tt
   ends_broken (Some x) None a b h i serves = tt
   ends_broken (Some x) (Some y) a b h i serves = serves
 
   pub ends_writing : (o : Option (List PollAnswer)) (v : Option (List ℕ)) (a b : LinkSide) (h i : Option (List ℕ))
       → ServesAfter k.next k.is_done k.first k.timers k.at k.turns k.opening o v (Err serve_errors.WriteFault) a b h i
-      → RunTold k o v statuses.WriteFault a b h i
+      → RunObserved k o v statuses.WriteFault a b h i
   ends_writing None v a b h i serves = tt
   ends_writing (Some x) None a b h i serves = tt
   ends_writing (Some x) (Some y) a b h i serves = (
@@ -142,7 +142,7 @@ module _ {S : Type 0} (k : NodeTask S) where
 
   pub ends_without_memory : (o : Option (List PollAnswer)) (v : Option (List ℕ)) (a b : LinkSide) (h i : Option (List ℕ))
       → ServesAfter k.next k.is_done k.first k.timers k.at k.turns k.opening o v (Err serve_errors.NoMemory) a b h i
-      → RunTold k o v statuses.NoMemory a b h i
+      → RunObserved k o v statuses.NoMemory a b h i
   ends_without_memory None v a b h i serves = tt
   ends_without_memory (Some x) None a b h i serves = tt
   ends_without_memory (Some x) (Some y) a b h i serves = (
@@ -155,7 +155,7 @@ module _ {S : Type 0} (k : NodeTask S) where
 
   pub from_attach : (links later : Option (List (List PollAnswer))) (o : Option (List PollAnswer)) (v : Option (List ℕ))
       (trace : Option (List LinkCall)) (losses : ℕ) (s : Status) (b : LinkSide) (h i : Option (List ℕ)) → GivesNext links later o trace
-      → losses ≡ 0 → RunTold k o v s (side trace 0 losses) b h i → RunTold k (option_map next_link links) v s (side (Some []) 0 0) b h i
+      → losses ≡ 0 → RunObserved k o v s (side trace 0 losses) b h i → RunObserved k (option_map next_link links) v s (side (Some []) 0 0) b h i
   from_attach None later o v trace losses s b h i gives none run = tt
   from_attach (Some links) later o v trace losses s b h i gives none run = rw (gives.1, gives.2, none) at run
 
@@ -164,7 +164,7 @@ pub attached_ends : {S L : Type 0} (k : NodeTask S) (w : LinkView L) (p : PortsV
     (h i : Option (List ℕ)) (link : L) (later : Option (List (List PollAnswer))) (o : Option (List PollAnswer))
     (trace : Option (List LinkCall)) (losses faults : ℕ) → p.after ≡ p.before ++ link ∷ [] → w.port link ≡ port_of k.at.base k.at.own
     → IsNodeStatus k.waits s → (s ≡ statuses.LinkFault → Rose faults (w.faults link)) → EndsInLine k losses (w.losses link) s h i → faults ≡ 0 → losses ≡ 0
-    → GivesNext p.to_come later o trace → RunTold k o values s (side trace 0 losses) (side (w.trace link) 0 (w.losses link)) h i
+    → GivesNext p.to_come later o trace → RunObserved k o values s (side trace 0 losses) (side (w.trace link) 0 (w.losses link)) h i
     → NodeEnds k w p values s h i
 attached_ends k w p values s h i link later o trace losses faults back port may cause last none no_losses gives run = inr (record {
   link = link;
@@ -206,10 +206,10 @@ rose_at a b is = omega (arith, is)
 
 -- a run that is served to its end met no fault
 pub end_is_no_fault : (waits done : Bool) (s : Status) → s ≡ end_status waits done → (s ≡ statuses.WriteFault → ⊥) × (s ≡ statuses.LinkFault → ⊥)
-end_is_no_fault true true s is = (λ told. cc, λ told. cc)
-end_is_no_fault true false s is = (λ told. cc, λ told. cc)
-end_is_no_fault false true s is = (λ told. cc, λ told. cc)
-end_is_no_fault false false s is = (λ told. cc, λ told. cc)
+end_is_no_fault true true s is = (λ failed. cc, λ failed. cc)
+end_is_no_fault true false s is = (λ failed. cc, λ failed. cc)
+end_is_no_fault false true s is = (λ failed. cc, λ failed. cc)
+end_is_no_fault false false s is = (λ failed. cc, λ failed. cc)
 
 -- memory ran out before a link was attached
 pub not_run : {S P L T K : Type 0} (link : links.Ghosts L) (ports : ports_trait.Ghosts P L) (clock : clocks.Ghosts T) (sink : sinks.Ghosts K)

@@ -5,7 +5,7 @@ use Rattle.judge.specs.Checking.{IsChecked, PassesLegal}
 use Rattle.judge.specs.Verdicts.{verdict_line}
 use Rattle.judge.specs.declared.tally.Tally.{Tally}
 use Rattle.nop_types.specs.Meaning.{Meaning}
-use Rattle.outside.specs.Fronts.{AppendsFront, AppendsUpTo}
+use Rattle.outside.specs.Prefixes.{AppendsPrefix, AppendsUpTo}
 use Rattle.transcript_reader.specs.declared.check_error.CheckError.{CheckError}
 use Rattle.transcript_reader.specs.declared.check_error.CheckError.TheVariants as errors
 use Rattle.commands.specs.declared.status.Status.{Status}
@@ -25,7 +25,7 @@ module _ {S : Type 0} (m : Meaning S) where
     pub passes : PassesLegal m bytes verdict
 
   -- the verdict was written
-  pub record Told (bytes left before now : Option (List ℕ)) (verdict : Result Tally CheckError) : Type 0 where
+  pub record WroteVerdict (bytes left before now : Option (List ℕ)) (verdict : Result Tally CheckError) : Type 0 where
     pub is : IsVerdict bytes left verdict
     pub line : Appends before now (verdict_line verdict)
 
@@ -33,7 +33,7 @@ module _ {S : Type 0} (m : Meaning S) where
   pub record BrokeOff (bytes left before now : Option (List ℕ)) : Type 0 where
     pub verdict : Result Tally CheckError
     pub is : IsVerdict bytes left verdict
-    pub line : AppendsFront before now (verdict_line verdict)
+    pub line : AppendsPrefix before now (verdict_line verdict)
 
   -- memory ran out, in the check or behind it
   pub record RanOut (bytes left before now : Option (List ℕ)) : Type 0 where
@@ -43,12 +43,12 @@ module _ {S : Type 0} (m : Meaning S) where
 
   -- by the bytes before it, those left, and what the sink held before and holds now
   abbrev pub CheckEnds : Option (List ℕ) → Option (List ℕ) → Option (List ℕ) → Option (List ℕ) → Status → Type 0
-  CheckEnds bytes left before now Done = (tally : Tally) × Told bytes left before now (Ok tally)
-  CheckEnds bytes left before now ReadFault = Told bytes left before now (Err errors.ReadFault)
+  CheckEnds bytes left before now Done = (tally : Tally) × WroteVerdict bytes left before now (Ok tally)
+  CheckEnds bytes left before now ReadFault = WroteVerdict bytes left before now (Err errors.ReadFault)
   CheckEnds bytes left before now WriteFault = BrokeOff bytes left before now
   CheckEnds bytes left before now NoMemory = RanOut bytes left before now
   CheckEnds bytes left before now Refuted =
-      (line : ℕ) × (clause : ℕ) × Told bytes left before now (Err (errors.Refuted line clause))
+      (line : ℕ) × (clause : ℕ) × WroteVerdict bytes left before now (Err (errors.Refuted line clause))
   CheckEnds bytes left before now _ = ⊥
 
 -- how a check ends where no device failed

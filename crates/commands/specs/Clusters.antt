@@ -25,7 +25,7 @@ module _ {S L : Type 0} (m : Meaning S) (site : Site) (ops : List (List ℕ)) (w
   -- the run was taken to its end and written; all ops were accepted, or not
   pub record ClusterFinished (done : Bool) (h i : Option (List ℕ)) : Type 0 where
     pub boxed : Boxed
-    pub told : boxed.done ≡ done
+    pub same_done : boxed.done ≡ done
     pub serves : ServesAll (Ok boxed) h i
 
   -- an attach failed, or the poll of a link that was given back

@@ -2,9 +2,9 @@
 use Rattle.std.specs.Prelude.{ℕ, List, Option, ⊤}
 use Rattle.std.specs.Io.KnownBytes.{Appends}
 use Rattle.nop_types.specs.Meaning.{Meaning}
-use Rattle.outside.specs.Fronts.{AppendsFront}
+use Rattle.outside.specs.Prefixes.{AppendsPrefix}
 use Rattle.replay.specs.Generated.{drawn_summary}
-use Rattle.replay.specs.Outcome.{IsDone, IsMalformed, IsInterrupted, WroteFront}
+use Rattle.replay.specs.Outcome.{IsDone, IsMalformed, IsInterrupted, WrotePrefix}
 use Rattle.commands.specs.Words.{usage_line}
 use Rattle.commands.specs.declared.status.Status.{Status}
 use Rattle.commands.specs.declared.status.Status.TheVariants.{Done, Malformed, Usage, ReadFault, WriteFault, NoMemory}
@@ -21,22 +21,22 @@ module _ {S : Type 0} (m : Meaning S) where
   ReplayEnds bytes left before now Done = IsDone m bytes left before now
   ReplayEnds bytes left before now Malformed = FoundMalformed bytes left before now
   ReplayEnds bytes left before now ReadFault = IsInterrupted m bytes left before now
-  ReplayEnds bytes left before now WriteFault = WroteFront m bytes before now
-  ReplayEnds bytes left before now NoMemory = WroteFront m bytes before now
+  ReplayEnds bytes left before now WriteFault = WrotePrefix m bytes before now
+  ReplayEnds bytes left before now NoMemory = WrotePrefix m bytes before now
   ReplayEnds bytes left before now _ = ⊥
 
   -- how a generation ended: the summary was written, or a front of it that is not all
   abbrev pub GenEnds : ℕ → ℕ → Option (List ℕ) → Option (List ℕ) → Status → Type 0
   GenEnds number count before now Done = Appends before now (drawn_summary m number count)
-  GenEnds number count before now WriteFault = AppendsFront before now (drawn_summary m number count)
-  GenEnds number count before now NoMemory = AppendsFront before now (drawn_summary m number count)
+  GenEnds number count before now WriteFault = AppendsPrefix before now (drawn_summary m number count)
+  GenEnds number count before now NoMemory = AppendsPrefix before now (drawn_summary m number count)
   GenEnds number count before now _ = ⊥
 
 -- the usage line of a program with this name was written, or only a front of it
 abbrev pub UsageEnds : List ℕ → Option (List ℕ) → Option (List ℕ) → Status → Type 0
 UsageEnds program before now Usage = Appends before now (usage_line program)
-UsageEnds program before now WriteFault = AppendsFront before now (usage_line program)
-UsageEnds program before now NoMemory = AppendsFront before now (usage_line program)
+UsageEnds program before now WriteFault = AppendsPrefix before now (usage_line program)
+UsageEnds program before now NoMemory = AppendsPrefix before now (usage_line program)
 UsageEnds program before now _ = ⊥
 
 -- how a replay ends where no device failed

@@ -113,12 +113,12 @@ task_of next is_done timers opening at first turns waits =
 abbrev pub run_of : {S : Type 0} → NodeTask S → List PollAnswer → List ℕ → NodeRun
 run_of k answers values = run_after k.next k.is_done k.first k.timers k.turns k.opening answers values
 
--- where link and clock tell their content, it is the run over it
-abbrev pub RunTold : {S : Type 0} → NodeTask S → Option (List PollAnswer) → Option (List ℕ) → Status
+-- where link and clock are observable, it is the run over it
+abbrev pub RunObserved : {S : Type 0} → NodeTask S → Option (List PollAnswer) → Option (List ℕ) → Status
     → LinkSide → LinkSide → Option (List ℕ) → Option (List ℕ) → Type 0
-RunTold k None values s a b h i = ⊤
-RunTold k (Some answers) None s a b h i = ⊤
-RunTold k (Some answers) (Some values) s a b h i = RunEnds k.at k.waits (run_of k answers values) s a b h i
+RunObserved k None values s a b h i = ⊤
+RunObserved k (Some answers) None s a b h i = ⊤
+RunObserved k (Some answers) (Some values) s a b h i = RunEnds k.at k.waits (run_of k answers values) s a b h i
 
 -- ---- the last line over any link and clock
 
@@ -186,7 +186,7 @@ pub record Attached {S L : Type 0} (k : NodeTask S) (w : LinkView L) (p : PortsV
   pub status : IsNodeStatus k.waits s
   pub cause : s ≡ statuses.LinkFault → Rose 0 (w.faults link)
   pub last : EndsInLine k 0 (w.losses link) s h i
-  pub run : RunTold k (option_map next_link p.to_come) values s (side (Some []) 0 0) (side (w.trace link) 0 (w.losses link)) h i
+  pub run : RunObserved k (option_map next_link p.to_come) values s (side (Some []) 0 0) (side (w.trace link) 0 (w.losses link)) h i
 
 abbrev pub NodeEnds : {S L : Type 0} → NodeTask S → LinkView L → PortsView L → Option (List ℕ) → Status → Option (List ℕ) → Option (List ℕ)
     → Type 0

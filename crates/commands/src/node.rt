@@ -6,7 +6,7 @@ ghost use Rattle.outside.specs.Causes.{CountsFor, CountsWhere};
 ghost use Rattle.udp_node.specs.Effects.{Writes};
 ghost use Rattle.udp_node.specs.NodeRun.{first_inputs};
 ghost use Rattle.udp_node.specs.Sends.{side};
-ghost use Rattle.commands.specs.Nodes.{served_line, end_status, task_of, EndsInLine, IsNodeStatus, NodeEndsOver, RunTold};
+ghost use Rattle.commands.specs.Nodes.{served_line, end_status, task_of, EndsInLine, IsNodeStatus, NodeEndsOver, RunObserved};
 ghost use Rattle.outside.specs.declared.errors.DeviceError.TheVariants as devices;
 
 use crate::status::Status;
@@ -84,7 +84,7 @@ fn run_link<C: Core, L: Link, T: Clock, K: Sink>(
     sink: &mut K,
 ) -> Status
     requires timers { length C.timers ≤ 255 }
-    ensures run { RunTold (task_of C.next C.is_done C.timers (C.state core.old) at.now
+    ensures run { RunObserved (task_of C.next C.is_done C.timers (C.state core.old) at.now
         (first_inputs (option_map given task.now.first)) task.now.turns task.now.waits)
         (L.answers link.old) (T.values clock.old) result
         (side (L.trace link.old) 0 (L.loss_count link.old))

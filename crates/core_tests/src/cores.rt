@@ -54,8 +54,8 @@ fn a_sequencer(rt: HostRuntime) {
     let mut core = Sequencer::new(alloc, 1).expect(&rt, "memory");
     let mut sent = Outbox::new(alloc);
     play(&rt, alloc, from_mut(&mut core), &mut sent, SEQUENCER);
-    let told = "SequencerState { number: 1, session: 18446744073709551615, next: 1 }";
-    check_shown(&rt, alloc, &core.state(), told);
+    let expected = "SequencerState { number: 1, session: 18446744073709551615, next: 1 }";
+    check_shown(&rt, alloc, &core.state(), expected);
     check_text(&rt, &timers(&rt, alloc, &core), "None None None None");
     let request = Request {
         client: 7,
@@ -63,9 +63,9 @@ fn a_sequencer(rt: HostRuntime) {
         op: Op::new(alloc, b"op").expect(&rt, "memory"),
     };
     let stamped = core.stamp(&request).expect(&rt, "memory");
-    let told =
+    let expected =
         "Some(Stamped { session: 18446744073709551615, number: 1, request: Request { client: 7, id: 5, op: Op { bytes: [111, 112] } } })";
-    check_shown(&rt, alloc, &stamped, told);
+    check_shown(&rt, alloc, &stamped, expected);
 }
 
 /// Probes that are answered and some that are not, and orders, with two sequencers. Answers of an older round, of another sequencer,
@@ -131,11 +131,11 @@ fn a_controller(rt: HostRuntime) {
     let mut core = controller(&rt, alloc, (3, 2), 0);
     let mut sent = Outbox::new(alloc);
     play(&rt, alloc, from_mut(&mut core), &mut sent, CONTROLLER);
-    let told =
+    let expected =
         "ControllerState { config: Config { replicas: 3, sequencers: 2, clients: 1, controllers: 4 }, number: 0, session: 4, seen: 0, current: 0, confirmed: false, round: 8, heard: true, missed: 0 }";
-    check_shown(&rt, alloc, &core.state(), told);
-    let told = "Some((Resend, 100)) Some((Probe, 300)) None None";
-    check_text(&rt, &timers(&rt, alloc, &core), told);
+    check_shown(&rt, alloc, &core.state(), expected);
+    let expected = "Some((Resend, 100)) Some((Probe, 300)) None None";
+    check_text(&rt, &timers(&rt, alloc, &core), expected);
 }
 
 /// Two controllers give sessions to one sequencer, the other one the greater. The first is told that, and passes it: its next session is
@@ -257,6 +257,6 @@ fn a_client(rt: HostRuntime) {
     let mut sent = Outbox::new(alloc);
     play(&rt, alloc, from_mut(&mut core), &mut sent, CLIENT);
     assert!(rt; core.done() && core.accepted().is_some());
-    let told = "Some((Next, 0)) Some((Retry, 200)) None None";
-    check_text(&rt, &timers(&rt, alloc, &core), told);
+    let expected = "Some((Next, 0)) Some((Retry, 200)) None None";
+    check_text(&rt, &timers(&rt, alloc, &core), expected);
 }

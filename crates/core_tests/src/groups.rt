@@ -75,18 +75,18 @@ pub fn opened<H: Host>(rt: &impl Abort, alloc: Global) -> Vec<Replica<H>> {
 }
 
 /// Plays a script with three replicas, and compares their states at the end, a line each.
-pub fn play_three<H: Host>(rt: &impl Abort, alloc: Global, script: &str, told: &str) {
+pub fn play_three<H: Host>(rt: &impl Abort, alloc: Global, script: &str, expected: &str) {
     let mut cores: Vec<Replica<H>> = opened(rt, alloc);
     play(rt, alloc, &mut cores, &mut Outbox::new(alloc), script);
-    check_text(rt, &states(rt, alloc, &cores), told);
+    check_text(rt, &states(rt, alloc, &cores), expected);
 }
 
 #[test]
 fn a_replica_has_three_timers(rt: HostRuntime) {
     let config = Config::new(3, 2, 2, 1).expect(&rt, "a group");
     let core: Replica<KvHost> = Replica::new(rt.alloc(), config, 0).expect(&rt, "memory");
-    let told = "Some((Resend, 50)) Some((Sync, 100)) Some((Watch, 1000)) None";
-    check_text(&rt, &timers(&rt, rt.alloc(), &core), told);
+    let expected = "Some((Resend, 50)) Some((Sync, 100)) Some((Watch, 1000)) None";
+    check_text(&rt, &timers(&rt, rt.alloc(), &core), expected);
 }
 
 /// While its gap waits, a leader neither replies nor synchronises nor begins another gap. It tells the gap again, on a tick and to whom
@@ -120,12 +120,12 @@ const GAP: &str = "\
 
 #[test]
 fn a_leader_waits_for_its_gap(rt: HostRuntime) {
-    let told = "\
+    let expected = "\
 Normal (0, 1, 0, 1) (0, 4) (0, 0) (1, 1) (0, 1) (0, 0)
 Normal (0, 1, 0, 1) (0, 0) (0, 0) (1, 1)
 Normal (0, 1, 0, 1) (0, 0)
 ";
-    play_three::<KvHost>(&rt, rt.alloc(), GAP, told);
+    play_three::<KvHost>(&rt, rt.alloc(), GAP, expected);
 }
 
 /// A leader in Normal suspects nobody. A follower does where it heard nothing of its leader between two ticks, here after a commit of
@@ -146,12 +146,12 @@ const WATCH: &str = "\
 
 #[test]
 fn a_silent_leader_is_suspected(rt: HostRuntime) {
-    let told = "\
+    let expected = "\
 Normal (0, 1, 0, 1) (0, 0)
 Change (2, 1, 0, 1) (0, 0)
 Normal (0, 1, 0, 1) (0, 0)
 ";
-    play_three::<KvHost>(&rt, rt.alloc(), WATCH, told);
+    play_three::<KvHost>(&rt, rt.alloc(), WATCH, expected);
 }
 
 /// A leader and a follower answer three requests that are no ops of the service. Then that leader is suspected, and the next view
@@ -202,12 +202,12 @@ const VIEW_CHANGE: &str = "\
 
 #[test]
 fn answered_requests_survive_a_view_change(rt: HostRuntime) {
-    let told = "\
+    let expected = "\
 Normal (1, 1, 1, 1) (0, 0) (0, 1) (0, 2) (0, 3)
 Normal (1, 1, 1, 1) (0, 3) (0, 1) (0, 2) (0, 3)
 Normal (1, 1, 1, 1) (0, 0) (0, 1) (0, 2) (0, 3)
 ";
-    play_three::<KvHost>(&rt, rt.alloc(), VIEW_CHANGE, told);
+    play_three::<KvHost>(&rt, rt.alloc(), VIEW_CHANGE, expected);
 }
 
 /// A follower that missed a request takes it from the leader's log, replies, and votes; then both have it synchronised, and in its
@@ -240,12 +240,12 @@ const SYNCHRONISATION: &str = "\
 
 #[test]
 fn a_missed_request_is_synchronised(rt: HostRuntime) {
-    let told = "\
+    let expected = "\
 Normal (0, 1, 0, 1) (1, 1) 0000000100016b000176 [0, 1, 6e6f6e65]
 Normal (0, 1, 0, 1) (0, 0)
 Normal (0, 1, 0, 1) (1, 1) 0000000100016b000176 [0, 1, 6e6f6e65] (1, 1)
 ";
-    play_three::<KvHost>(&rt, rt.alloc(), SYNCHRONISATION, told);
+    play_three::<KvHost>(&rt, rt.alloc(), SYNCHRONISATION, expected);
 }
 
 /// A leader and a follower have a request synchronised, so it moved out of their logs. Messages made by hand then tell of a NO-OP
@@ -278,12 +278,12 @@ const SYNCHRONISED: &str = "\
 
 #[test]
 fn a_synchronised_slot_stays(rt: HostRuntime) {
-    let told = "\
+    let expected = "\
 Normal (0, 1, 0, 1) (1, 1) 0000000100016b000176 [0, 1, 6e6f6e65]
 Normal (0, 1, 0, 1) (0, 0)
 Normal (1, 1, 1, 1) (1, 1) 0000000100016b000176 [0, 1, 6e6f6e65] (0, 0)
 ";
-    play_three::<KvHost>(&rt, rt.alloc(), SYNCHRONISED, told);
+    play_three::<KvHost>(&rt, rt.alloc(), SYNCHRONISED, expected);
 }
 
 /// A follower without a log is told the checkpoint of a put: it takes that, and replies to nobody. Logs made by hand then tell of an
@@ -307,12 +307,12 @@ const TOLD: &str = "\
 
 #[test]
 fn a_greater_sync_point_is_taken_with_its_log(rt: HostRuntime) {
-    let told = "\
+    let expected = "\
 Normal (0, 1, 0, 1) (0, 0)
 Normal (1, 1, 1, 1) (1, 1) 0000000100016b000176 [0, 1, 6e6f6e65]
 Normal (1, 1, 1, 1) (3, 3) 0000000100016b000176 [0, 1, 6e6f6e65]
 ";
-    play_three::<KvHost>(&rt, rt.alloc(), TOLD, told);
+    play_three::<KvHost>(&rt, rt.alloc(), TOLD, expected);
 }
 
 /// A get, stamped in session 1.

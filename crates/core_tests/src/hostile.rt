@@ -86,8 +86,8 @@ fn takes_only<C: Core>(rt: &impl Abort, alloc: Global, core: &mut C, taken: &str
     for row in DATAGRAMS.lines() {
         let bytes = bytes_of(rt, alloc, row);
         ignores_bad(rt, alloc, core, &bytes);
-        let (front, _rest) = row.split_once(' ').expect(rt, "a row");
-        if !taken.contains(front) {
+        let (prefix, _rest) = row.split_once(' ').expect(rt, "a row");
+        if !taken.contains(prefix) {
             ignores(rt, alloc, core, &bytes);
         }
     }
@@ -129,8 +129,8 @@ fn a_sequencer_ignores_what_is_no_datagram(rt: HostRuntime) {
     let alloc = rt.alloc();
     let mut core = Sequencer::new(alloc, 0).expect(&rt, "memory");
     takes_only(&rt, alloc, &mut core, "4e4f0301 4e4f0304 4e4f0306");
-    let told = "SequencerState { number: 0, session: 1, next: 1 }";
-    check_shown(&rt, alloc, &core.state(), told);
+    let expected = "SequencerState { number: 0, session: 1, next: 1 }";
+    check_shown(&rt, alloc, &core.state(), expected);
     let mut sent = Outbox::new(alloc);
     play(&rt, alloc, from_mut(&mut core), &mut sent, STAMPED);
 }
@@ -209,12 +209,12 @@ const FORGED: &str = "\
 
 #[test]
 fn forged_messages_change_nothing(rt: HostRuntime) {
-    let told = "\
+    let expected = "\
 Normal (0, 1, 0, 1) (0, 0)
 Normal (0, 1, 0, 1) (0, 0)
 Change (1, 1, 0, 1) (0, 0)
 ";
-    play_three::<KvHost>(&rt, rt.alloc(), FORGED, told);
+    play_three::<KvHost>(&rt, rt.alloc(), FORGED, expected);
 }
 
 /// A follower has a request. It is told checkpoints that are no saved map: three bytes, a key that is not there, a byte after the last
@@ -236,12 +236,12 @@ const UNLOADED: &str = "\
 
 #[test]
 fn checkpoints_that_do_not_load_change_nothing(rt: HostRuntime) {
-    let told = "\
+    let expected = "\
 Normal (0, 1, 0, 1) (0, 0)
 Normal (1, 1, 1, 1) (0, 0)
 Normal (0, 1, 0, 1) (0, 0) (0, 1)
 ";
-    play_three::<KvHost>(&rt, rt.alloc(), UNLOADED, told);
+    play_three::<KvHost>(&rt, rt.alloc(), UNLOADED, expected);
 }
 
 /// At a leader with one slot: votes for that length before it asked for them, and then for lengths that it did not ask for. At a follower
@@ -271,12 +271,12 @@ const UNPREPARED: &str = "\
 
 #[test]
 fn what_is_not_prepared_stays(rt: HostRuntime) {
-    let told = "\
+    let expected = "\
 Normal (0, 1, 0, 1) (0, 1) (0, 1)
 Normal (0, 1, 0, 1) (0, 0)
 Normal (0, 1, 0, 1) (1, 1) 0000000100016b000176 [0, 1, 6e6f6e65] (1, 1)
 ";
-    play_three::<KvHost>(&rt, rt.alloc(), UNPREPARED, told);
+    play_three::<KvHost>(&rt, rt.alloc(), UNPREPARED, expected);
 }
 
 /// A view with the greatest numbers is asked for, which replica 0 leads. A tick and a packet of its session change no view then. A packet
@@ -293,12 +293,12 @@ const LAST_VIEW: &str = "\
 
 #[test]
 fn the_last_view(rt: HostRuntime) {
-    let told = "\
+    let expected = "\
 Change (4294967295, 18446744073709551615, 0, 1) (0, 0)
 Change (0, 18446744073709551615, 0, 1) (0, 0)
 Normal (0, 1, 0, 1) (0, 0)
 ";
-    play_three::<KvHost>(&rt, rt.alloc(), LAST_VIEW, told);
+    play_three::<KvHost>(&rt, rt.alloc(), LAST_VIEW, expected);
 }
 
 /// A view starts at the last number. Its packet, of the last client with the last id, is taken; no slot is filled after it, and the
@@ -315,12 +315,12 @@ const LAST_NUMBER: &str = "\
 
 #[test]
 fn the_last_number(rt: HostRuntime) {
-    let told = "\
+    let expected = "\
 Change (2, 1, 1, 1) (0, 0) (4294967295, 18446744073709551615)
 Normal (0, 1, 0, 1) (0, 0)
 Normal (0, 1, 0, 1) (0, 0)
 ";
-    play_three::<KvHost>(&rt, rt.alloc(), LAST_NUMBER, told);
+    play_three::<KvHost>(&rt, rt.alloc(), LAST_NUMBER, expected);
 }
 
 /// A view starts at the number past the last one. No packet is taken in it, no slot is filled, and the replica tells that number when it
@@ -343,16 +343,16 @@ const PAST_THE_LAST_NUMBER: &str = "\
 
 #[test]
 fn past_the_last_number(rt: HostRuntime) {
-    let told = "\
+    let expected = "\
 Change (2, 1, 1, 1) (0, 0)
 Normal (1, 1, 1, 1) (0, 0)
 Normal (0, 1, 0, 1) (0, 0)
 ";
-    play_three::<KvHost>(&rt, rt.alloc(), PAST_THE_LAST_NUMBER, told);
+    play_three::<KvHost>(&rt, rt.alloc(), PAST_THE_LAST_NUMBER, expected);
 }
 
 /// A view starts with a full log, of 4,096 slots. A NO-OP and a request past it, and a packet of the next number, which is queued, change
-/// nothing. Then its leader tells a log of one slot more, of which slot 1 is synchronised: the replica keeps 4,096 entries above that,
+/// nothing. Then its leader sends a log of one slot more, of which slot 1 is synchronised: the replica keeps 4,096 entries above that,
 /// and nothing past them is taken.
 const FULL_LOG: &str = "\
 0 packet 4e4f0308 01 0000000000000001 0000 0003 16 01 00000001 0000000000000001 0000000000001001 00000000 00001000 00*1370
@@ -376,12 +376,12 @@ const FULL_LOG: &str = "\
 
 #[test]
 fn a_log_takes_no_more_than_it_has_room_for(rt: HostRuntime) {
-    let told = "\
+    let expected = "\
 Normal (1, 1, 1, 1) (1, 1) 00000000 4096 entries full
 Normal (0, 1, 0, 1) (0, 0)
 Normal (0, 1, 0, 1) (0, 0)
 ";
-    play_three::<KvHost>(&rt, rt.alloc(), FULL_LOG, told);
+    play_three::<KvHost>(&rt, rt.alloc(), FULL_LOG, expected);
 }
 
 /// A view starts with all slots synchronised that a log may have but the last one, which its packet takes. The next packet is queued. A
@@ -400,10 +400,10 @@ const LAST_SLOT: &str = "\
 
 #[test]
 fn the_last_slot(rt: HostRuntime) {
-    let told = "\
+    let expected = "\
 Normal (1, 1, 1, 1) (4294967295, 4294967295) 00000000 full
 Normal (0, 1, 0, 1) (0, 0)
 Normal (0, 1, 0, 1) (0, 0)
 ";
-    play_three::<KvHost>(&rt, rt.alloc(), LAST_SLOT, told);
+    play_three::<KvHost>(&rt, rt.alloc(), LAST_SLOT, expected);
 }

@@ -26,14 +26,14 @@ pub fn put_line(rt: &impl Abort, text: &str, to: &mut String) {
     to.push('\n').expect(rt, "memory");
 }
 
-pub fn check_text(rt: &impl Abort, given: &str, told: &str) {
-    assert!(rt; given == told, "{given}");
+pub fn check_text(rt: &impl Abort, given: &str, expected: &str) {
+    assert!(rt; given == expected, "{given}");
 }
 
 /// A value as its derive shows it.
-pub fn check_shown<T: Debug>(rt: &impl Abort, alloc: Global, value: &T, told: &str) {
+pub fn check_shown<T: Debug>(rt: &impl Abort, alloc: Global, value: &T, expected: &str) {
     let given = format!(in alloc; "{value:?}").expect(rt, "memory");
-    check_text(rt, &given, told);
+    check_text(rt, &given, expected);
 }
 
 fn put_text(rt: &impl Abort, text: &str, to: &mut String) {

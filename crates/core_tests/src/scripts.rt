@@ -76,7 +76,7 @@ fn take<C: Core>(
 }
 
 /// A datagram with its destination and its bytes, or how many they are where they are many.
-fn told_send(rt: &impl Abort, alloc: Global, dest: &Dest, bytes: &[u8]) -> String {
+fn text_of_send(rt: &impl Abort, alloc: Global, dest: &Dest, bytes: &[u8]) -> String {
     let len = bytes.len();
     if len > 84 {
         return format!(in alloc; "{dest:?} {len} bytes").expect(rt, "memory");
@@ -85,28 +85,28 @@ fn told_send(rt: &impl Abort, alloc: Global, dest: &Dest, bytes: &[u8]) -> Strin
     format!(in alloc; "{dest:?} {digits}").expect(rt, "memory")
 }
 
-fn told_accept(rt: &impl Abort, alloc: Global, id: u64, answer: &[u8]) -> String {
+fn text_of_accept(rt: &impl Abort, alloc: Global, id: u64, answer: &[u8]) -> String {
     let digits = hex::encode(alloc, answer).expect(rt, "memory");
     format!(in alloc; "accepted {id} {digits}").expect(rt, "memory")
 }
 
 /// The slot of the first entry that moved out of a log, and the entries.
-fn told_trimmed(rt: &impl Abort, alloc: Global, first: u32, entries: &Log) -> String {
+fn text_of_trimmed(rt: &impl Abort, alloc: Global, first: u32, entries: &Log) -> String {
     let mut text = format!(in alloc; "trimmed {first}").expect(rt, "memory");
     put_entries(rt, alloc, entries.entries(), &mut text);
     text
 }
 
 /// An output in few words.
-fn told(rt: &impl Abort, alloc: Global, out: &Out) -> String {
+fn text_of(rt: &impl Abort, alloc: Global, out: &Out) -> String {
     match out {
-        Out::Send(dest, bytes) => told_send(rt, alloc, dest, bytes.as_slice()),
+        Out::Send(dest, bytes) => text_of_send(rt, alloc, dest, bytes.as_slice()),
         Out::Submitted(request) => {
             format!(in alloc; "submitted {}", request.id).expect(rt, "memory")
         }
-        Out::Accepted { id, result, .. } => told_accept(rt, alloc, *id, result.as_slice()),
+        Out::Accepted { id, result, .. } => text_of_accept(rt, alloc, *id, result.as_slice()),
         Out::Busy(_) => String::from_str(alloc, "busy").expect(rt, "memory"),
-        Out::Trimmed { first, entries } => told_trimmed(rt, alloc, *first, entries),
+        Out::Trimmed { first, entries } => text_of_trimmed(rt, alloc, *first, entries),
     }
 }
 
@@ -114,7 +114,7 @@ fn told(rt: &impl Abort, alloc: Global, out: &Out) -> String {
 fn put_outputs(rt: &impl Abort, alloc: Global, sent: &Outbox, from: usize, to: &mut String) {
     let outputs = sent.as_slice();
     for i in from..outputs.len() {
-        let text = told(rt, alloc, &outputs[i]);
+        let text = text_of(rt, alloc, &outputs[i]);
         let line = format!(in alloc; "  {i} {text}").expect(rt, "memory");
         put_line(rt, &line, to);
     }

@@ -1,4 +1,4 @@
-//! Logs whose sync points rise: what was synchronised moves out, a checkpoint stands in its place, and who is behind is told that. What is
+//! Logs whose sync points rise: what was synchronised moves out, a checkpoint is in its place, and who is behind is told that. What is
 //! expected was worked out from the rules of the protocol and from its formats.
 use crate::groups::play_three;
 use kv_host::KvHost;
@@ -53,12 +53,12 @@ const BEHIND: &str = "\
 
 #[test]
 fn a_follower_far_behind_is_told_a_checkpoint(rt: HostRuntime) {
-    let told = "\
+    let expected = "\
 Normal (0, 1, 0, 1) (2, 3) 0000000100016b000176 [0, 1, 6e6f6e65] [1, 1, 3d76] (0, 2)
 Normal (1, 1, 1, 1) (4, 4) 0000000100016b000176 [0, 2, 3d76] [1, 1, 3d76]
 Normal (1, 1, 1, 1) (2, 2) 0000000100016b000176 [0, 1, 6e6f6e65] [1, 1, 3d76] (0, 2) (1, 1)
 ";
-    play_three::<KvHost>(&rt, rt.alloc(), BEHIND, told);
+    play_three::<KvHost>(&rt, rt.alloc(), BEHIND, expected);
 }
 
 /// A view starts with a log of 4,096 NO-OPs, which a change tells. The next packet is queued, at its leader and at a follower. The leader
@@ -106,10 +106,10 @@ const PAST: &str = "\
 
 #[test]
 fn a_full_log_goes_on_when_it_is_synchronised(rt: HostRuntime) {
-    let told = "\
+    let expected = "\
 Normal (1, 1, 1, 1) (4096, 4096) 00000000 (0, 1)
 Normal (1, 1, 1, 1) (4096, 4097) 00000000 (0, 1)
 Normal (1, 1, 1, 1) (4096, 4096) 00000000 (0, 1)
 ";
-    play_three::<KvHost>(&rt, rt.alloc(), PAST, told);
+    play_three::<KvHost>(&rt, rt.alloc(), PAST, expected);
 }

@@ -1,4 +1,4 @@
-//! What is seen of a world: how its replicas stand, and what the step of an event brings.
+//! What is seen of a world: how its replicas stand, and what the step of an event delivers.
 
 ghost use Rattle.std.specs.Prelude.{◌≡◌};
 ghost use Rattle.schedule_text.specs.Rules.{rule_number};

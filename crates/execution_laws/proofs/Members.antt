@@ -65,7 +65,7 @@ added b (Req q) i r h = here (is_executed b q) refl i h
     here true e (suc i) h = absurd cc
     here false e i h = absurd cc
 
--- where the member at a place of the history stands in the log
+-- where the member at a place of the history is in the log
 pub record Stands (b log : List Entry) (i : ℕ) (r : Request) : Type 0 where
   pub before : List Entry
   pub rest : List Entry

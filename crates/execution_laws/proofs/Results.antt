@@ -51,7 +51,7 @@ module _ {S : Type 0} (m : Meaning S) where
   pub exec_of_next_slot : (log : List Entry) (i : ℕ) (e : Entry) → slice_get log i ≡ Some e
       → exec m (take (i + 1) log) ≡ enter_kept m (exec m (take i log)) e
   exec_of_next_slot log i e h =
-      let s : take (suc i) log ≡ take i log ++ e ∷ [] = (Splits-at log i e h).front in rw (add-one, s) (next_entry_by_kept m (take i log) e)
+      let s : take (suc i) log ≡ take i log ++ e ∷ [] = (Splits-at log i e h).prefix in rw (add-one, s) (next_entry_by_kept m (take i log) e)
 
   -- whether a result is kept for the request that comes last
   kept_where_served : (log : List Entry) (r : Request)
@@ -74,7 +74,7 @@ module _ {S : Type 0} (m : Meaning S) where
       → result_at m log s ≡ result_kept (kept_for (exec m (take s log)).table r.client) r.id
   result_is_kept log zero r h = absurd cc
   result_is_kept log (suc i) r h =
-      let upto : take (suc i) log ≡ take i log ++ Req r ∷ [] = (Splits-at log i (Req r) h).front in
+      let upto : take (suc i) log ≡ take i log ++ Req r ∷ [] = (Splits-at log i (Req r) h).prefix in
       rw (h, upto)
       (none_else (result_kept (kept_for (exec m (take i log ++ Req r ∷ [])).table r.client) r.id)
       (is_served (clients_of (take i log ++ Req r ∷ [])) r.client && not (is_stale WINDOW (ids_of r.client (take i log)) r.id))
@@ -92,7 +92,7 @@ module _ {S : Type 0} (m : Meaning S) where
       ≡ (is_served (clients_of (take s log)) r.client && not (is_stale WINDOW (ids_of r.client (take s log)) r.id))
   has_result_where_served log zero r h = absurd cc
   has_result_where_served log (suc i) r h =
-      let upto : take (suc i) log ≡ take i log ++ Req r ∷ [] = (Splits-at log i (Req r) h).front in
+      let upto : take (suc i) log ≡ take i log ++ Req r ∷ [] = (Splits-at log i (Req r) h).prefix in
       ap is_some (result_is_kept log (suc i) r h)
       ∙ rw upto
       (kept_where_served (take i log) r

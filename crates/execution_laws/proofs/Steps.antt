@@ -84,15 +84,15 @@ module _ {S : Type 0} (m : Meaning S) where
   exec_is_of_history log = exec_is_of_rest [] (opening m) log
 
   -- the answer at a place is that of the execution of the members before it
-  answer_is_after_front : (x : Executed S) (rs : List Request) (i : ℕ) (r : Request) → slice_get rs i ≡ Some r
+  answer_is_after_prefix : (x : Executed S) (rs : List Request) (i : ℕ) (r : Request) → slice_get rs i ≡ Some r
       → answer_from m x.host rs i ≡ Some (m.answer (execute_all m x (take i rs)).host r.op)
-  answer_is_after_front x [] i r h = absurd cc
-  answer_is_after_front x (q ∷ rs) zero r h = let same : q ≡ r = cc in rw same refl
-  answer_is_after_front x (q ∷ rs) (suc i) r h = answer_is_after_front (execute m x q) rs i r h
+  answer_is_after_prefix x [] i r h = absurd cc
+  answer_is_after_prefix x (q ∷ rs) zero r h = let same : q ≡ r = cc in rw same refl
+  answer_is_after_prefix x (q ∷ rs) (suc i) r h = answer_is_after_prefix (execute m x q) rs i r h
 
   pub answer_of_member : (rs : List Request) (i : ℕ) (r : Request) → slice_get rs i ≡ Some r
       → answer_at m rs i ≡ Some (m.answer (execute_all m (opening m) (take i rs)).host r.op)
-  answer_of_member rs i r h = answer_is_after_front (opening m) rs i r h
+  answer_of_member rs i r h = answer_is_after_prefix (opening m) rs i r h
 
   -- a result that is kept answers one of the requests
   record IsAnswer (s : S) (rs : List Request) (client id : ℕ) (result : List ℕ) : Type 0 where

@@ -23,7 +23,7 @@ module _ {S U : Type 0} (m : Meaning S) (undo_of : S → List ℕ → U) (begun 
   -- one more entry is one more step
   next_entry : (i : ℕ) (e : Entry) → slice_get entries i ≡ Some e → after (i + 1) ≡ enter_kept m (after i) e
   next_entry i e h =
-      let s : take (suc i) entries ≡ take i entries ++ e ∷ [] = (Splits-at entries i e h).front in
+      let s : take (suc i) entries ≡ take i entries ++ e ∷ [] = (Splits-at entries i e h).prefix in
       rw (add-one, s) (exec_kept_of_append m begun (take i entries) (e ∷ []))
 
   -- before the first slot
@@ -107,10 +107,10 @@ module _ {U : Type 0} where
   fit_push fits [] s h k = (k, tt)
   fit_push fits (t ∷ undos) s h k = (h.0, fit_push fits undos s h.1 k)
 
-  pub fit_front : (fits : U → Type 0) (undos : List (Option (SlotUndo U))) (s : Option (SlotUndo U)) → UndosFit fits (undos ++ s ∷ [])
+  pub fit_prefix : (fits : U → Type 0) (undos : List (Option (SlotUndo U))) (s : Option (SlotUndo U)) → UndosFit fits (undos ++ s ∷ [])
       → UndosFit fits undos × UndoFits fits s
-  fit_front fits [] s h = (tt, h.0)
-  fit_front fits (t ∷ undos) s h = let k = fit_front fits undos s h.1 in ((h.0, k.0), k.1)
+  fit_prefix fits [] s h = (tt, h.0)
+  fit_prefix fits (t ∷ undos) s h = let k = fit_prefix fits undos s h.1 in ((h.0, k.0), k.1)
 
   one_stays : (fits still : U → Type 0) → ((u : U) → fits u → still u) → (s : Option (SlotUndo U)) → UndoFits fits s → UndoFits still s
   one_stays fits still f None h = tt

@@ -1,5 +1,5 @@
 pub mod ExecutedLemmas
-pub mod FrontLemmas
+pub mod PrefixLemmas
 pub mod LimitLemmas
 pub mod ResultLemmas
 pub mod UndoLemmas

@@ -19,7 +19,7 @@ pub fn entry_is_undone<H: Host>()
 
 /// What was executed rests on the executed entries alone: it stays so where the log changes above them.
 pub fn executed_slots_are_enough<S, U>()
-    ensures front { (m : Meaning S) (undo_of : S → List ℕ → U) (begun : Executed S)
+    ensures prefix { (m : Meaning S) (undo_of : S → List ℕ → U) (begun : Executed S)
         (entries other : List Entry) (x : Executed S) (undos : List (Option (SlotUndo U)))
         → IsExecuted m undo_of begun entries x undos
         → take (length undos) other ≡ take (length undos) entries

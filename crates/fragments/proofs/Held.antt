@@ -8,7 +8,7 @@ use Rattle.std.proofs.lemmas.List.Elements.{All-get_or, All-weaker}
 use Rattle.std.proofs.lemmas.List.Sums.{sum_by-append, sum_by-le}
 use Rattle.nop_types.specs.declared.limits.TheConstants.{FRAGMENT_BYTES, MAX_FRAGMENTS, MAX_UNFINISHED}
 use Rattle.fragments.specs.Cutting.{piece}
-use Rattle.fragments.specs.Front.{front_parts, parts_of}
+use Rattle.fragments.specs.Prefix.{prefix_parts, parts_of}
 use Rattle.fragments.specs.Held.{held_in, held_of}
 use Rattle.fragments.specs.Joining.{Waiting}
 use Rattle.fragments.specs.Parts.{Partial, bytes_of}
@@ -19,25 +19,25 @@ part_len part = length (bytes_of part)
 
 -- ---- the front and what stands behind it
 
-piece_len : (front : List ℕ) (k : ℕ) → FRAGMENT_BYTES * suc k ≤ length front → length (piece front k) ≡ FRAGMENT_BYTES
+piece_len : (prefix : List ℕ) (k : ℕ) → FRAGMENT_BYTES * suc k ≤ length prefix → length (piece prefix k) ≡ FRAGMENT_BYTES
 unfolding piece
-piece_len front k le =
-    omega (arith, length-take FRAGMENT_BYTES (drop (FRAGMENT_BYTES * k) front), length-drop (FRAGMENT_BYTES * k) front)
+piece_len prefix k le =
+    omega (arith, length-take FRAGMENT_BYTES (drop (FRAGMENT_BYTES * k) prefix), length-drop (FRAGMENT_BYTES * k) prefix)
 
-front_sum : (front : List ℕ) (k : ℕ) → FRAGMENT_BYTES * k ≤ length front → sum_by part_len (front_parts front k) ≡ FRAGMENT_BYTES * k
-front_sum front zero le = refl
-front_sum front (suc k) le =
-    let before : sum_by part_len (front_parts front k) ≡ FRAGMENT_BYTES * k = front_sum front k (omega arith) in
-    let more = sum_by-append part_len (front_parts front k) (Some (piece front k) ∷ []) in
-    let here = piece_len front k le in
+prefix_sum : (prefix : List ℕ) (k : ℕ) → FRAGMENT_BYTES * k ≤ length prefix → sum_by part_len (prefix_parts prefix k) ≡ FRAGMENT_BYTES * k
+prefix_sum prefix zero le = refl
+prefix_sum prefix (suc k) le =
+    let before : sum_by part_len (prefix_parts prefix k) ≡ FRAGMENT_BYTES * k = prefix_sum prefix k (omega arith) in
+    let more = sum_by-append part_len (prefix_parts prefix k) (Some (piece prefix k) ∷ []) in
+    let here = piece_len prefix k le in
     omega (arith, before, more, here)
 
 -- a message's bytes are those of its front and of the parts behind it
-pub split_held : (front : List ℕ) (k : ℕ) (later : List (Option (List ℕ))) → length front ≡ FRAGMENT_BYTES * k
-    → length front + sum_by part_len (drop k later) ≡ sum_by part_len (parts_of front k later)
-split_held front k later size =
-    let both = sum_by-append part_len (front_parts front k) (drop k later) in
-    let first = front_sum front k (omega arith) in
+pub split_held : (prefix : List ℕ) (k : ℕ) (later : List (Option (List ℕ))) → length prefix ≡ FRAGMENT_BYTES * k
+    → length prefix + sum_by part_len (drop k later) ≡ sum_by part_len (parts_of prefix k later)
+split_held prefix k later size =
+    let both = sum_by-append part_len (prefix_parts prefix k) (drop k later) in
+    let first = prefix_sum prefix k (omega arith) in
     omega (arith, both, first, size)
 
 -- ---- limits

@@ -1,6 +1,6 @@
 pub mod Came
 pub mod Counting
-pub mod Fronts
+pub mod Prefixes
 pub mod Goes
 pub mod Held
 pub mod Limits

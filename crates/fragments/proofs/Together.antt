@@ -10,11 +10,11 @@ use Rattle.std.proofs.lemmas.Bool.{eq-eqb, ne_eqb}
 use Rattle.nop_types.specs.declared.limits.TheConstants.{FRAGMENT_BYTES}
 use Rattle.nop_types.specs.declared.datagram.Fragment.{Fragment}
 use Rattle.fragments.specs.Cutting.{piece, piece_count, fragment_at, first_fragments, fragments_of}
-use Rattle.fragments.specs.Front.{front_parts}
+use Rattle.fragments.specs.Prefix.{prefix_parts}
 use Rattle.fragments.specs.Parts.{Partial, missing, is_open, whole, with_part}
 use Rattle.fragments.specs.Joining.{Waiting, place, placed, joined, taken, at_sender, opening, is_in_range}
 use Rattle.fragments.specs.Runs.{after_all, answered, CanBeCut}
-use Rattle.fragments.proofs.Fronts.{front_len, whole_taken}
+use Rattle.fragments.proofs.Prefixes.{prefix_len, whole_taken}
 use Rattle.fragments.proofs.Counting.{missing_replicate}
 use Rattle.fragments.proofs.Goes.{found_last, found_more}
 use Rattle.fragments.proofs.Limits.{fragment_fits, fitting_is_in_range}
@@ -23,42 +23,42 @@ use Rattle.fragments.proofs.Whole.{enough}
 -- ---- the first `k` parts of a message, and `j` that are missing
 
 abbrev parts_at : List ℕ → ℕ → ℕ → List (Option (List ℕ))
-parts_at bytes k j = front_parts bytes k ++ replicate j None
+parts_at bytes k j = prefix_parts bytes k ++ replicate j None
 
 len_at : (bytes : List ℕ) (k j : ℕ) → length (parts_at bytes k j) ≡ k + j
 len_at bytes k j = let none : Option (List ℕ) = None in
-    omega (arith, length-append (front_parts bytes k) (replicate j none), front_len bytes k, length-replicate j none)
+    omega (arith, length-append (prefix_parts bytes k) (replicate j none), prefix_len bytes k, length-replicate j none)
 
 missing-append : (xs ys : List (Option (List ℕ))) → missing (xs ++ ys) ≡ missing xs + missing ys
 missing-append [] ys = omega arith
 missing-append (None ∷ xs) ys = omega (arith, missing-append xs ys)
 missing-append (Some x ∷ xs) ys = missing-append xs ys
 
-missing_front : (bytes : List ℕ) (k : ℕ) → missing (front_parts bytes k) ≡ 0
-missing_front bytes zero = refl
-missing_front bytes (suc k) = missing-append (front_parts bytes k) (Some (piece bytes k) ∷ []) ∙ rw (missing_front bytes k) refl
+missing_prefix : (bytes : List ℕ) (k : ℕ) → missing (prefix_parts bytes k) ≡ 0
+missing_prefix bytes zero = refl
+missing_prefix bytes (suc k) = missing-append (prefix_parts bytes k) (Some (piece bytes k) ∷ []) ∙ rw (missing_prefix bytes k) refl
 
 missing_at : (bytes : List ℕ) (k j : ℕ) → missing (parts_at bytes k j) ≡ j
-missing_at bytes k j = omega (arith, missing-append (front_parts bytes k) (replicate j None), missing_front bytes k, missing_replicate j)
+missing_at bytes k j = omega (arith, missing-append (prefix_parts bytes k) (replicate j None), missing_prefix bytes k, missing_replicate j)
 
 open_at : (bytes : List ℕ) (k j : ℕ) → is_open (parts_at bytes k (suc j)) k ≡ true
 open_at bytes k j =
     let none : k - k ≡ 0 = omega arith in
-    rw (get_or-append_right (front_parts bytes k) (replicate (suc j) None) k k (Some []) (front_len bytes k) (omega arith), none) refl
+    rw (get_or-append_right (prefix_parts bytes k) (replicate (suc j) None) k k (Some []) (prefix_len bytes k) (omega arith), none) refl
 
 set_at : (bytes : List ℕ) (k j : ℕ) → set (parts_at bytes k (suc j)) k (Some (piece bytes k)) ≡ parts_at bytes (suc k) j
 set_at bytes k j =
-    let a = front_parts bytes k in
+    let a = prefix_parts bytes k in
     let x : Option (List ℕ) = Some (piece bytes k) in
     let rest : List (Option (List ℕ)) = replicate j None in
     let none : k - k ≡ 0 = omega arith in
     let moved : set (a ++ (None ∷ rest)) k x ≡ a ++ set (None ∷ rest) (k - k) x =
-    set-append_right a (None ∷ rest) k k x (front_len bytes k) (omega arith) in
+    set-append_right a (None ∷ rest) k k x (prefix_len bytes k) (omega arith) in
     moved ∙ rw none (sym (append_assoc a (x ∷ []) rest))
 
 whole_at : (bytes : List ℕ) (k : ℕ) → piece_count bytes ≡ k → whole (parts_at bytes k 0) ≡ bytes
 whole_at bytes k e =
-    ap whole (append-nil (front_parts bytes k)) ∙ whole_taken bytes k ∙ take_all (FRAGMENT_BYTES * k) bytes (rw (← e) (enough bytes))
+    ap whole (append-nil (prefix_parts bytes k)) ∙ whole_taken bytes k ∙ take_all (FRAGMENT_BYTES * k) bytes (rw (← e) (enough bytes))
 
 -- ---- one step at the sender
 

@@ -1,5 +1,5 @@
 pub mod Cutting
-pub mod Front
+pub mod Prefix
 pub mod Held
 pub mod Joining
 pub mod Parts

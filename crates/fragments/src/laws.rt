@@ -81,7 +81,7 @@ pub fn fitting_is_in_range()
     ensures { (f : Fragment) → FragmentFits f → is_in_range f ≡ true }
 {}
 
-/// No fragment brings more unfinished messages, parts or bytes than the limits allow.
+/// No fragment delivers more unfinished messages, parts or bytes than the limits allow.
 pub fn stays_within_limits()
     ensures opened { (n : ℕ) → All WaitingFits (opening n) }
     ensures taken { (all : List Waiting) (f : Fragment) → All WaitingFits all

@@ -1,7 +1,7 @@
 ghost use Rattle.std.specs.Prelude.{◌≡◌, ◌+◌, ◌*◌, ◌<◌, ◌≤◌, ◌^◌, ◌++◌, true, length, replicate, set, take, sum_by};
 ghost use Rattle.std.specs.Prelude.{IfOk, OnOk, OnErr, None, Some};
 ghost use Rattle.fragments.specs.Parts.{missing, is_open, bytes_of, whole, with_part};
-ghost use Rattle.fragments.specs.Front.{parts_of};
+ghost use Rattle.fragments.specs.Prefix.{parts_of};
 ghost use Rattle.fragments.specs.Held.{held_in};
 
 use nop_types::{Bytes, FRAGMENT_BYTES, NoMemory};
@@ -18,7 +18,7 @@ const PARTS_AHEAD: usize = 64;
 pub(crate) struct Unfinished {
     number: u64,
     /// The bytes of the first parts, with no gap, and how many parts they are.
-    front: Vec<u8>,
+    prefix: Vec<u8>,
     filled: usize,
     /// A place for each part. Those of the first parts are empty.
     later: Vec<Option<Bytes>>,
@@ -27,14 +27,14 @@ pub(crate) struct Unfinished {
 
 impl Model for Unfinished {
     ghost use Rattle.fragments.specs.Parts.{Partial};
-    ghost use Rattle.fragments.specs.Front.{parts_of, IsSplit};
+    ghost use Rattle.fragments.specs.Prefix.{parts_of, IsSplit};
 
     ghost Value = { Partial };
 
     ghost view = { λ u.
-        record { number = u.number; parts = parts_of u.front.items u.filled u.later.items } };
+        record { number = u.number; parts = parts_of u.prefix.items u.filled u.later.items } };
 
-    ghost invariant = { λ u. IsSplit u.front.items u.filled u.later.items u.missing };
+    ghost invariant = { λ u. IsSplit u.prefix.items u.filled u.later.items u.missing };
 }
 
 fn empty_parts(alloc: Global, count: u16) -> Result<Vec<Option<Bytes>>, NoMemory>
@@ -62,7 +62,7 @@ fn append_part(to: &mut Vec<u8>, part: &Option<Bytes>) -> Result<(), NoMemory>
 /// Puts the parts that came behind these bytes. After an error some of them stand there.
 fn append_parts(to: &mut Vec<u8>, parts: &[Option<Bytes>]) -> Result<(), NoMemory>
     ensures ok { OnOk result (to.new.items ≡ to.old.items ++ whole parts.now) }
-    ensures front { take (length to.old.items) to.new.items ≡ to.old.items }
+    ensures prefix { take (length to.old.items) to.new.items ≡ to.old.items }
 {
     for part in parts {
         append_part(to, part)?;
@@ -71,7 +71,7 @@ fn append_parts(to: &mut Vec<u8>, parts: &[Option<Bytes>]) -> Result<(), NoMemor
 }
 
 /// Puts the parts that came behind these bytes, with this one at its place. After an error some of them stand there.
-#[tactic(auto, using(crate::proofs::Pieces::front_through))]
+#[tactic(auto, using(crate::proofs::Pieces::prefix_through))]
 fn append_with(
     to: &mut Vec<u8>,
     parts: &[Option<Bytes>],
@@ -81,7 +81,7 @@ fn append_with(
     requires { index < length parts.now }
     ensures ok { OnOk result (to.new.items ≡ to.old.items
         ++ whole (set parts.now index (Some payload.now))) }
-    ensures front { take (length to.old.items) to.new.items ≡ to.old.items }
+    ensures prefix { take (length to.old.items) to.new.items ≡ to.old.items }
 {
     let (before, rest) = parts.split_at(index);
     let (_, after) = rest.split_at(1);
@@ -145,19 +145,19 @@ fn bytes_in(parts: &[Option<Bytes>]) -> u64
 }
 
 /// Moves parts that came early behind the front, as far as they go on without a gap and memory lasts.
-fn gather(front: &mut Vec<u8>, filled: usize, later: &mut Vec<Option<Bytes>>) -> usize
-    requires size { length front.old.items ≡ FRAGMENT_BYTES * filled }
+fn gather(prefix: &mut Vec<u8>, filled: usize, later: &mut Vec<Option<Bytes>>) -> usize
+    requires size { length prefix.old.items ≡ FRAGMENT_BYTES * filled }
     requires within { filled ≤ length later.old.items }
-    ensures same { parts_of front.new.items result later.new.items
-        ≡ parts_of front.old.items filled later.old.items }
-    ensures size { length front.new.items ≡ FRAGMENT_BYTES * result }
+    ensures same { parts_of prefix.new.items result later.new.items
+        ≡ parts_of prefix.old.items filled later.old.items }
+    ensures size { length prefix.new.items ≡ FRAGMENT_BYTES * result }
     ensures within { result ≤ length later.new.items }
 {
     let mut at = filled;
     while at < later.len() {
         match &later[at] {
             Some(bytes) if bytes.as_slice().len() == FRAGMENT_BYTES => {
-                if front.extend_from_slice(bytes.as_slice()).is_err() {
+                if prefix.extend_from_slice(bytes.as_slice()).is_err() {
                     return at;
                 }
             }
@@ -176,10 +176,10 @@ impl Unfinished {
             ≡ record { number = number; parts = replicate count None }) }
     {
         let later = empty_parts(alloc, count)?;
-        let front = Vec::with_capacity(alloc, FRAGMENT_BYTES * PARTS_AHEAD.min(count as usize))?;
+        let prefix = Vec::with_capacity(alloc, FRAGMENT_BYTES * PARTS_AHEAD.min(count as usize))?;
         Ok(Unfinished {
             number,
-            front,
+            prefix,
             filled: 0,
             later,
             missing: count as usize,
@@ -192,7 +192,7 @@ impl Unfinished {
         self.number
     }
 
-    #[tactic(auto, using(crate::proofs::Fronts::parts_len))]
+    #[tactic(auto, using(crate::proofs::Prefixes::parts_len))]
     pub(crate) fn count(&self) -> usize
         ensures { result ≡ length self.now.parts }
     {
@@ -211,7 +211,7 @@ impl Unfinished {
         ensures { result ≡ held_in self.now }
     {
         let (_, rest) = self.later.split_at(self.filled);
-        self.front.len() as u64 + bytes_in(rest)
+        self.prefix.len() as u64 + bytes_in(rest)
     }
 
     /// Whether there is such an index and its part has not come.
@@ -230,9 +230,9 @@ impl Unfinished {
         ensures err { OnErr result (self.new ≡ self.old) }
     {
         if index == self.filled && payload.as_slice().len() == FRAGMENT_BYTES {
-            self.front.extend_from_slice(payload.as_slice())?;
+            self.prefix.extend_from_slice(payload.as_slice())?;
             self.missing -= 1;
-            self.filled = gather(&mut self.front, self.filled + 1, &mut self.later);
+            self.filled = gather(&mut self.prefix, self.filled + 1, &mut self.later);
             return Ok(());
         }
         let payload = payload.try_clone()?;
@@ -249,9 +249,9 @@ impl Unfinished {
         ensures err { OnErr result (self.new ≡ self.old) }
     {
         let (_, rest) = self.later.split_at(self.filled);
-        append_whole(&mut self.front, rest, index - self.filled, payload)?;
-        let alloc = *self.front.allocator();
-        let bytes = mem::replace(&mut self.front, Vec::new(alloc));
+        append_whole(&mut self.prefix, rest, index - self.filled, payload)?;
+        let alloc = *self.prefix.allocator();
+        let bytes = mem::replace(&mut self.prefix, Vec::new(alloc));
         self.filled = 0;
         self.later = Vec::new(alloc);
         self.missing = 0;

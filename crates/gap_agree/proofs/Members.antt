@@ -1,4 +1,4 @@
--- Who stands in a list of votes.
+-- Who is in a list of votes.
 use Rattle.std.proofs.Common.{◌≡◌, ℕ, zero, suc, ◌<◌, Bool, true, false, List, [], ◌∷◌, Some, refl, ap, ◌∙◌, sym, arith, inl, inr}
 use Rattle.std.specs.Prelude.{◌==◌, ◌||◌, ◌&&◌, ◌⊎◌, ◌↔◌, slice_get}
 use Rattle.std.specs.List.{range_with_len}

@@ -12,5 +12,5 @@ abbrev pub begun : ℕ → ℕ → Agreement
 begun slot f = record { slot = slot; f = f; votes = [] }
 
 -- after a vote of the replica q
-abbrev pub counted : Agreement → ℕ → Agreement
-counted g q = record g { votes = with_vote g.votes q }
+abbrev pub gap_vote_counted : Agreement → ℕ → Agreement
+gap_vote_counted g q = record g { votes = with_vote g.votes q }

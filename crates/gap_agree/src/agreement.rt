@@ -1,7 +1,7 @@
 ghost use Rattle.std.specs.Prelude.{◌≡◌, ◌<◌};
 ghost use Rattle.nop_types.specs.Lists.{Has};
 ghost use Rattle.gap_agree.specs.Votes.{vote_of};
-ghost use Rattle.gap_agree.specs.Agreement.{begun, counted};
+ghost use Rattle.gap_agree.specs.Agreement.{begun, gap_vote_counted};
 
 use crate::Votes;
 use nop_types::{MAX_REPLICAS, Vote};
@@ -44,7 +44,7 @@ impl Gap {
     /// Counts the vote of another replica, and says whether at least `f` voted by now.
     pub fn on_rep(&mut self, sender: u8) -> Vote
         requires { sender < MAX_REPLICAS }
-        ensures after { self.new ≡ counted self.old sender }
+        ensures after { self.new ≡ gap_vote_counted self.old sender }
         ensures again { Has self.old.votes sender → self.new ≡ self.old }
         ensures vote { result ≡ vote_of self.new.f self.new.votes }
     {

@@ -76,7 +76,7 @@ module _ {S : Type 0} (m : Meaning S) where
   IsChecked before left (Err errors.ReadFault) = IsInterrupted before left
   IsChecked before left (Err errors.NoMemory) = ⊤
 
-  -- where the source tells its bytes, those of a legal transcript are not refuted
+  -- where the source is observable, those of a legal transcript are not refuted
   abbrev pub PassesLegal : Option (List ℕ) → Result Tally CheckError → Type 0
   PassesLegal None r = ⊤
   PassesLegal (Some bytes) (Ok tally) = ⊤
@@ -106,10 +106,10 @@ IsFoundAt s count (broken.Unfounded k) line clause = (clause ≡ 5) × (slice_ge
 IsFoundAt s count (broken.Overtaking k) line clause = (clause ≡ 6) × (slice_get s.places k ≡ Some line)
 IsFoundAt s count broken.NoMemory line clause = ⊥
 
-abbrev pub Tells : SoFar → ℕ → Broken → CheckError → Type 0
-Tells s count place (errors.Refuted line clause) = IsFoundAt s count place line clause
-Tells s count place errors.ReadFault = ⊥
-Tells s count place errors.NoMemory = ⊤
+abbrev pub Reports : SoFar → ℕ → Broken → CheckError → Type 0
+Reports s count place (errors.Refuted line clause) = IsFoundAt s count place line clause
+Reports s count place errors.ReadFault = ⊥
+Reports s count place errors.NoMemory = ⊤
 
 abbrev pub IsJudged : {S : Type 0} → Meaning S → SoFar → ℕ → Result Tally CheckError → Type 0
 IsJudged m s count (Ok tally) = Legal m s.said s.history × IsTallyOf s.said s.history tally

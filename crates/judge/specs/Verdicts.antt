@@ -2,7 +2,7 @@
 use Rattle.std.specs.Prelude.{ℕ, List, [], ◌∷◌, Option, Result, Ok, Err, codes, decimal}
 use Rattle.std.specs.Io.KnownBytes.{Appends}
 use Rattle.judge.specs.declared.tally.Tally.{Tally}
-use Rattle.outside.specs.Fronts.{AppendsFront, AppendsUpTo}
+use Rattle.outside.specs.Prefixes.{AppendsPrefix, AppendsUpTo}
 use Rattle.outside.specs.declared.errors.DeviceError.{DeviceError}
 use Rattle.outside.specs.declared.errors.DeviceError.TheVariants as faults
 use Rattle.transcript_reader.specs.declared.check_error.CheckError.{CheckError}
@@ -20,5 +20,5 @@ verdict_line (Err errors.NoMemory) = []
 -- the line was written; at a fault a front that is not all, and without memory a front, perhaps all
 abbrev pub WritesVerdict : {T : Type 0} → List ℕ → Result T DeviceError → Option (List ℕ) → Option (List ℕ) → Type 0
 WritesVerdict line (Ok t) before now = Appends before now line
-WritesVerdict line (Err faults.Failed) before now = AppendsFront before now line
+WritesVerdict line (Err faults.Failed) before now = AppendsPrefix before now line
 WritesVerdict line (Err faults.NoMemory) before now = AppendsUpTo before now line

@@ -5,7 +5,7 @@ ghost use Rattle.outside.specs.Causes.{CountsFor};
 ghost use Rattle.transcript_reader.specs.Claims.{line_of, lines_of};
 ghost use Rattle.transcript_reader.specs.Steps.{so_far};
 ghost use Rattle.judge.specs.Checking.{submits, accepts, IsChecked, IsJudged, IsNumbered, IsTallyOf};
-ghost use Rattle.judge.specs.Checking.{IsWithin, PassesLegal, Tells};
+ghost use Rattle.judge.specs.Checking.{IsWithin, PassesLegal, Reports};
 
 use crate::broken::Broken;
 use crate::deciding::decide;
@@ -70,7 +70,7 @@ fn claim_line(places: &[u32], place: usize) -> u32
 fn refutation(broken: Broken, taken: &Taken, lines: u32) -> CheckError
     requires numbered { IsNumbered (so_far taken.now) lines }
     requires within { IsWithin (so_far taken.now) broken }
-    ensures { Tells (so_far taken.now) lines broken result }
+    ensures { Reports (so_far taken.now) lines broken result }
 {
     let members = taken.history.len();
     let (line, clause) = match broken {

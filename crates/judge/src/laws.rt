@@ -9,7 +9,7 @@ ghost use Rattle.judge.specs.Breaks.{Breaks};
 ghost use Rattle.judge.specs.declared.broken.Broken.{Broken};
 ghost use Rattle.judge.specs.declared.broken.Broken.TheVariants as broken;
 ghost use Rattle.transcript_reader.specs.Transcripts.{said_by};
-ghost use Rattle.transcript_rows.specs.Told.{row_of};
+ghost use Rattle.transcript_rows.specs.LineRows.{row_of};
 
 /// What is broken is not legal, so legal lines are never refused.
 #[tactic(auto, using(crate::proofs::Illegal::broken_is_illegal))]

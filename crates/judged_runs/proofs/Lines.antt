@@ -34,7 +34,7 @@ use Rattle.world.specs.Others.{Kind, Sequencers, Clients, Controllers, State, ne
 use Rattle.world.specs.Others.{Who, AReplica, Another, who, actor_at}
 use Rattle.world.specs.Seats.{Seated, seated, Stimulus, Takes, Crashes, moved_if, seat_step}
 use Rattle.world.specs.WorldSteps.{WorldState, Happened, Refusal, actor_of, stimulus_of, tick_if, datagram_at, junk_of, at_replica}
-use Rattle.world.specs.WorldSteps.{at_other, step_of, step, go_on, run_from, run, opening, counted, opening_client, opening_others}
+use Rattle.world.specs.WorldSteps.{at_other, step_of, step, go_on, run_from, run, opening, numbered_seats, opening_client, opening_others}
 use Rattle.world.proofs.Others.{others_become}
 use Rattle.world.proofs.Refusals.{opening_has_actors}
 use Rattle.whole_world.proofs.Seats.{seats_become}
@@ -117,7 +117,7 @@ abbrev OtherIs : (k : Kind) → ℕ → State k → Type 0
 OtherIs Clients i s = ClientIs i s.requests
 OtherIs _ i s = ⊤
 
-pub record Told (c : Configuration) (w : WorldState) (ls : List Line) : Type 0 where
+pub record LinesShow (c : Configuration) (w : WorldState) (ls : List Line) : Type 0 where
   pub replicas : length w.replicas ≡ c.replicas
   pub others : (k : Kind) → length (seats k w.others) ≡ count k c
   pub own : (k : Kind) (i : ℕ) (q : Seated (State k)) → slice_get (seats k w.others) i ≡ Some q → OtherIs k i q.state
@@ -136,14 +136,14 @@ record Tells (c : Configuration) (w : WorldState) (h : Happened) : Type 0 where
   others : (k : Kind) → length (seats k h.world.others) ≡ length (seats k w.others)
   own : (k : Kind) (i : ℕ) (q : Seated (State k)) → slice_get (seats k h.world.others) i ≡ Some q → OtherIs k i q.state
 
-told_on : (c : Configuration) (w : WorldState) (ls : List Line) (h : Happened) → Told c w ls → Tells c w h → Told c h.world (ls ++ h.lines)
-told_on c w ls h told t = record {
-  replicas = t.replicas ∙ told.replicas;
-  others = λ k. t.others k ∙ told.others k;
+shown_on : (c : Configuration) (w : WorldState) (ls : List Line) (h : Happened) → LinesShow c w ls → Tells c w h → LinesShow c h.world (ls ++ h.lines)
+shown_on c w ls h lines_show t = record {
+  replicas = t.replicas ∙ lines_show.replicas;
+  others = λ k. t.others k ∙ lines_show.others k;
   own = t.own;
   count = omega (
     arith,
-    told.count,
+    lines_show.count,
     did_count t.from t.did (length w.sent),
     ap length t.sent,
     length-append w.sent (sends_by t.from t.did),
@@ -151,7 +151,7 @@ told_on c w ls h told t = record {
     length-append ls h.lines,
   );
   lines = λ l i. subst (λ (s : List Sent). LineIs c s l) (sym t.sent) (elim (Has-append_cases ls h.lines l i) [
-    | inl before ↦ still_line c w.sent (sends_by t.from t.did) l (told.lines l before)
+    | inl before ↦ still_line c w.sent (sends_by t.from t.did) l (lines_show.lines l before)
     | inr now ↦ did_tell c t.from t.there t.did t.tells w.sent l (subst (λ (xs : List Line). Has xs l) t.lines now)
   ]);
 }
@@ -185,26 +185,26 @@ is_there : (c : Configuration) (k : Kind) (i : ℕ) → i < count k c → IsActo
 is_there c Sequencers i within = within
 is_there c _ i within = within
 
-module _ {S : Type 0} (m : Meaning S) (c : Configuration) (w : WorldState) (ls : List Line) (told : Told c w ls) where
+module _ {S : Type 0} (m : Meaning S) (c : Configuration) (w : WorldState) (ls : List Line) (lines_show : LinesShow c w ls) where
   replica_step : (i : ℕ) (old : Seated Replica) (what : Stimulus) → slice_get w.replicas i ≡ Some old
       → Tells c w (at_replica w i (seat_step (replica.next m) old what))
   replica_step i old what there = record {
     from = actors.Replica i;
-    there = omega (arith, slice_get_within w.replicas i old there, told.replicas);
+    there = omega (arith, slice_get_within w.replicas i old there, lines_show.replicas);
     did = (seat_step (replica.next m) old what).1;
     tells = seat_tells c (replica.next m) old old.crashed what (λ given is. replica_tells m c old.state given);
     sent = refl;
     lines = refl;
     replicas = length-set w.replicas i (seat_step (replica.next m) old what).0;
     others = λ k. refl;
-    own = told.own;
+    own = lines_show.own;
   }
 
   other_step : (k : Kind) (i : ℕ) (old : Seated (State k)) (what : Stimulus) → slice_get (seats k w.others) i ≡ Some old
       → StimulusIs what → Tells c w (at_other k w i (seat_step (next k) old what))
   other_step k i old what there fits =
-      let within : i < count k c = omega (arith, slice_get_within (seats k w.others) i old there, told.others k) in
-      let t = other_seat c k i within old (told.own k i old there) old.crashed what fits in
+      let within : i < count k c = omega (arith, slice_get_within (seats k w.others) i old there, lines_show.others k) in
+      let t = other_seat c k i within old (lines_show.own k i old there) old.crashed what fits in
       let new : Seated (State k) = (seat_step (next k) old what).0 in
       let ps : List (Seated (State k)) = slice_set (seats k w.others) i new in
       record {
@@ -218,7 +218,7 @@ module _ {S : Type 0} (m : Meaning S) (c : Configuration) (w : WorldState) (ls :
         others = others_become (λ j qs. length qs ≡ length (seats j w.others)) w.others k ps
             (length-set (seats k w.others) i new) (λ j. refl);
         own = others_become (λ j qs. (n : ℕ) (q : Seated (State j)) → slice_get qs n ≡ Some q → OtherIs j n q.state) w.others k ps
-            (seats_become (OtherIs k) (OtherIs k) (seats k w.others) i new t.1 (λ n s other h. h) (told.own k)) told.own;
+            (seats_become (OtherIs k) (OtherIs k) (seats k w.others) i new t.1 (λ n s other h. h) (lines_show.own k)) lines_show.own;
       }
 
   actor_step : (x : Who) (r : Result Stimulus Refusal) (h : Happened) → ((what : Stimulus) → r ≡ Ok what → StimulusIs what)
@@ -258,47 +258,47 @@ event_is c sent (events.Crash actor) read what e = let same : Crashes ≡ what =
 event_is c sent (events.Junk actor bytes) read what e = junk_is bytes (reading bytes) what e
 
 module _ {S : Type 0} (m : Meaning S) (c : Configuration) where
-  event_told : (w : WorldState) (ls : List Line) → Told c w ls → (x : Event) → EventFits x × OpIsBytes x → (h : Happened)
-      → step m w x ≡ Ok h → Told c h.world (ls ++ h.lines)
+  event_shown : (w : WorldState) (ls : List Line) → LinesShow c w ls → (x : Event) → EventFits x × OpIsBytes x → (h : Happened)
+      → step m w x ≡ Ok h → LinesShow c h.world (ls ++ h.lines)
   unfolding step
-  event_told w ls told x read h e =
-      told_on c w ls h told
-      (actor_step m c w ls told (who (actor_of x)) (stimulus_of w.config w.sent x) h (event_is w.config w.sent x read) e)
+  event_shown w ls lines_show x read h e =
+      shown_on c w ls h lines_show
+      (actor_step m c w ls lines_show (who (actor_of x)) (stimulus_of w.config w.sent x) h (event_is w.config w.sent x read) e)
 
-  told_then : (x : Event) (es : List Event) (w : WorldState) (ls : List Line) (h : Happened) → Told c w ls → EventFits x × OpIsBytes x
-      → ((v : WorldState) (more : List Line) → Told c v more → run_from m more v es ≡ Ok h → Told c h.world h.lines)
-      → (r : Result Happened Refusal) → step m w x ≡ r → go_on m ls r (λ more v. run_from m more v es) ≡ Ok h → Told c h.world h.lines
-  told_then x es w ls h told read rest (Err refusal) is e = absurd cc
-  told_then x es w ls h told read rest (Ok g) is e = rest g.world (ls ++ g.lines) (event_told w ls told x read g is) e
+  shown_then : (x : Event) (es : List Event) (w : WorldState) (ls : List Line) (h : Happened) → LinesShow c w ls → EventFits x × OpIsBytes x
+      → ((v : WorldState) (more : List Line) → LinesShow c v more → run_from m more v es ≡ Ok h → LinesShow c h.world h.lines)
+      → (r : Result Happened Refusal) → step m w x ≡ r → go_on m ls r (λ more v. run_from m more v es) ≡ Ok h → LinesShow c h.world h.lines
+  shown_then x es w ls h lines_show read rest (Err refusal) is e = absurd cc
+  shown_then x es w ls h lines_show read rest (Ok g) is e = rest g.world (ls ++ g.lines) (event_shown w ls lines_show x read g is) e
 
-  told_from : (es : List Event) (w : WorldState) (ls : List Line) (h : Happened) → Told c w ls → AreRead es → run_from m ls w es ≡ Ok h
-      → Told c h.world h.lines
-  told_from [] w ls h told read e =
+  shown_from : (es : List Event) (w : WorldState) (ls : List Line) (h : Happened) → LinesShow c w ls → AreRead es → run_from m ls w es ≡ Ok h
+      → LinesShow c h.world h.lines
+  shown_from [] w ls h lines_show read e =
       let same : record { world = w; lines = ls } ≡ h = cc in
-      subst (λ (t : Happened). Told c t.world t.lines) same told
-  told_from (x ∷ es) w ls h told read e =
-      told_then x es w ls h told read.0 (λ v more t g. told_from es v more h t read.1 g) (step m w x) refl e
+      subst (λ (t : Happened). LinesShow c t.world t.lines) same lines_show
+  shown_from (x ∷ es) w ls h lines_show read e =
+      shown_then x es w ls h lines_show read.0 (λ v more t g. shown_from es v more h t read.1 g) (step m w x) refl e
 
 -- ---- the opening
 
-counted_length : {S : Type 0} (make : ℕ → S) (n : ℕ) → length (counted make n) ≡ n
+counted_length : {S : Type 0} (make : ℕ → S) (n : ℕ) → length (numbered_seats make n) ≡ n
 counted_length make zero = refl
 counted_length make (suc n) =
-    let h = counted_length make n in omega (arith, h, length-append (counted make n) (seated (make n) ∷ []))
+    let h = counted_length make n in omega (arith, h, length-append (numbered_seats make n) (seated (make n) ∷ []))
 
-opening_own : (c : Configuration) (n k : ℕ) (q : Seated Client) → slice_get (counted (opening_client c) n) k ≡ Some q
+opening_own : (c : Configuration) (n k : ℕ) (q : Seated Client) → slice_get (numbered_seats (opening_client c) n) k ≡ Some q
     → ClientIs k q.state.requests
 opening_own c zero k q h = absurd cc
 opening_own c (suc n) k q h =
-    elim (slice_get-push_cases (counted (opening_client c) n) (seated (opening_client c n)) k q h) [
+    elim (slice_get-push_cases (numbered_seats (opening_client c) n) (seated (opening_client c n)) k q h) [
       | inl before ↦ opening_own c n k q before.1
       | inr last ↦
           let here : k ≡ n = last.0 ∙ counted_length (opening_client c) n in
           subst (λ (s : Seated Client). ClientIs k s.state.requests) last.1 (record { number = sym here; waits = refl })
     ]
 
-opening_told : (c : Configuration) → Told c (opening c) []
-opening_told c = record {
+opening_shown : (c : Configuration) → LinesShow c (opening c) []
+opening_shown c = record {
   replicas = (opening_has_actors c).replicas;
   others = (opening_has_actors c).others;
   own = λ k. own k;
@@ -311,5 +311,5 @@ opening_told c = record {
     own _ i q h = tt
 
 pub runs_tell : {S : Type 0} (m : Meaning S) (c : Configuration) (es : List Event) (h : Happened) → AreRead es → run m c es ≡ Ok h
-    → Told c h.world h.lines
-runs_tell m c es h read e = told_from m c es (opening c) [] h (opening_told c) read e
+    → LinesShow c h.world h.lines
+runs_tell m c es h read e = shown_from m c es (opening c) [] h (opening_shown c) read e

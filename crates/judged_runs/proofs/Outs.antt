@@ -98,7 +98,7 @@ module _ {S : Type 0} (m : Meaning S) (c : Configuration) where
   row_are false s a = tt
 
   sender_are : (b : Bool) (s : Replica) (p : Peer) → OutsAre c (replica.of_sender_if m b s p).1
-  sender_are true s p = row_are (nat_lt s.messages LAST_MESSAGE) s (messages.Told p)
+  sender_are true s p = row_are (nat_lt s.messages LAST_MESSAGE) s (messages.PeerMessage p)
   sender_are false s p = tt
 
   read_are : (s : Replica) (q : ℕ) (r : Result Peer BadPeer) → OutsAre c (replica.read m s q r).1

@@ -4,7 +4,7 @@ use Rattle.std.proofs.Common.{Bool, false, Option, Some, None}
 use Rattle.std.specs.Prelude.{◌↔◌, cond, count_by, Result, Ok, Err}
 use Rattle.std.proofs.lemmas.List.{append_cancel_left}
 use Rattle.std.proofs.lemmas.List.Sums.{sum_by-cons}
-use Rattle.judge.proofs.ToldLines.{rows_claim, runs_are_judged}
+use Rattle.judge.proofs.LineRows.{rows_claim, runs_are_judged}
 use Rattle.judge.specs.Checking.{IsChecked, IsTallyOf, IsLegalText, IsPassed, PassesLegal, submits, accepts}
 use Rattle.judge.specs.Saying.{claiming, claims_something}
 use Rattle.judge.specs.declared.tally.Tally.{Tally}

@@ -24,7 +24,7 @@ use Rattle.nop_types.specs.declared.view.View.{View}
 use Rattle.network.specs.Network.{Sent}
 use Rattle.replay.specs.Destinations.{IsDestOf}
 use Rattle.transcript_rows.specs.Rows.{actor_fits, dest_fits, pair_fits, request_fits, entry_fits, row_fits, IsTypedRequest, RowFits}
-use Rattle.transcript_rows.specs.Told.{row_of}
+use Rattle.transcript_rows.specs.LineRows.{row_of}
 use Rattle.transcript_rows.specs.declared.row.Row.TheVariants.{Dead, Submit, Accept, Busy, State, Slot, Member}
 use Rattle.transcript_rows.specs.declared.row.Row.TheVariants as rows
 use Rattle.transcript_rows.specs.declared.row.TheConstants.{MAX_SENT_BYTES}

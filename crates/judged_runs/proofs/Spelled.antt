@@ -27,8 +27,8 @@ use Rattle.nop_types.specs.declared.request.Entry.{Entry}
 use Rattle.nop_types.specs.declared.request.Entry.TheVariants.{NoOp, Req}
 use Rattle.nop_types.specs.declared.request.Request.{Request}
 use Rattle.protocol.specs.Conf.{Conf}
-use Rattle.protocol.specs.Member.{Member}
-use Rattle.refinement.specs.Projection.{member_of}
+use Rattle.protocol.specs.LocalState.{LocalState}
+use Rattle.refinement.specs.Projection.{local_state_of}
 use Rattle.replica_core.specs.ReplicaSteps.{Replica}
 use Rattle.replica_rows.specs.Within.{ResultsShort}
 use Rattle.replica_state.specs.State.{PointsMeet}
@@ -44,7 +44,7 @@ use Rattle.network.specs.Network.{Sent}
 use Rattle.transcript_reader.specs.Transcripts.{Transcript, Spells, AllFit, is_event, is_state, members, body, transcript_lines}
 use Rattle.transcript_reader.specs.declared.limits.TheConstants.{MAX_TRANSCRIPT_LINES}
 use Rattle.transcript_rows.specs.Rows.{RowFits, row_text}
-use Rattle.transcript_rows.specs.Told.{row_of}
+use Rattle.transcript_rows.specs.LineRows.{row_of}
 use Rattle.transcript_rows.specs.declared.row.Row.{Row}
 use Rattle.transcript_rows.specs.declared.row.Row.TheVariants.{End}
 use Rattle.transcript_text.specs.Transcript.{transcript_line, lines_text}
@@ -57,7 +57,7 @@ use Rattle.world.specs.Ending.{final_text}
 use Rattle.world.specs.Seats.{Seated}
 use Rattle.world.specs.WorldSteps.{Happened, run, history}
 use Rattle.judged_runs.proofs.Datagrams.{datagram_is}
-use Rattle.judged_runs.proofs.Lines.{Told, runs_tell}
+use Rattle.judged_runs.proofs.Lines.{LinesShow, runs_tell}
 use Rattle.judged_runs.proofs.Ops.{AreRead, read_fit}
 use Rattle.judged_runs.proofs.Outs.{IsRequest}
 use Rattle.judged_runs.proofs.Rows.{both, Counts, counts_of, IsResult, IsSent, EntryIs, line_row, state_row, slot_row, member_row}
@@ -111,10 +111,10 @@ module _ (c : Configuration) (counts : Counts c) where
   )
 
   -- no more than so many
-  front_short : (n : ℕ) (es : List Entry) → length (take n es) ≤ n
-  front_short zero es = omega arith
-  front_short (suc n) [] = omega arith
-  front_short (suc n) (e ∷ es) = let h = front_short n es in omega (arith, h)
+  prefix_short : (n : ℕ) (es : List Entry) → length (take n es) ≤ n
+  prefix_short zero es = omega arith
+  prefix_short (suc n) [] = omega arith
+  prefix_short (suc n) (e ∷ es) = let h = prefix_short n es in omega (arith, h)
 
   module _ (archive : List Entry) where
     -- what is shown of a replica
@@ -128,7 +128,7 @@ module _ (c : Configuration) (counts : Counts c) where
         let s : ReplicaState = p.state.state in
         let len : length_of Trimmed s.log ≤ MAX_LENGTH = is.within.log.limit in
         let point : s.sync.sync_point ≤ length_of Trimmed s.log = is.within.sync_point in
-        let short = front_short s.sync.sync_point archive in (
+        let short = prefix_short s.sync.sync_point archive in (
           state_row c counts i p.crashed s.status s.view (length_of Trimmed s.log) s.sync.sync_point is.own is.within.view
               (omega (arith, len)) (omega (arith, len, point)),
           slots_fit i is.own 1 (take s.sync.sync_point archive) (omega arith) (omega (arith, len, point, short)) is.synced,
@@ -205,8 +205,8 @@ module _ {S : Type 0} (m : Meaning S) (IsSound : S → Type 0) (keeps : KeepsTo 
   counts : Counts c
   counts = counts_of c is_one
 
-  told : Told c h.world h.lines
-  told = runs_tell m c es h read led
+  lines_show : LinesShow c h.world h.lines
+  lines_show = runs_tell m c es h read led
 
   legal : Legal m h.lines (history h.world)
   legal = safely.safe.legal
@@ -225,7 +225,7 @@ module _ {S : Type 0} (m : Meaning S) (IsSound : S → Type 0) (keeps : KeepsTo 
       (Has-from_filter is_spoken (lines.Submit r) h.lines (subst (λ (ls : List Line). Has ls (lines.Submit r)) same_lines there)).0
 
   submitted : (r : Request) → Has h.lines (lines.Submit r) → IsRequest c r
-  submitted r there = told.lines (lines.Submit r) there
+  submitted r there = lines_show.lines (lines.Submit r) there
 
   -- ---- accepts and datagrams
 
@@ -276,15 +276,15 @@ module _ {S : Type 0} (m : Meaning S) (IsSound : S → Type 0) (keeps : KeepsTo 
       (subst (λ (n : ℕ). Has (take n h.world.archive) (Req r)) (sym points) has) in
       let in_whole : Has q.seat.state.state.log.entries (Req r) =
       subst (λ (xs : List Entry). Has xs (Req r)) (follows.logs i p q.seat there q.there) in_log in
-      let same : conf.replicas i ≡ member_of q.seat.state.state = safe.shows.actors.replicas i q.seat q.there in
+      let same : conf.replicas i ≡ local_state_of q.seat.state.state = safe.shows.actors.replicas i q.seat q.there in
       let few_replicas : i < 2 * f + 1 = omega (arith, own, (counts_from c is_one).replicas) in
       let line : Has conf.lines (lines.Submit r) =
-      safe.sound.requests.logged i few_replicas r (subst (λ (x : Member). Has x.log (Req r)) (sym same) in_whole) in
+      safe.sound.requests.logged i few_replicas r (subst (λ (x : LocalState). Has x.log (Req r)) (sym same) in_whole) in
       submitted r (submits_there r line)
 
   shown : (i : ℕ) (p : Seated Replica) → slice_get h.world.replicas i ≡ Some p → IsShown c counts h.world.archive (0 + i) p
   shown i p there =
-      let own : i < c.replicas = omega (arith, slice_get_within h.world.replicas i p there, told.replicas) in
+      let own : i < c.replicas = omega (arith, slice_get_within h.world.replicas i p there, lines_show.replicas) in
       let same : i ≡ 0 + i = omega arith in
       let here : IsShown c counts h.world.archive i p =
       record { own = own; within = within i p there; synced = synced_is i p own there } in
@@ -294,7 +294,7 @@ module _ {S : Type 0} (m : Meaning S) (IsSound : S → Type 0) (keeps : KeepsTo 
 
   line_fits : IsFew h → (l : Line) → Has h.lines l → RowFits (row_of l)
   line_fits few l there =
-      line_row c counts h.world.sent l (told.lines l there) (omega (arith, told.count, few.lines))
+      line_row c counts h.world.sent l (lines_show.lines l there) (omega (arith, lines_show.count, few.lines))
       (λ client id result e. accepted there.0 client id result (there.1 ∙ ap Some e)) sent
 
   rows_fit : IsFew h → AllFit (body (transcript_of header h))

@@ -18,9 +18,9 @@ use Rattle.replica_state.specs.declared.state.ReplicaState.{ReplicaState}
 use Rattle.transcript_reader.specs.Transcripts.{Transcript, Spells, AllFit, members, body, transcript_lines, transcript_text}
 use Rattle.transcript_rows.proofs.RowLines.{is_inside, row_is_line, header_is_line}
 use Rattle.transcript_rows.proofs.RowTexts as texts
-use Rattle.transcript_rows.proofs.Told.{told_as_row, state_as_row, entry_as_row, member_as_row, end_as_row}
+use Rattle.transcript_rows.proofs.LineRows.{line_as_row, state_as_row, entry_as_row, member_as_row, end_as_row}
 use Rattle.transcript_rows.specs.Rows.{row_text}
-use Rattle.transcript_rows.specs.Told.{row_of}
+use Rattle.transcript_rows.specs.LineRows.{row_of}
 use Rattle.transcript_rows.specs.declared.row.Row.{Row}
 use Rattle.transcript_rows.specs.declared.row.Row.TheVariants.{End}
 use Rattle.transcript_text.specs.Transcript.{line_text, lines_text, transcript_line, replica_line, entry_line, history_line, end_line}
@@ -38,7 +38,7 @@ rows_text rows = flat_map row_text rows
 events_text : (ls : List Line) → rows_text (map row_of ls) ≡ lines_text ls
 events_text [] = refl
 events_text (l ∷ ls) =
-    ap (λ (xs : List ℕ). xs ++ rows_text (map row_of ls)) (told_as_row l) ∙ ap (λ (xs : List ℕ). line_text l ++ xs) (events_text ls)
+    ap (λ (xs : List ℕ). xs ++ rows_text (map row_of ls)) (line_as_row l) ∙ ap (λ (xs : List ℕ). line_text l ++ xs) (events_text ls)
 
 slots_text : (i slot : ℕ) (es : List Entry) → rows_text (slot_rows i slot es) ≡ entries_text i slot es
 slots_text i slot [] = refl

@@ -7,7 +7,7 @@ use Rattle.nop_types.specs.Meaning.{Meaning}
 use Rattle.nop_types.specs.declared.request.Entry.{Entry}
 use Rattle.replica_state.specs.declared.state.ReplicaState.{ReplicaState}
 use Rattle.replica_core.specs.ReplicaSteps.{Replica}
-use Rattle.transcript_rows.specs.Told.{row_of}
+use Rattle.transcript_rows.specs.LineRows.{row_of}
 use Rattle.transcript_rows.specs.declared.row.Row.{Row}
 use Rattle.transcript_rows.specs.declared.row.Row.TheVariants.{State, Slot}
 use Rattle.transcript_reader.specs.Transcripts.{Transcript, Spells, said}

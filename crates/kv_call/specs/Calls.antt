@@ -15,9 +15,9 @@ abbrev pub line_of : List ℕ → List ℕ
 line_of result = text_of (result_words result) ++ 10 ∷ []
 
 -- the line of a result, or why there is none
-abbrev pub told : Result (List ℕ) CallError → Result (Option (List ℕ)) CallError
-told (Ok result) = Ok (Some (line_of result))
-told (Err e) = Err e
+abbrev pub reported : Result (List ℕ) CallError → Result (Option (List ℕ)) CallError
+reported (Ok result) = Ok (Some (line_of result))
+reported (Err e) = Err e
 
 -- the ports before and after: the polls to come, and the links that were given back; and the values of the clock
 pub record Over (L : Type 0) : Type 0 where
@@ -41,15 +41,15 @@ module _ {L : Type 0} (seen : L → Used) (o : Over L) where
         o.values result)
 
   -- and this is told of it
-  pub record Tells (c : Call) (given : Result (Option (List ℕ)) CallError) : Type 0 where
+  pub record Reports (c : Call) (given : Result (Option (List ℕ)) CallError) : Type 0 where
     pub result : Result (List ℕ) CallError
     pub ended : Ended c result
-    pub is : given ≡ told result
+    pub is : given ≡ reported result
 
   -- by the call that the arguments name: where memory ran out, it may have been made or not
   abbrev pub Gives : Option Call → Result (Option (List ℕ)) CallError → Type 0
   Gives (Some c) (Err NoMemory) = ⊤
-  Gives (Some c) given = Tells c given
+  Gives (Some c) given = Reports c given
   Gives None (Ok line) = line ≡ None
   Gives None (Err NoMemory) = ⊤
   Gives None _ = ⊥

@@ -1,7 +1,7 @@
 -- How the program ends, and what it has written then.
 use Rattle.std.specs.Prelude.{◌≡◌, ℕ, List, [], ◌∷◌, ◌++◌, codes, Option, Some, None, Result, Ok, Err}
 use Rattle.std.specs.Io.KnownBytes.{Appends}
-use Rattle.outside.specs.Fronts.{AppendsFront}
+use Rattle.outside.specs.Prefixes.{AppendsPrefix}
 use Rattle.outside.specs.declared.errors.DeviceError.{DeviceError}
 use Rattle.client_call.specs.Calls.{Used}
 use Rattle.client_call.specs.declared.errors.CallError.{CallError}
@@ -17,7 +17,7 @@ usage_line = codes "usage: kv_call PORT REPLICAS SEQUENCERS CLIENT TURNS OP" ++ 
 -- the line was written whole, and this is the status then; or a write failed in it
 abbrev pub EndsInLine : List ℕ → Status → Option (List ℕ) → Option (List ℕ) → Result Status DeviceError → Type 0
 EndsInLine line status before now (Ok s) = (s ≡ status) × Appends before now line
-EndsInLine line status before now (Err e) = AppendsFront before now line
+EndsInLine line status before now (Err e) = AppendsPrefix before now line
 
 -- by what the call gave: a result, no call, or an error, and then nothing is written
 abbrev pub EndsBy : Result (Option (List ℕ)) CallError → Option (List ℕ) → Option (List ℕ) → Result Status DeviceError → Type 0

@@ -3,7 +3,7 @@
 ghost use Rattle.std.specs.Prelude.{OnErr, OnOk};
 ghost use Rattle.std.specs.Io.KnownBytes.{Appends};
 ghost use Rattle.outside.specs.Causes.{CountsFor};
-ghost use Rattle.outside.specs.Fronts.{AppendsFront};
+ghost use Rattle.outside.specs.Prefixes.{AppendsPrefix};
 ghost use Rattle.kv_call.specs.Arguments.{call_of};
 ghost use Rattle.kv_call.specs.Calls.{over, used};
 ghost use Rattle.kv_call.specs.Ending.{Ends, usage_line};
@@ -20,7 +20,7 @@ const USAGE_LINE: &str = "usage: kv_call PORT REPLICAS SEQUENCERS CLIENT TURNS O
 #[tactic(auto, unfolding(crate::specs::Ending::usage_line))]
 fn write_usage<K: Sink>(sink: &mut K) -> Result<(), WriteError>
     ensures ok { OnOk result (Appends (K.held sink.old) (K.held sink.new) usage_line) }
-    ensures err { OnErr result (AppendsFront (K.held sink.old) (K.held sink.new) usage_line) }
+    ensures err { OnErr result (AppendsPrefix (K.held sink.old) (K.held sink.new) usage_line) }
     ensures count { CountsFor (K.fault_count sink.old) (K.fault_count sink.new)
         devices.Failed result }
 {

@@ -185,9 +185,9 @@ sorted_entries kv old new list moves sorted =
 length-row : (key value : List ℕ) → length (field key ++ field value) ≡ 4 + length key + length value
 length-row key value =
     let whole = length-append (field key) (field value) in
-    let front = length-field key in
+    let prefix = length-field key in
     let back = length-field value in
-    omega (arith, whole, front, back)
+    omega (arith, whole, prefix, back)
 
 pub length-rows : (rows : List Row) → length (spelled_entries (map deref_pair rows)) ≡ sum_by (λ r. 4 + length r.0.now + length r.1.now) rows
 length-rows rows =

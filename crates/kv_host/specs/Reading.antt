@@ -42,7 +42,7 @@ first_field true least most high low rest e =
       fits = record { least = grind (arith, nat_tests); most = grind (arith, nat_tests) };
       spelled =
           sym
-          (ap (λ (front : List ℕ). front ++ (take len rest ++ drop len rest))
+          (ap (λ (prefix : List ℕ). prefix ++ (take len rest ++ drop len rest))
           (be_bytes_2 (high ∷ low ∷ []) (length (take len rest)) refl (each_byte high low h l) whole)
           ∙ ap (λ (tail : List ℕ). high ∷ low ∷ tail) (take-append-drop len rest));
     }

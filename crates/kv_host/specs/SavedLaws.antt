@@ -134,10 +134,10 @@ pub saves_limited : (kv : Kv) → IsSound kv → length (saved kv) ≤ 1327108
 saves_limited kv sound =
     let entries = spelled_short (finite.entries kv) (sound_entries kv sound) in
     let whole = length-append (four_bytes (finite.len kv)) (spelled_entries (finite.entries kv)) in
-    let front = length-four (finite.len kv) in
+    let prefix = length-four (finite.len kv) in
     let count = finite.len-entries kv in
     let few = sound.few in
-    omega (arith, entries, whole, front, count, few)
+    omega (arith, entries, whole, prefix, count, few)
 
 pub saves_short : (kv : Kv) → IsSound kv → length (saved kv) ≤ MAX_HOST_BYTES
 saves_short kv sound = let most = saves_limited kv sound in omega (arith, most)
@@ -321,10 +321,10 @@ each_byte a b c d x y z w (suc (suc (suc (suc i)))) = omega arith
 abbrev IsSaved : List ℕ → Kv → Type 0
 IsSaved bytes s = IsSound s × (saved s ≡ bytes)
 
-read_sound : (front bytes : List ℕ) (n : ℕ) → four_bytes n ≡ front → n ≤ MAX_KEYS → (o : Option Kv)
-    → IfSome o (AreRead n finite.empty [] bytes) → IfSome o (IsSaved (front ++ bytes))
-read_sound front bytes n same few None read = tt
-read_sound front bytes n same few (Some s) read =
+read_sound : (prefix bytes : List ℕ) (n : ℕ) → four_bytes n ≡ prefix → n ≤ MAX_KEYS → (o : Option Kv)
+    → IfSome o (AreRead n finite.empty [] bytes) → IfSome o (IsSaved (prefix ++ bytes))
+read_sound prefix bytes n same few None read = tt
+read_sound prefix bytes n same few (Some s) read =
     let all : finite.entries s ≡ read.entries = ap finite.entries read.is ∙ entries-all read.entries (rises_within [] read.entries read.rises) in
     let count : finite.len s ≡ n = finite.len-entries s ∙ ap length all ∙ read.count in (
       record {

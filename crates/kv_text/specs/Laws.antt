@@ -19,10 +19,10 @@ use Rattle.kv_text.specs.Text.{named, fits_key, fits_value, spell, op_of, words_
 
 -- ---- the fields of an op of bytes are bytes
 
-bytes_front : (xs ys : List ℕ) → IsBytes (xs ++ ys) → IsBytes xs
-bytes_front [] ys all i = omega arith
-bytes_front (x ∷ xs) ys all zero = all 0
-bytes_front (x ∷ xs) ys all (suc i) = bytes_front xs ys (λ j. all (suc j)) i
+bytes_prefix : (xs ys : List ℕ) → IsBytes (xs ++ ys) → IsBytes xs
+bytes_prefix [] ys all i = omega arith
+bytes_prefix (x ∷ xs) ys all zero = all 0
+bytes_prefix (x ∷ xs) ys all (suc i) = bytes_prefix xs ys (λ j. all (suc j)) i
 
 bytes_back : (xs ys : List ℕ) → IsBytes (xs ++ ys) → IsBytes ys
 bytes_back [] ys all = all
@@ -33,7 +33,7 @@ unfolding field
 field_is f all = bytes_back (to_be_bytes w16 (length f)) f all
 
 first_is : (f rest : List ℕ) → IsBytes (field f ++ rest) → IsBytes f
-first_is f rest all = field_is f (bytes_front (field f) rest all)
+first_is f rest all = field_is f (bytes_prefix (field f) rest all)
 
 abbrev BytesIn : Op → Type 0
 BytesIn (Get key) = IsBytes key

@@ -22,8 +22,8 @@ pub bytes_behind : (b : ℕ) (bs : List ℕ) → IsBytes (b ∷ bs) → IsBytes 
 bytes_behind b bs all i = all (suc i)
 
 pub bytes_both : (xs ys : List ℕ) → IsBytes xs → IsBytes ys → IsBytes (xs ++ ys)
-bytes_both [] ys front back = back
-bytes_both (x ∷ xs) ys front back = byte_first x (xs ++ ys) (front 0) (bytes_both xs ys (bytes_behind x xs front) back)
+bytes_both [] ys prefix back = back
+bytes_both (x ∷ xs) ys prefix back = byte_first x (xs ++ ys) (prefix 0) (bytes_both xs ys (bytes_behind x xs prefix) back)
 
 pub bytes_back : (xs ys : List ℕ) → IsBytes (xs ++ ys) → IsBytes ys
 bytes_back [] ys all = all

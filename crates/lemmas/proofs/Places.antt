@@ -13,13 +13,13 @@ slice_get-some (x ∷ xs) (suc i) l = slice_get-some xs i (omega (arith, l))
 
 -- how a list goes on there
 pub record Splits {A : Type 0} (xs : List A) (i : ℕ) (x : A) : Type 0 where
-  pub front : take (suc i) xs ≡ take i xs ++ x ∷ []
+  pub prefix : take (suc i) xs ≡ take i xs ++ x ∷ []
   pub back : drop i xs ≡ x ∷ drop (suc i) xs
 
 pub Splits-at : {A : Type 0} (xs : List A) (i : ℕ) (x : A) → slice_get xs i ≡ Some x → Splits xs i x
 Splits-at [] i x h = absurd cc
-Splits-at (z ∷ xs) zero x h = let e : z ≡ x = cc in record { front = cc; back = cc }
-Splits-at (z ∷ xs) (suc i) x h = let s = Splits-at xs i x h in record { front = ap (λ t. z ∷ t) s.front; back = s.back }
+Splits-at (z ∷ xs) zero x h = let e : z ≡ x = cc in record { prefix = cc; back = cc }
+Splits-at (z ∷ xs) (suc i) x h = let s = Splits-at xs i x h in record { prefix = ap (λ t. z ∷ t) s.prefix; back = s.back }
 
 -- ---- two lists joined
 

@@ -11,7 +11,7 @@ pub IsPrefixOf-refl : {A : Type 0} (xs : List A) → IsPrefixOf xs xs
 IsPrefixOf-refl xs = ([], sym (append-nil xs))
 
 pub IsPrefixOf-trans : {A : Type 0} (xs ys zs : List A) → IsPrefixOf xs ys → IsPrefixOf ys zs → IsPrefixOf xs zs
-IsPrefixOf-trans xs ys zs p q = (p.0 ++ q.0, q.1 ∙ ap (λ front. front ++ q.0) p.1 ∙ append_assoc xs p.0 q.0)
+IsPrefixOf-trans xs ys zs p q = (p.0 ++ q.0, q.1 ∙ ap (λ prefix. prefix ++ q.0) p.1 ∙ append_assoc xs p.0 q.0)
 
 pub IsPrefixOf-take : {A : Type 0} (n : ℕ) (xs : List A) → IsPrefixOf (take n xs) xs
 IsPrefixOf-take n xs = (drop n xs, sym (take-append-drop n xs))

@@ -46,7 +46,7 @@ slot_of-take s m (suc i) x l e = slice_get-take m s i (omega (arith, l)) ∙ e
 -- the entry at a slot is among those up to it
 pub Has-slot_of : {A : Type 0} (xs : List A) (s : ℕ) (x : A) → slot_of xs s ≡ Some x → Has (take s xs) x
 Has-slot_of xs zero x h = absurd cc
-Has-slot_of xs (suc i) x h = rw ((Splits-at xs i x h).front) (Has-append_right (take i xs) (x ∷ []) x (zero, refl))
+Has-slot_of xs (suc i) x h = rw ((Splits-at xs i x h).prefix) (Has-append_right (take i xs) (x ∷ []) x (zero, refl))
 
 -- a slot of the first part
 pub record Carries {A : Type 0} (xs ys : List A) (s : ℕ) (x : A) : Type 0 where
@@ -100,7 +100,7 @@ slot_of-set_other l zero j x d = refl
 slot_of-set_other l (suc i) zero x d = refl
 slot_of-set_other l (suc i) (suc j) x d = slice_get-set_other l i j x (λ e. d (ap suc e))
 
--- what stands in a slot afterwards was written there, or stood there
+-- what is in a slot afterwards was written there, or stood there
 pub slot_of-set_cases : (l : List Entry) (k : ℕ) (x : Entry) (j : ℕ) (y : Entry) → slot_of (set_slot l k x) j ≡ Some y
     → ((j ≡ k) × (y ≡ x)) ⊎ (slot_of l j ≡ Some y)
 slot_of-set_cases l zero x j y e = inr e
@@ -163,7 +163,7 @@ place_cases (y ∷ ys) [] i x e = inl e
 place_cases (y ∷ ys) (z ∷ zs) zero x e = inl e
 place_cases (y ∷ ys) (z ∷ zs) (suc i) x e = place_cases ys zs i x e
 
--- what stands in a slot afterwards, one of the two logs has there
+-- what is in a slot afterwards, one of the two logs has there
 pub slot_of-laid_cases : (l k : List Entry) (i : ℕ) (x : Entry) → slot_of (laid l k) i ≡ Some x → (slot_of l i ≡ Some x)
     ⊎ (slot_of k i ≡ Some x)
 slot_of-laid_cases l k zero x e = absurd cc

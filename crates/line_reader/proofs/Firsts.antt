@@ -10,9 +10,9 @@ use Rattle.line_reader.specs.Deciding.{HasNoEnd, IsFirstEnd, IsFirstLine, IsUnde
 use Rattle.line_reader.proofs.Cuts.{cut_end, cut_long, cut_last, cut_past}
 
 -- a front without a line end, as a list of its own
-none_in_front : (count : ℕ) (bytes : List ℕ) → count ≤ length bytes → HasNoEnd count bytes
+none_in_prefix : (count : ℕ) (bytes : List ℕ) → count ≤ length bytes → HasNoEnd count bytes
     → HasNoEnd (length (take count bytes)) (take count bytes)
-none_in_front count bytes within none = λ k below.
+none_in_prefix count bytes within none = λ k below.
     let short : k < count = omega (arith, length-take-le count bytes within) in
     λ is. none k short (sym (get_or-take count bytes k 0 short) ∙ is)
 
@@ -25,8 +25,8 @@ split_at bytes more place within is =
     ∙ ap (λ (xs : List ℕ). take place bytes ++ xs) (drop_more bytes place 0 within ∙ ap (λ (b : ℕ). b ∷ drop (place + 1) bytes) is))
     ∙ append_assoc (take place bytes) (10 ∷ drop (place + 1) bytes) more
 
-front_and_rest : (bytes more : List ℕ) (count : ℕ) → bytes ++ more ≡ take count bytes ++ (drop count bytes ++ more)
-front_and_rest bytes more count =
+prefix_and_rest : (bytes more : List ℕ) (count : ℕ) → bytes ++ more ≡ take count bytes ++ (drop count bytes ++ more)
+prefix_and_rest bytes more count =
     ap (λ (xs : List ℕ). xs ++ more) (sym (take-append-drop count bytes)) ∙ append_assoc (take count bytes) (drop count bytes) more
 
 -- nothing is made of bytes without an end
@@ -71,7 +71,7 @@ module _ (most before : ℕ) (was_ended : Bool) (bytes : List ℕ) (fits : befor
   lines_by_end place at ended more =
       ap (lines_on most ended before []) (split_at bytes more place at.within at.end)
       ∙ cut_end most ended before fits [] (take place bytes) (drop (place + 1) bytes ++ more)
-      (none_in_front place bytes (omega (arith, at.within)) at.no_end)
+      (none_in_prefix place bytes (omega (arith, at.within)) at.no_end)
       (omega (arith, at.short, length-take-le place bytes (omega (arith, at.within))))
 
   is_closed : (place : ℕ) (rest : List Cut) → with_end (take place bytes) ∷ rest
@@ -107,8 +107,8 @@ module _ (most before : ℕ) (was_ended : Bool) (bytes : List ℕ) (fits : befor
     whole = λ closed. absurd (false≢true (sym (le-ltb count count (le_refl count)) ∙ closed));
     line = λ ended more follows. (
       [],
-      ap (lines_on most ended before []) (front_and_rest bytes more count)
-          ∙ cut_long most ended before fits [] (take count bytes) (drop count bytes ++ more) (none_in_front count bytes long none)
+      ap (lines_on most ended before []) (prefix_and_rest bytes more count)
+          ∙ cut_long most ended before fits [] (take count bytes) (drop count bytes ++ more) (none_in_prefix count bytes long none)
           (omega arith) (omega (arith, length-take-le count bytes long))
           ∙ is_open count [],
     );

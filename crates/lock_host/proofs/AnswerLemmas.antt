@@ -13,7 +13,7 @@ use Rattle.lock_host.specs.declared.op.LockOp.TheVariants.{Acquire, Release, Ins
 use Rattle.lock_host.specs.declared.op.TheConstants.{ACQUIRE}
 use Rattle.lock_host.specs.Fields.{name_bytes, number_bytes}
 use Rattle.lock_host.specs.Finding.{IsFound, found_is}
-use Rattle.lock_host.specs.Locks.{Places, Locks, Step, is_same, is_free, found, granted, held, told, says, granted_at, acquire, holds}
+use Rattle.lock_host.specs.Locks.{Places, Locks, Step, is_same, is_free, found, granted, held, holder_text, says, granted_at, acquire, holds}
 use Rattle.lock_host.specs.Locks.{release, step}
 use Rattle.lock_host.specs.Op.{read_op}
 use Rattle.lock_host.specs.Reading.{eight_below}
@@ -117,15 +117,15 @@ module _ (locks : Locks) (all : OwnersAre locks.places) where
       })
       (says_is (codes "refused") (small_bytes (codes "refused") refl))
 
-  told_is : (name : List ℕ) (o : Option (ℕ × Lock)) → IsFound locks.places name o → IsBytes (told o)
-  told_is name None at = small_bytes (codes "free") refl
-  told_is name (Some p) at = held_is p.1 (all p.0 p.1 at.0)
+  holder_text_is : (name : List ℕ) (o : Option (ℕ × Lock)) → IsFound locks.places name o → IsBytes (holder_text o)
+  holder_text_is name None at = small_bytes (codes "free") refl
+  holder_text_is name (Some p) at = held_is p.1 (all p.0 p.1 at.0)
 
   step_is : (op : LockOp) → OpIs op → StepIs (step locks op)
   step_is (Acquire name owner) is = acquire_is name owner is (found locks.places name) (found_is locks.places name)
   step_is (Release name owner token) is = release_is owner token (found locks.places name)
   step_is (Inspect name) is =
-      says_is (told (found locks.places name)) (told_is name (found locks.places name) (found_is locks.places name))
+      says_is (holder_text (found locks.places name)) (holder_text_is name (found locks.places name) (found_is locks.places name))
   step_is Bad is = says_is (codes "bad") (small_bytes (codes "bad") refl)
 
 opening_owners : OwnersAre lock_meaning.opening.places

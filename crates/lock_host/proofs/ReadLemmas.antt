@@ -65,12 +65,12 @@ module _ (kind : ℕ) (all : List ℕ) where
   ends (b ∷ rest) op h = tt
 
 -- the last field, with nothing after it
-last : (bytes front rest : List ℕ) → bytes ≡ front ++ rest → rest ≡ [] → bytes ≡ front
-last bytes front rest e none = e ∙ ap (λ (r : List ℕ). front ++ r) none ∙ append-nil front
+last : (bytes prefix rest : List ℕ) → bytes ≡ prefix ++ rest → rest ≡ [] → bytes ≡ prefix
+last bytes prefix rest e none = e ∙ ap (λ (r : List ℕ). prefix ++ r) none ∙ append-nil prefix
 
 -- a field, and the bytes of the others
-more : (bytes front rest others : List ℕ) → bytes ≡ front ++ rest → rest ≡ others → bytes ≡ front ++ others
-more bytes front rest others e same = e ∙ ap (λ (r : List ℕ). front ++ r) same
+more : (bytes prefix rest others : List ℕ) → bytes ≡ prefix ++ rest → rest ≡ others → bytes ≡ prefix ++ others
+more bytes prefix rest others e same = e ∙ ap (λ (r : List ℕ). prefix ++ r) same
 
 acquire_is : (bytes : List ℕ) → IfSome (read_acquire bytes) (λ op. Spells op (ACQUIRE ∷ bytes))
 unfolding read_acquire

@@ -330,37 +330,37 @@ no_grant b rest other token e = other (same_Some b 103 (ap (λ (x : List ℕ). s
 
 module _ (locks : Locks) (name owner : List ℕ) where
   -- the owner holds the lock after the step by the token that it answers, or the step changes nothing and answers no token
-  abbrev Told : Step → Type 0
-  Told s = ((token : ℕ) × (s.answer ≡ granted token) × Holds s.locks name owner token)
+  abbrev AnswersToken : Step → Type 0
+  AnswersToken s = ((token : ℕ) × (s.answer ≡ granted token) × Holds s.locks name owner token)
       ⊎ ((s.locks ≡ locks) × ((token : ℕ) → s.answer ≡ granted token → ⊥))
 
-  either_told : (b : Bool) (s t : Step) → Told s → Told t → Told (cond b s t)
-  either_told true s t h k = h
-  either_told false s t h k = k
+  either_answers : (b : Bool) (s t : Step) → AnswersToken s → AnswersToken t → AnswersToken (cond b s t)
+  either_answers true s t h k = h
+  either_answers false s t h k = k
 
-  granted_told : (o : Option ℕ) → IsFree locks.places o
-      → Told (granted_at locks (record { name = name; owner = owner; token = locks.last + 1 }) o)
-  granted_told None free =
-      either_told (nat_lt (length locks.places) MAX_LOCKS) _ _
+  granted_answers : (o : Option ℕ) → IsFree locks.places o
+      → AnswersToken (granted_at locks (record { name = name; owner = owner; token = locks.last + 1 }) o)
+  granted_answers None free =
+      either_answers (nat_lt (length locks.places) MAX_LOCKS) _ _
       (inl (locks.last + 1, refl, (length locks.places, add_stands locks.places _)))
       (inr (refl, no_grant 102 _ (λ e. omega (arith, e))))
-  granted_told (Some i) free = inl (locks.last + 1, refl, (i, set_stands locks.places i None _ free))
+  granted_answers (Some i) free = inl (locks.last + 1, refl, (i, set_stands locks.places i None _ free))
 
-  held_told : (p : ℕ × Lock) (b : Bool) → IsFound locks.places name (Some p) → is_same p.1.owner owner ≡ b
-      → Told (cond b (says locks (granted p.1.token)) (says locks (held p.1)))
-  held_told p true at e = inl (p.1.token, refl, holds_found locks name owner p.1.token p at e refl)
-  held_told p false at e = inr (refl, no_grant 104 _ (λ e. omega (arith, e)))
+  held_answers : (p : ℕ × Lock) (b : Bool) → IsFound locks.places name (Some p) → is_same p.1.owner owner ≡ b
+      → AnswersToken (cond b (says locks (granted p.1.token)) (says locks (held p.1)))
+  held_answers p true at e = inl (p.1.token, refl, holds_found locks name owner p.1.token p at e refl)
+  held_answers p false at e = inr (refl, no_grant 104 _ (λ e. omega (arith, e)))
 
-  acquire_told : (o : Option (ℕ × Lock)) → IsFound locks.places name o → Told (acquire locks name owner o)
-  acquire_told None at =
-      either_told (nat_lt locks.last LAST_TOKEN) _ _ (granted_told (position is_free locks.places) (free_is locks.places))
+  acquire_answers : (o : Option (ℕ × Lock)) → IsFound locks.places name o → AnswersToken (acquire locks name owner o)
+  acquire_answers None at =
+      either_answers (nat_lt locks.last LAST_TOKEN) _ _ (granted_answers (position is_free locks.places) (free_is locks.places))
       (inr (refl, no_grant 115 _ (λ e. omega (arith, e))))
-  acquire_told (Some p) at = held_told p (is_same p.1.owner owner) at refl
+  acquire_answers (Some p) at = held_answers p (is_same p.1.owner owner) at refl
 
 pub answers_grants : AnswersGrants
 answers_grants locks op name owner e =
-    subst (λ (o : LockOp). Told locks name owner (step locks o)) (sym e)
-    (acquire_told locks name owner (found locks.places name) (found_is locks.places name))
+    subst (λ (o : LockOp). AnswersToken locks name owner (step locks o)) (sym e)
+    (acquire_answers locks name owner (found locks.places name) (found_is locks.places name))
 
 -- ---- an acquire by the holder
 

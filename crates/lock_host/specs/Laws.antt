@@ -16,7 +16,7 @@ use Rattle.lock_host.specs.declared.op.LockOp.TheVariants.{Acquire, Release, Ins
 use Rattle.lock_host.specs.Fields.{NameFits, number_bytes, name_at, number_at}
 use Rattle.lock_host.specs.Op.{at_end, read_acquire, read_release, read_inspect, read_fields, read_op}
 use Rattle.lock_host.specs.Reading.{Field, BeginsName, name_at-begins, then_holds, length-number}
-use Rattle.lock_host.specs.Locks.{Places, Locks, Step, is_same, is_free, is_named, found, granted, held, told, says, granted_at, acquire}
+use Rattle.lock_host.specs.Locks.{Places, Locks, Step, is_same, is_free, is_named, found, granted, held, holder_text, says, granted_at, acquire}
 use Rattle.lock_host.specs.Locks.{holds, release, step, undone}
 use Rattle.lock_host.specs.Finding.{IsFound, found_is, IsFree, free_is}
 use Rattle.lock_host.specs.Saved.{clashes}
@@ -209,14 +209,14 @@ release_short : (locks : Locks) (owner : List ℕ) (token : ℕ) (o : Option (�
 release_short locks owner token None = omega arith
 release_short locks owner token (Some p) = either_short (holds p.1 owner token) _ _ (omega arith) (omega arith)
 
-told_short : (locks : Locks) (name : List ℕ) (o : Option (ℕ × Lock)) → IsSound locks → IsFound locks.places name o → IsShort (told o)
-told_short locks name None sound free = omega arith
-told_short locks name (Some p) sound at = found_short locks name p sound at
+holder_text_short : (locks : Locks) (name : List ℕ) (o : Option (ℕ × Lock)) → IsSound locks → IsFound locks.places name o → IsShort (holder_text o)
+holder_text_short locks name None sound free = omega arith
+holder_text_short locks name (Some p) sound at = found_short locks name p sound at
 
 step_short : (locks : Locks) (op : LockOp) → IsSound locks → IsShort (step locks op).answer
 step_short locks (Acquire name owner) sound = acquire_short locks name owner (found locks.places name) sound (found_is locks.places name)
 step_short locks (Release name owner token) sound = release_short locks owner token (found locks.places name)
-step_short locks (Inspect name) sound = told_short locks name (found locks.places name) sound (found_is locks.places name)
+step_short locks (Inspect name) sound = holder_text_short locks name (found locks.places name) sound (found_is locks.places name)
 step_short locks Bad sound = omega arith
 
 pub answers_limited : (locks : Locks) (op : List ℕ) → IsSound locks → length (lock_meaning.answer locks op) ≤ 76

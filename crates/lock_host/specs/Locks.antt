@@ -48,9 +48,9 @@ abbrev pub held : Lock → List ℕ
 held lock = codes "held" ++ (number_bytes lock.token ++ lock.owner)
 
 -- who holds the lock, with which token
-abbrev pub told : Option (ℕ × Lock) → List ℕ
-told None = codes "free"
-told (Some p) = held p.1
+abbrev pub holder_text : Option (ℕ × Lock) → List ℕ
+holder_text None = codes "free"
+holder_text (Some p) = held p.1
 
 -- ---- what an op does
 
@@ -110,7 +110,7 @@ release locks owner token (Some p) =
 abbrev pub step : Locks → LockOp → Step
 step locks (Acquire name owner) = acquire locks name owner (found locks.places name)
 step locks (Release name owner token) = release locks owner token (found locks.places name)
-step locks (Inspect name) = says locks (told (found locks.places name))
+step locks (Inspect name) = says locks (holder_text (found locks.places name))
 step locks Bad = says locks (codes "bad")
 
 -- ---- back

@@ -83,7 +83,7 @@ eight_begin true false bytes e f =
     be_bytes_8 (take 8 bytes) (from_be_bytes w64 (take 8 bytes)) (omega (arith, t, long)) h refl in
     record {
       fits = omega (arith, h 0, h 1, h 2, h 3, h 4, h 5, h 6, h 7);
-      spelled = sym (ap (λ (front : List ℕ). front ++ drop 8 bytes) back ∙ take-append-drop 8 bytes);
+      spelled = sym (ap (λ (prefix : List ℕ). prefix ++ drop 8 bytes) back ∙ take-append-drop 8 bytes);
     }
 
 pub number_at-begins : (bytes : List ℕ) → IfSome (number_at bytes) (BeginsNumber bytes)
@@ -109,11 +109,11 @@ pub number_at-number : (n : ℕ) (rest : List ℕ) → n < 2 ^ 64 → number_at 
 unfolding number_at
 number_at-number n rest fits =
     let len = length-number n in
-    let front : take 8 (number_bytes n ++ rest) ≡ number_bytes n = take_at (number_bytes n) rest 8 len in
+    let prefix : take 8 (number_bytes n ++ rest) ≡ number_bytes n = take_at (number_bytes n) rest 8 len in
     let back : drop 8 (number_bytes n ++ rest) ≡ rest = drop_at (number_bytes n) rest 8 len in
     let l = length-append (number_bytes n) rest in
     let test : nat_lt (length (number_bytes n ++ rest)) 8 ≡ false = grind (arith, nat_tests, l, len) in
-    rw (front, eight_below n, test, back, again n fits) refl
+    rw (prefix, eight_below n, test, back, again n fits) refl
 
 pub then_holds : {A B : Type 0} (P : A → Type 0) (Q : B → Type 0) (o : Option A) (f : A → Option B) → IfSome o P
     → ((x : A) → P x → IfSome (f x) Q) → IfSome (option_and_then f o) Q

@@ -69,53 +69,53 @@ lock_read lock rest n o t =
       number_at-number lock.token rest t,
     ) refl
 
-place_some : (last : ℕ) (front : Places) (b : ℕ) (rest : List ℕ) (lock : Lock) (more : List ℕ) → b == 0 ≡ false
-    → lock_at (b ∷ rest) ≡ Some (lock, more) → is_allowed last front lock ≡ true → place_at last front (b ∷ rest) ≡ Some (Some lock, more)
+place_some : (last : ℕ) (prefix : Places) (b : ℕ) (rest : List ℕ) (lock : Lock) (more : List ℕ) → b == 0 ≡ false
+    → lock_at (b ∷ rest) ≡ Some (lock, more) → is_allowed last prefix lock ≡ true → place_at last prefix (b ∷ rest) ≡ Some (Some lock, more)
 unfolding place_at
-place_some last front b rest lock more e f g = rw (e, f, g) refl
+place_some last prefix b rest lock more e f g = rw (e, f, g) refl
 
-allowed : (last : ℕ) (front : Places) (lock : Lock) → LockFits last lock → list_any (clashes lock) front ≡ false
-    → is_allowed last front lock ≡ true
-allowed last front lock fits none =
+allowed : (last : ℕ) (prefix : Places) (lock : Lock) → LockFits last lock → list_any (clashes lock) prefix ≡ false
+    → is_allowed last prefix lock ≡ true
+allowed last prefix lock fits none =
     let least = fits.least in
     let most = fits.most in
     let a : nat_le 1 lock.token ≡ true = grind (arith, nat_tests, least) in
     let b : nat_le lock.token last ≡ true = grind (arith, nat_tests, most) in
     rw (a, b, none) refl
 
-first_place : (last : ℕ) (front : Places) (p : Option Lock) (more : List ℕ) → PlaceFits last p → last < 2 ^ 64 → IsApart p front
-    → place_at last front (place_bytes p ++ more) ≡ Some (p, more)
+first_place : (last : ℕ) (prefix : Places) (p : Option Lock) (more : List ℕ) → PlaceFits last p → last < 2 ^ 64 → IsApart p prefix
+    → place_at last prefix (place_bytes p ++ more) ≡ Some (p, more)
 unfolding place_at
-first_place last front None more fits small none = refl
-first_place last front (Some lock) more fits small none =
+first_place last prefix None more fits small none = refl
+first_place last prefix (Some lock) more fits small none =
     let least = fits.name.least in
     let some : length lock.name == 0 ≡ false = grind (arith, nat_tests, least) in
     let most = fits.most in
-    place_some last front (length lock.name) _ lock more some
+    place_some last prefix (length lock.name) _ lock more some
     (ap lock_at (joined lock.name lock.owner lock.token more) ∙ lock_read lock more fits.name fits.owner (omega (arith, most, small)))
-    (allowed last front lock fits none)
+    (allowed last prefix lock fits none)
 
-any_at : {X : Type 0} (t : X → Bool) (front : List X) (x : X) (rest : List X) → list_any t (front ++ x ∷ rest) ≡ false → t x ≡ false
+any_at : {X : Type 0} (t : X → Bool) (prefix : List X) (x : X) (rest : List X) → list_any t (prefix ++ x ∷ rest) ≡ false → t x ≡ false
 any_at t [] x rest h = (or_false (t x) (list_any t rest) h).0
-any_at t (y ∷ front) x rest h = any_at t front x rest ((or_false (t y) (list_any t (front ++ x ∷ rest)) h).1)
+any_at t (y ∷ prefix) x rest h = any_at t prefix x rest ((or_false (t y) (list_any t (prefix ++ x ∷ rest)) h).1)
 
-no_clash : (lock : Lock) (q : Option Lock) (front rest : Places) → IsApart q (front ++ Some lock ∷ rest) → clashes lock q ≡ false
-no_clash lock None front rest h = refl
-no_clash lock (Some other) front rest h = clashes_back lock other ∙ any_at (clashes other) front (Some lock) rest h
+no_clash : (lock : Lock) (q : Option Lock) (prefix rest : Places) → IsApart q (prefix ++ Some lock ∷ rest) → clashes lock q ≡ false
+no_clash lock None prefix rest h = refl
+no_clash lock (Some other) prefix rest h = clashes_back lock other ∙ any_at (clashes other) prefix (Some lock) rest h
 
-apart_front : (front : Places) (p : Option Lock) (rest : Places) → AreApart (front ++ p ∷ rest) → IsApart p front
-apart_front front None rest h = tt
-apart_front [] (Some lock) rest h = refl
-apart_front (q ∷ front) (Some lock) rest h = rw (no_clash lock q front rest h.0) (apart_front front (Some lock) rest h.1)
+apart_prefix : (prefix : Places) (p : Option Lock) (rest : Places) → AreApart (prefix ++ p ∷ rest) → IsApart p prefix
+apart_prefix prefix None rest h = tt
+apart_prefix [] (Some lock) rest h = refl
+apart_prefix (q ∷ prefix) (Some lock) rest h = rw (no_clash lock q prefix rest h.0) (apart_prefix prefix (Some lock) rest h.1)
 
-read_again : (last : ℕ) (front rest : Places) → PlacesFit last rest → last < 2 ^ 64 → AreApart (front ++ rest)
-    → with_places (length rest) last front (flat_map place_bytes rest) ≡ Some (record { last = last; places = front ++ rest })
+read_again : (last : ℕ) (prefix rest : Places) → PlacesFit last rest → last < 2 ^ 64 → AreApart (prefix ++ rest)
+    → with_places (length rest) last prefix (flat_map place_bytes rest) ≡ Some (record { last = last; places = prefix ++ rest })
 unfolding with_places
-read_again last front [] fits small apart = ap (λ (places : Places). Some (record { last = last; places = places })) (sym (append-nil front))
-read_again last front (p ∷ rest) fits small apart =
-    rw (first_place last front p (flat_map place_bytes rest) fits.0 small (apart_front front p rest apart))
-    (read_again last (front ++ p ∷ []) rest fits.1 small (subst AreApart (sym (append_assoc front (p ∷ []) rest)) apart)
-    ∙ ap (λ (places : Places). Some (record { last = last; places = places })) (append_assoc front (p ∷ []) rest))
+read_again last prefix [] fits small apart = ap (λ (places : Places). Some (record { last = last; places = places })) (sym (append-nil prefix))
+read_again last prefix (p ∷ rest) fits small apart =
+    rw (first_place last prefix p (flat_map place_bytes rest) fits.0 small (apart_prefix prefix p rest apart))
+    (read_again last (prefix ++ p ∷ []) rest fits.1 small (subst AreApart (sym (append_assoc prefix (p ∷ []) rest)) apart)
+    ∙ ap (λ (places : Places). Some (record { last = last; places = places })) (append_assoc prefix (p ∷ []) rest))
 
 pub loads_saved : (locks : Locks) → IsSound locks → loaded (saved locks) ≡ Some locks
 unfolding loaded
@@ -162,81 +162,81 @@ lock_at-begins bytes =
     })))
 
 -- the bytes begin with a place that may stand behind these
-record BeginsPlace (last : ℕ) (front : Places) (bytes : List ℕ) (found : Option Lock × List ℕ) : Type 0 where
+record BeginsPlace (last : ℕ) (prefix : Places) (bytes : List ℕ) (found : Option Lock × List ℕ) : Type 0 where
   fits : PlaceFits last found.0
-  apart : IsApart found.0 front
+  apart : IsApart found.0 prefix
   spelled : bytes ≡ place_bytes found.0 ++ found.1
 
-allowed_by : (last : ℕ) (front : Places) (bytes : List ℕ) (lock : Lock × List ℕ) (test : Bool) → is_allowed last front lock.0 ≡ test
-    → BeginsLock bytes lock → IfSome (cond test (Some (Some lock.0, lock.1)) None) (BeginsPlace last front bytes)
-allowed_by last front bytes lock true e l =
+allowed_by : (last : ℕ) (prefix : Places) (bytes : List ℕ) (lock : Lock × List ℕ) (test : Bool) → is_allowed last prefix lock.0 ≡ test
+    → BeginsLock bytes lock → IfSome (cond test (Some (Some lock.0, lock.1)) None) (BeginsPlace last prefix bytes)
+allowed_by last prefix bytes lock true e l =
     let one = both (nat_le 1 lock.0.token) _ e in
     let two = both (nat_le lock.0.token last) _ one.1 in
     record {
       fits = record { name = l.name; owner = l.owner; least = leb-true 1 lock.0.token one.0; most = leb-true lock.0.token last two.0 };
-      apart = not_so (list_any (clashes lock.0) front) two.1;
+      apart = not_so (list_any (clashes lock.0) prefix) two.1;
       spelled = l.spelled;
     }
-allowed_by last front bytes lock false e l = tt
+allowed_by last prefix bytes lock false e l = tt
 
-place_by : (last : ℕ) (front : Places) (b : ℕ) (rest : List ℕ) (test : Bool) → b == 0 ≡ test
+place_by : (last : ℕ) (prefix : Places) (b : ℕ) (rest : List ℕ) (test : Bool) → b == 0 ≡ test
     → IfSome (cond test (Some (None, rest))
     (Rattle.std.specs.Option.option_and_then
-    (λ lock. cond (is_allowed last front lock.0) (Some (Some lock.0, lock.1)) None) (lock_at (b ∷ rest))))
-    (BeginsPlace last front (b ∷ rest))
-place_by last front b rest true e = record { fits = tt; apart = tt; spelled = ap (λ (n : ℕ). n ∷ rest) (eqb-true b 0 e) }
-place_by last front b rest false e =
-    then_holds (BeginsLock (b ∷ rest)) (BeginsPlace last front (b ∷ rest)) (lock_at (b ∷ rest)) _ (lock_at-begins (b ∷ rest))
-    (λ lock l. allowed_by last front (b ∷ rest) lock _ refl l)
+    (λ lock. cond (is_allowed last prefix lock.0) (Some (Some lock.0, lock.1)) None) (lock_at (b ∷ rest))))
+    (BeginsPlace last prefix (b ∷ rest))
+place_by last prefix b rest true e = record { fits = tt; apart = tt; spelled = ap (λ (n : ℕ). n ∷ rest) (eqb-true b 0 e) }
+place_by last prefix b rest false e =
+    then_holds (BeginsLock (b ∷ rest)) (BeginsPlace last prefix (b ∷ rest)) (lock_at (b ∷ rest)) _ (lock_at-begins (b ∷ rest))
+    (λ lock l. allowed_by last prefix (b ∷ rest) lock _ refl l)
 
-place_at-begins : (last : ℕ) (front : Places) (bytes : List ℕ) → IfSome (place_at last front bytes) (BeginsPlace last front bytes)
+place_at-begins : (last : ℕ) (prefix : Places) (bytes : List ℕ) → IfSome (place_at last prefix bytes) (BeginsPlace last prefix bytes)
 unfolding place_at
-place_at-begins last front [] = tt
-place_at-begins last front (b ∷ rest) = place_by last front b rest _ refl
+place_at-begins last prefix [] = tt
+place_at-begins last prefix (b ∷ rest) = place_by last prefix b rest _ refl
 
 -- the locks have the places in front, and then n that the bytes spell
-record AreRead (n last : ℕ) (front : Places) (bytes : List ℕ) (s : Locks) : Type 0 where
+record AreRead (n last : ℕ) (prefix : Places) (bytes : List ℕ) (s : Locks) : Type 0 where
   rest : Places
   count : length rest ≡ n
   fits : PlacesFit last rest
-  apart : AreApart (front ++ rest)
+  apart : AreApart (prefix ++ rest)
   spelled : bytes ≡ flat_map place_bytes rest
-  is : s ≡ record { last = last; places = front ++ rest }
+  is : s ≡ record { last = last; places = prefix ++ rest }
 
-nothing_follows : (last : ℕ) (front : Places) (bytes : List ℕ) → AreApart front
-    → IfSome (nothing_after bytes (record { last = last; places = front })) (AreRead 0 last front bytes)
-nothing_follows last front [] apart = record {
+nothing_follows : (last : ℕ) (prefix : Places) (bytes : List ℕ) → AreApart prefix
+    → IfSome (nothing_after bytes (record { last = last; places = prefix })) (AreRead 0 last prefix bytes)
+nothing_follows last prefix [] apart = record {
   rest = [];
   count = refl;
   fits = tt;
-  apart = subst AreApart (sym (append-nil front)) apart;
+  apart = subst AreApart (sym (append-nil prefix)) apart;
   spelled = refl;
-  is = ap (λ (places : Places). record { last = last; places = places }) (sym (append-nil front));
+  is = ap (λ (places : Places). record { last = last; places = places }) (sym (append-nil prefix));
 }
-nothing_follows last front (b ∷ bytes) apart = tt
+nothing_follows last prefix (b ∷ bytes) apart = tt
 
-one_before : (n last : ℕ) (front : Places) (bytes : List ℕ) (p : Option Lock) (more : List ℕ) → BeginsPlace last front bytes (p, more)
-    → (o : Option Locks) → IfSome o (AreRead n last (front ++ p ∷ []) more) → IfSome o (AreRead (suc n) last front bytes)
-one_before n last front bytes p more begins None read = tt
-one_before n last front bytes p more begins (Some s) read = record {
+one_before : (n last : ℕ) (prefix : Places) (bytes : List ℕ) (p : Option Lock) (more : List ℕ) → BeginsPlace last prefix bytes (p, more)
+    → (o : Option Locks) → IfSome o (AreRead n last (prefix ++ p ∷ []) more) → IfSome o (AreRead (suc n) last prefix bytes)
+one_before n last prefix bytes p more begins None read = tt
+one_before n last prefix bytes p more begins (Some s) read = record {
   rest = p ∷ read.rest;
   count = ap suc read.count;
   fits = (begins.fits, read.fits);
-  apart = subst AreApart (append_assoc front (p ∷ []) read.rest) read.apart;
+  apart = subst AreApart (append_assoc prefix (p ∷ []) read.rest) read.apart;
   spelled = begins.spelled ∙ ap (λ (x : List ℕ). place_bytes p ++ x) read.spelled;
-  is = read.is ∙ ap (λ (places : Places). record { last = last; places = places }) (append_assoc front (p ∷ []) read.rest);
+  is = read.is ∙ ap (λ (places : Places). record { last = last; places = places }) (append_assoc prefix (p ∷ []) read.rest);
 }
 
-with_places-read : (n last : ℕ) (front : Places) (bytes : List ℕ) → AreApart front
-    → IfSome (with_places n last front bytes) (AreRead n last front bytes)
+with_places-read : (n last : ℕ) (prefix : Places) (bytes : List ℕ) → AreApart prefix
+    → IfSome (with_places n last prefix bytes) (AreRead n last prefix bytes)
 unfolding with_places
-with_places-read zero last front bytes apart = nothing_follows last front bytes apart
-with_places-read (suc n) last front bytes apart =
-    then_holds (BeginsPlace last front bytes) (AreRead (suc n) last front bytes) (place_at last front bytes) _
-    (place_at-begins last front bytes)
+with_places-read zero last prefix bytes apart = nothing_follows last prefix bytes apart
+with_places-read (suc n) last prefix bytes apart =
+    then_holds (BeginsPlace last prefix bytes) (AreRead (suc n) last prefix bytes) (place_at last prefix bytes) _
+    (place_at-begins last prefix bytes)
     (λ place begins.
-    one_before n last front bytes place.0 place.1 begins (with_places n last (front ++ place.0 ∷ []) place.1)
-    (with_places-read n last (front ++ place.0 ∷ []) place.1 (apart_add front place.0 apart begins.apart)))
+    one_before n last prefix bytes place.0 place.1 begins (with_places n last (prefix ++ place.0 ∷ []) place.1)
+    (with_places-read n last (prefix ++ place.0 ∷ []) place.1 (apart_add prefix place.0 apart begins.apart)))
 
 abbrev IsSaved : List ℕ → Locks → Type 0
 IsSaved bytes s = IsSound s × (saved s ≡ bytes)

@@ -1,7 +1,7 @@
 //! Answers that name a token.
 
 ghost use Rattle.std.specs.Prelude.{◌≡◌, ◌≤◌, length, IfOk};
-ghost use Rattle.lock_host.specs.Locks.{granted, held, told};
+ghost use Rattle.lock_host.specs.Locks.{granted, held, holder_text};
 
 use crate::fields::put_number;
 use crate::lock::Lock;
@@ -30,8 +30,8 @@ pub fn held(alloc: Global, lock: &Lock) -> Result<Bytes, NoMemory>
 }
 
 /// Who holds the lock, or `free`.
-pub fn told(alloc: Global, found: Option<(usize, Lock)>) -> Result<Bytes, NoMemory>
-    ensures answer { IfOk result (λ b. b ≡ told found) }
+pub fn holder_text(alloc: Global, found: Option<(usize, Lock)>) -> Result<Bytes, NoMemory>
+    ensures answer { IfOk result (λ b. b ≡ holder_text found) }
     ensures short { IfOk result (λ b. length b ≤ 76) }
 {
     match found {

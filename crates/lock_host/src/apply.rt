@@ -1,9 +1,9 @@
 ghost use Rattle.std.specs.Prelude.{◌≡◌, ◌≤◌, length, Some, IfOk, OnErr};
 ghost use Rattle.lock_host.specs.Done.{IsStep};
 ghost use Rattle.lock_host.specs.Locks.{says, granted_at, grant, acquire, holds, release, step};
-ghost use Rattle.lock_host.specs.Locks.{undone, told, found};
+ghost use Rattle.lock_host.specs.Locks.{undone, holder_text, found};
 
-use crate::answers::{granted, held, told};
+use crate::answers::{granted, held, holder_text};
 use crate::lock::Lock;
 use crate::locks::{LAST_TOKEN, LockTable};
 use crate::name::Name;
@@ -111,9 +111,9 @@ fn release(table: &mut LockTable, owner: &Name, token: u64, place: Option<(usize
 
 fn inspect(table: &LockTable, name: &Name) -> Done
     ensures { IfOk result (λ r. IsStep r.0 table.now r.1
-        (says table.now (told (found table.now.places name.now)))) }
+        (says table.now (holder_text (found table.now.places name.now)))) }
 {
-    let answer = told(table.alloc(), table.find(name))?;
+    let answer = holder_text(table.alloc(), table.find(name))?;
     Ok((answer, LockUndo::Nothing))
 }
 

@@ -26,17 +26,17 @@ use Rattle.lock_text.specs.Text.{fits_name, name_of, named, spell, op_of, words_
 
 -- ---- the names of an op of bytes are bytes
 
-bytes_front : (xs ys : List ℕ) → IsBytes (xs ++ ys) → IsBytes xs
-bytes_front [] ys all i = omega arith
-bytes_front (x ∷ xs) ys all zero = all 0
-bytes_front (x ∷ xs) ys all (suc i) = bytes_front xs ys (λ j. all (suc j)) i
+bytes_prefix : (xs ys : List ℕ) → IsBytes (xs ++ ys) → IsBytes xs
+bytes_prefix [] ys all i = omega arith
+bytes_prefix (x ∷ xs) ys all zero = all 0
+bytes_prefix (x ∷ xs) ys all (suc i) = bytes_prefix xs ys (λ j. all (suc j)) i
 
 bytes_back : (xs ys : List ℕ) → IsBytes (xs ++ ys) → IsBytes ys
 bytes_back [] ys all = all
 bytes_back (x ∷ xs) ys all = bytes_back xs ys (λ j. all (suc j))
 
 first_is : (name rest : List ℕ) → IsBytes (name_bytes name ++ rest) → IsBytes name
-first_is name rest all = bytes_front name rest (λ j. all (suc j))
+first_is name rest all = bytes_prefix name rest (λ j. all (suc j))
 
 rest_is : (name rest : List ℕ) → IsBytes (name_bytes name ++ rest) → IsBytes rest
 rest_is name rest all = bytes_back name rest (λ j. all (suc j))

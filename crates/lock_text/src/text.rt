@@ -167,7 +167,7 @@ fn held(alloc: Global, answer: &[u8], token: Option<(u64, &[u8])>) -> Result<Wor
 
 /// The first bytes, and those after them; all and none where there are not so many.
 fn split(bytes: &[u8], count: usize) -> (&[u8], &[u8])
-    ensures front { result.0.now ≡ take count bytes.now }
+    ensures prefix { result.0.now ≡ take count bytes.now }
     ensures rest { result.1.now ≡ drop count bytes.now }
 {
     if bytes.len() < count {
@@ -201,12 +201,12 @@ impl OpText for LockText {
 
     #[tactic(auto, unfolding(crate::specs::Text::result_words))]
     fn result(alloc: Global, answer: &[u8]) -> Result<Words, NoMemory> {
-        let (front, rest) = split(answer, 7);
-        if is_word(front, "granted") {
+        let (prefix, rest) = split(answer, 7);
+        if is_word(prefix, "granted") {
             return granted(alloc, answer, number(rest));
         }
-        let (front, rest) = split(answer, 4);
-        if is_word(front, "held") {
+        let (prefix, rest) = split(answer, 4);
+        if is_word(prefix, "held") {
             return held(alloc, answer, number(rest));
         }
         one_word(alloc, answer)

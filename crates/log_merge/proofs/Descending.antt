@@ -34,7 +34,7 @@ use Rattle.std.proofs.lemmas.Option.{slice_get_within, get_or_from_slice_get, sl
 use Rattle.std.proofs.lemmas.Bool.Decides.{nat_tests}
 use Rattle.nop_types.specs.declared.request.Entry.{Entry}
 use Rattle.nop_types.specs.declared.request.Entry.TheVariants.{NoOp, Req}
-use Rattle.nop_types.specs.declared.peer.Change as told
+use Rattle.nop_types.specs.declared.peer.Change as code
 use Rattle.nop_types.specs.declared.view.View.{View}
 use Rattle.nop_types.specs.Checkpoints.{Checkpoint}
 use Rattle.nop_types.specs.Lists.{Has, slot_of}
@@ -43,10 +43,10 @@ use Rattle.nop_types.specs.PlainChanges.{Change, plain, plain_above}
 use Rattle.nop_types.specs.Views.{is_view}
 use Rattle.lemmas.proofs.Members.{Has-first, Has-rest, Has-none, Has-cases, Has-filter, Has-from_filter}
 use Rattle.log_merge.specs.Given.{rests}
-use Rattle.log_merge.specs.Merge.{Told, told, of_both, of_two, chosen, merge}
+use Rattle.log_merge.specs.Merge.{Choice, choice_of, of_both, of_two, chosen, merge}
 use Rattle.log_merge.specs.Merging.{best, merge_above, merged_from, merged}
 use Rattle.log_merge.specs.Pairs.{of_entries, put_noop, with_noops, of_logs}
-use Rattle.log_merge.specs.Merged.{HasDistinctSenders, Tells}
+use Rattle.log_merge.specs.Merged.{HasDistinctSenders, HasPlainLog}
 use Rattle.log_merge.proofs.Slots.{slot_of-merge, same_slots}
 use Rattle.log_merge.proofs.Best.{best_is_best}
 use Rattle.log_merge.proofs.Merged.{merge_of_same}
@@ -122,23 +122,23 @@ abbrev Ascends : List Change → Type 0
 Ascends [] = Unit {0}
 Ascends (c ∷ cs) = AllByRecursion (λ d. c.sender ≤ d.sender) cs × Ascends cs
 
-abbrev IsFrom : ℕ → Option Told → Type 0
+abbrev IsFrom : ℕ → Option Choice → Type 0
 IsFrom s o = IfSome o (λ t. s ≤ t.sender)
 
-told_from : (s q : ℕ) (o : Option Entry) → s ≤ q → IsFrom s (told q o)
-told_from s q None h = tt
-told_from s q (Some x) h = h
+choice_from : (s q : ℕ) (o : Option Entry) → s ≤ q → IsFrom s (choice_of q o)
+choice_from s q None h = tt
+choice_from s q (Some x) h = h
 
-either_from : (s : ℕ) (b : Bool) (x y : Told) → s ≤ x.sender → s ≤ y.sender → s ≤ (cond b x y).sender
+either_from : (s : ℕ) (b : Bool) (x y : Choice) → s ≤ x.sender → s ≤ y.sender → s ≤ (cond b x y).sender
 either_from s true x y h g = h
 either_from s false x y h g = g
 
-both_from : (s : ℕ) (d e : Entry) (x y : Told) → s ≤ x.sender → s ≤ y.sender → s ≤ (of_both d e x y).sender
+both_from : (s : ℕ) (d e : Entry) (x y : Choice) → s ≤ x.sender → s ≤ y.sender → s ≤ (of_both d e x y).sender
 both_from s NoOp e x y h g = h
 both_from s (Req q) NoOp x y h g = g
 both_from s (Req q) (Req r) x y h g = either_from s (nat_le x.sender y.sender) x y h g
 
-two_from : (s : ℕ) (a b : Option Told) → IsFrom s a → IsFrom s b → IsFrom s (of_two a b)
+two_from : (s : ℕ) (a b : Option Choice) → IsFrom s a → IsFrom s b → IsFrom s (of_two a b)
 two_from s None b h g = g
 two_from s (Some x) None h g = h
 two_from s (Some x) (Some y) h g = both_from s x.entry y.entry x y h g
@@ -146,18 +146,18 @@ two_from s (Some x) (Some y) h g = both_from s x.entry y.entry x y h g
 chosen_from : (s : ℕ) (cs : List Change) (k : ℕ) → AllByRecursion (λ d. s ≤ d.sender) cs → IsFrom s (chosen cs k)
 chosen_from s [] k h = tt
 chosen_from s (c ∷ cs) k h =
-    two_from s (told c.sender (slot_of c.log k)) (chosen cs k) (told_from s c.sender (slot_of c.log k) h.0) (chosen_from s cs k h.1)
+    two_from s (choice_of c.sender (slot_of c.log k)) (chosen cs k) (choice_from s c.sender (slot_of c.log k) h.0) (chosen_from s cs k h.1)
 
 -- the lower sender's entry against another
-entries_won : (x y : Entry) (s : ℕ) (t : Told) → s ≤ t.sender → t.entry ≡ y
+entries_won : (x y : Entry) (s : ℕ) (t : Choice) → s ≤ t.sender → t.entry ≡ y
     → Some (of_entries x y) ≡ Some (of_both x y (record { sender = s; entry = x }) t).entry
 entries_won NoOp NoOp s t h e = refl
 entries_won NoOp (Req r) s t h e = refl
 entries_won (Req q) NoOp s t h e = ap (λ (z : Entry). Some z) (sym e)
 entries_won (Req q) (Req r) s t h e = rw (let lower : nat_le s t.sender ≡ true = grind (arith, nat_tests) in lower) refl
 
-slots_won : (s : ℕ) (a : Option Entry) (o : Option Told) → IsFrom s o
-    → of_slots a (option_map (λ t. t.entry) o) ≡ option_map (λ t. t.entry) (of_two (told s a) o)
+slots_won : (s : ℕ) (a : Option Entry) (o : Option Choice) → IsFrom s o
+    → of_slots a (option_map (λ t. t.entry) o) ≡ option_map (λ t. t.entry) (of_two (choice_of s a) o)
 slots_won s None o h = refl
 slots_won s (Some x) None h = refl
 slots_won s (Some x) (Some t) h = entries_won x t.entry s t h refl
@@ -225,9 +225,9 @@ has_permuted cs ds c same h =
     let there = Contains-permutation cs ds c same (h.0, slice_get_within cs h.0 c h.1, get_or_from_slice_get cs h.0 c c h.1) in
     (there.0, found_at ds there.0 c there.1 there.2)
 
-tells_permuted : (p : Change → Bool) (cs ds : List Change) (s : ℕ) (l : List Entry) → IsPermutation cs ds
-    → Tells (filter p cs) s l → Tells (filter p ds) s l
-tells_permuted p cs ds s l same h =
+logs_permuted : (p : Change → Bool) (cs ds : List Change) (s : ℕ) (l : List Entry) → IsPermutation cs ds
+    → HasPlainLog (filter p cs) s l → HasPlainLog (filter p ds) s l
+logs_permuted p cs ds s l same h =
     let kept = Has-from_filter p h.change cs h.member in
     record {
       change = h.change;
@@ -243,11 +243,11 @@ of_sorted p cs ds distinct same sorted =
     of_ascending (filter p ds) (ascends (filter p ds) (IsNonDecreasingBy-filter (λ c. c.sender) p ds sorted))
     ∙ sym
     (merge_of_same (filter p cs) (filter p ds) (kept_distinct p cs distinct)
-    (λ s l. (tells_permuted p cs ds s l same, tells_permuted p ds cs s l (IsPermutation-sym cs ds same))))
+    (λ s l. (logs_permuted p cs ds s l same, logs_permuted p ds cs s l (IsPermutation-sym cs ds same))))
 
 -- ---- the changes as they are told
 
-other_at : (k : Keeping) (n : ℕ) (cs : List told.Change) (i : ℕ) (c : Change) → slice_get (map (plain_above k n) cs) i ≡ Some c
+other_at : (k : Keeping) (n : ℕ) (cs : List code.Change) (i : ℕ) (c : Change) → slice_get (map (plain_above k n) cs) i ≡ Some c
     → (d : Change) × (slice_get (map plain cs) i ≡ Some d) × (d.sender ≡ c.sender)
 other_at k n [] i c e = absurd cc
 other_at k n (d ∷ cs) zero c e =
@@ -255,14 +255,14 @@ other_at k n (d ∷ cs) zero c e =
     (plain d, refl, ap (λ (x : Change). x.sender) same)
 other_at k n (d ∷ cs) (suc i) c e = other_at k n cs i c e
 
-pub distinct_above : (k : Keeping) (n : ℕ) (cs : List told.Change) → HasDistinctSenders (map plain cs)
+pub distinct_above : (k : Keeping) (n : ℕ) (cs : List code.Change) → HasDistinctSenders (map plain cs)
     → HasDistinctSenders (map (plain_above k n) cs)
 distinct_above k n cs distinct i j c d e g same =
     let a = other_at k n cs i c e in
     let b = other_at k n cs j d g in
     distinct i j a.0 b.0 a.1 b.1 (a.2 ∙ same ∙ sym b.2)
 
-sorted_above : (n : ℕ) (cs : List told.Change) → IsNonDecreasingBy (λ c. c.sender) cs
+sorted_above : (n : ℕ) (cs : List code.Change) → IsNonDecreasingBy (λ c. c.sender) cs
     → IsNonDecreasingBy (λ c. c.sender) (map (plain_above Trimmed n) cs)
 sorted_above n [] h i j d le within = absurd (omega arith)
 sorted_above n (c ∷ cs) h i j d le within =
@@ -272,51 +272,51 @@ sorted_above n (c ∷ cs) h i j d le within =
     omega (arith, h i j c le len, ap (λ (x : Change). x.sender) at, ap (λ (x : Change). x.sender) above)
 
 -- the changes that count, sorted, give the merge of those that count
-pub of_sorted_told : (view : View) (n : ℕ) (cs ds : List told.Change) → HasDistinctSenders (map plain cs) → IsPermutation cs ds
+pub of_sorted_changes : (view : View) (n : ℕ) (cs ds : List code.Change) → HasDistinctSenders (map plain cs) → IsPermutation cs ds
     → IsNonDecreasingBy (λ c. c.sender) ds → of_all (rests view n ds) [] ≡ merge (rests view n cs)
-of_sorted_told view n cs ds distinct same sorted =
+of_sorted_changes view n cs ds distinct same sorted =
     let p : Change → Bool = λ c. is_view c.last_normal view in
-    let f : told.Change → Change = plain_above Trimmed n in
+    let f : code.Change → Change = plain_above Trimmed n in
     ap (λ (xs : List Change). of_all xs []) (map_filter f p ds)
     ∙ of_sorted p (map f cs) (map f ds) (distinct_above Trimmed n cs distinct) (IsPermutation-map f cs ds same)
     (sorted_above n ds sorted)
     ∙ sym (ap merge (map_filter f p cs))
 
 -- the last of the changes, where it counts
-kept_last : (p : told.Change → Bool) (cs : List told.Change) (c : told.Change) → p c ≡ true
+kept_last : (p : code.Change → Bool) (cs : List code.Change) (c : code.Change) → p c ≡ true
     → filter p (cs ++ c ∷ []) ≡ filter p cs ++ c ∷ []
 kept_last p cs c e =
     filter-append p cs (c ∷ []) ∙ ap (λ (b : Bool). filter p cs ++ cond b (c ∷ []) []) e
 
-pub rests_more : (view : View) (n : ℕ) (cs : List told.Change) (c : told.Change) (l : List Entry) → is_view c.last_normal view ≡ true
+pub rests_more : (view : View) (n : ℕ) (cs : List code.Change) (c : code.Change) (l : List Entry) → is_view c.last_normal view ≡ true
     → of_all (rests view n cs) (of_logs (above Trimmed c.log n) l) ≡ of_all (rests view n (cs ++ c ∷ [])) l
 rests_more view n cs c l e =
-    let p : told.Change → Bool = λ d. is_view d.last_normal view in
-    let f : told.Change → Change = plain_above Trimmed n in
+    let p : code.Change → Bool = λ d. is_view d.last_normal view in
+    let f : code.Change → Change = plain_above Trimmed n in
     sym
-    (ap (λ (ds : List told.Change). of_all (map f ds) l) (kept_last p cs c e)
+    (ap (λ (ds : List code.Change). of_all (map f ds) l) (kept_last p cs c e)
     ∙ ap (λ (ds : List Change). of_all ds l) (map-append f (filter p cs) (c ∷ []))
     ∙ of_all_pushed (map f (filter p cs)) (f c) l)
 
 -- ---- the checkpoint of a sender
 
 -- the checkpoint that the changes bring from this sender, else one that is there
-abbrev pub taken : ℕ → List told.Change → Option Checkpoint → Option Checkpoint
+abbrev pub taken : ℕ → List code.Change → Option Checkpoint → Option Checkpoint
 taken s [] o = o
 taken s (c ∷ cs) o = cond (c.sender == s) c.log.checkpoint (taken s cs o)
 
-taken_pushed : (s : ℕ) (cs : List told.Change) (c : told.Change) (o : Option Checkpoint)
+taken_pushed : (s : ℕ) (cs : List code.Change) (c : code.Change) (o : Option Checkpoint)
     → taken s (cs ++ c ∷ []) o ≡ taken s cs (cond (c.sender == s) c.log.checkpoint o)
 taken_pushed s [] c o = refl
 taken_pushed s (d ∷ cs) c o = ap (λ (x : Option Checkpoint). cond (d.sender == s) d.log.checkpoint x) (taken_pushed s cs c o)
 
-pub taken_more : (p : told.Change → Bool) (s : ℕ) (cs : List told.Change) (c : told.Change) (o : Option Checkpoint) → p c ≡ true
+pub taken_more : (p : code.Change → Bool) (s : ℕ) (cs : List code.Change) (c : code.Change) (o : Option Checkpoint) → p c ≡ true
     → taken s (filter p cs) (cond (c.sender == s) c.log.checkpoint o) ≡ taken s (filter p (cs ++ c ∷ [])) o
 taken_more p s cs c o e =
-    sym (ap (λ (ds : List told.Change). taken s ds o) (kept_last p cs c e) ∙ taken_pushed s (filter p cs) c o)
+    sym (ap (λ (ds : List code.Change). taken s ds o) (kept_last p cs c e) ∙ taken_pushed s (filter p cs) c o)
 
-taken_is : (s : ℕ) (cs : List told.Change) (g : told.Change) → Has cs g → g.sender ≡ s
-    → ((c : told.Change) → Has cs c → c.sender ≡ s → c ≡ g) → taken s cs None ≡ g.log.checkpoint
+taken_is : (s : ℕ) (cs : List code.Change) (g : code.Change) → Has cs g → g.sender ≡ s
+    → ((c : code.Change) → Has cs c → c.sender ≡ s → c ≡ g) → taken s cs None ≡ g.log.checkpoint
 taken_is s [] g has is only = absurd (Has-none g has)
 taken_is s (c ∷ cs) g has is only =
     on (c.sender == s) refl (λ rest. taken_is s cs g rest is (λ d h. only d (Has-rest d c cs h)))
@@ -324,25 +324,25 @@ taken_is s (c ∷ cs) g has is only =
     on : (b : Bool) → (c.sender == s) ≡ b → (Has cs g → taken s cs None ≡ g.log.checkpoint)
         → cond b c.log.checkpoint (taken s cs None) ≡ g.log.checkpoint
     on true e later =
-        ap (λ (d : told.Change). d.log.checkpoint) (only c (Has-first c c cs refl) (grind (arith, nat_tests, e)))
+        ap (λ (d : code.Change). d.log.checkpoint) (only c (Has-first c c cs refl) (grind (arith, nat_tests, e)))
     on false e later =
         elim (Has-cases g c cs has) [
-          | inl same ↦ absurd (let here = ap (λ (d : told.Change). d.sender) same in grind (arith, nat_tests, e, here, is))
+          | inl same ↦ absurd (let here = ap (λ (d : code.Change). d.sender) same in grind (arith, nat_tests, e, here, is))
           | inr rest ↦ later rest
         ]
 
-pub same_change : (cs : List told.Change) (c d : told.Change) → HasDistinctSenders (map plain cs) → Has cs c → Has cs d
+pub same_change : (cs : List code.Change) (c d : code.Change) → HasDistinctSenders (map plain cs) → Has cs c → Has cs d
     → c.sender ≡ d.sender → c ≡ d
 same_change cs c d distinct (i, e) (j, g) same =
     let at = distinct i j (plain c) (plain d) (plain_at i c e) (plain_at j d g) same in
     let both : Some c ≡ Some d = sym e ∙ ap (λ (k : ℕ). slice_get cs k) at ∙ g in
     cc
   where
-    plain_at : (k : ℕ) (x : told.Change) → slice_get cs k ≡ Some x → slice_get (map plain cs) k ≡ Some (plain x)
+    plain_at : (k : ℕ) (x : code.Change) → slice_get cs k ≡ Some x → slice_get (map plain cs) k ≡ Some (plain x)
     plain_at k x f = slice_get-map plain cs k ∙ ap (option_map plain) f
 
 -- the best one's, in whatever order the changes are
-pub taken_best : (p : told.Change → Bool) (cs ds : List told.Change) (g : told.Change) → HasDistinctSenders (map plain cs)
+pub taken_best : (p : code.Change → Bool) (cs ds : List code.Change) (g : code.Change) → HasDistinctSenders (map plain cs)
     → IsPermutation cs ds → best (filter p cs) ≡ Some g → taken g.sender (filter p ds) None ≡ g.log.checkpoint
 taken_best p cs ds g distinct same e =
     let there = Has-from_filter p g cs (best_is_best (filter p cs) g e).member in
@@ -350,7 +350,7 @@ taken_best p cs ds g distinct same e =
     same_change cs c g distinct (has_permuted ds cs c (IsPermutation-sym cs ds same) (Has-from_filter p c ds has).0) there.0 is)
 
 -- the merge, by its parts
-pub merged_of_best : (cs : List told.Change) (g : told.Change) (n : ℕ) (checkpoint : Option Checkpoint) (entries : List Entry)
+pub merged_of_best : (cs : List code.Change) (g : code.Change) (n : ℕ) (checkpoint : Option Checkpoint) (entries : List Entry)
     → best cs ≡ Some g → n ≡ g.log.sync_point → checkpoint ≡ g.log.checkpoint → entries ≡ merge_above Trimmed n cs
     → record { sync_point = n; checkpoint = checkpoint; entries = entries } ≡ merged Trimmed cs
 merged_of_best cs g n checkpoint entries found point same rest =
@@ -373,6 +373,6 @@ length-of_logs xs ys =
 pub noops_over : (l r xs ys : List Entry) → l ≡ with_noops xs ys → r ≡ l ++ drop (length l) ys → r ≡ of_logs xs ys
 noops_over l r xs ys e g = let len = ap length e ∙ length-with_noops xs ys in cc
 
-pub none_left : (cs : List told.Change) → length cs ≡ 0 → cs ≡ []
+pub none_left : (cs : List code.Change) → length cs ≡ 0 → cs ≡ []
 none_left [] h = refl
 none_left (c ∷ cs) h = absurd (omega arith)

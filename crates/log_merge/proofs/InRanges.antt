@@ -6,39 +6,39 @@ use Rattle.std.specs.List.{AllByRecursion, range_with_len}
 use Rattle.nop_types.specs.declared.limits.TheConstants.{MAX_SLOTS, MAX_LENGTH}
 use Rattle.nop_types.specs.declared.request.Entry.{Entry}
 use Rattle.nop_types.specs.declared.request.Entry.TheVariants.{NoOp, Req}
-use Rattle.nop_types.specs.declared.peer.Change as told
+use Rattle.nop_types.specs.declared.peer.Change as code
 use Rattle.nop_types.specs.PlainChanges.{Change, plain_above}
 use Rattle.nop_types.specs.Lists.{Has, slot_of}
 use Rattle.nop_types.specs.Logs.{Log, Keeping, Whole, Trimmed, empty, before, place_of, above}
 use Rattle.nop_types.specs.Ranges.{EntryFits, CheckpointIsIn, LogIsIn, ChangeIsIn}
 use Rattle.lemmas.proofs.Members.{Has-none, Has-first, Has-rest, Has-cases}
-use Rattle.log_merge.specs.Merge.{Told, told, of_both, of_two, chosen, entry_of, longest, merge}
+use Rattle.log_merge.specs.Merge.{Choice, choice_of, of_both, of_two, chosen, entry_of, longest, merge}
 use Rattle.log_merge.specs.Merging.{best, merged_from, merged}
 use Rattle.log_merge.proofs.Best.{best_is_best}
 use Rattle.log_merge.proofs.Merged.{length-merge}
 
-abbrev ChosenFits : Option Told → Type 0
+abbrev ChosenFits : Option Choice → Type 0
 ChosenFits o = IfSome o (λ t. EntryFits t.entry)
 
-place_fits : (l : List Entry) (i : ℕ) (s : ℕ) → AllByRecursion EntryFits l → ChosenFits (told s (slice_get l i))
+place_fits : (l : List Entry) (i : ℕ) (s : ℕ) → AllByRecursion EntryFits l → ChosenFits (choice_of s (slice_get l i))
 place_fits [] i s h = tt
 place_fits (x ∷ l) zero s h = h.0
 place_fits (x ∷ l) (suc i) s h = place_fits l i s h.1
 
-slot_fits : (l : List Entry) (k : ℕ) (s : ℕ) → AllByRecursion EntryFits l → ChosenFits (told s (slot_of l k))
+slot_fits : (l : List Entry) (k : ℕ) (s : ℕ) → AllByRecursion EntryFits l → ChosenFits (choice_of s (slot_of l k))
 slot_fits l zero s h = tt
 slot_fits l (suc i) s h = place_fits l i s h
 
-either_fits : (b : Bool) (x y : Told) → EntryFits x.entry → EntryFits y.entry → EntryFits (cond b x y).entry
+either_fits : (b : Bool) (x y : Choice) → EntryFits x.entry → EntryFits y.entry → EntryFits (cond b x y).entry
 either_fits true x y h g = h
 either_fits false x y h g = g
 
-both_fit : (d e : Entry) (x y : Told) → EntryFits x.entry → EntryFits y.entry → EntryFits (of_both d e x y).entry
+both_fit : (d e : Entry) (x y : Choice) → EntryFits x.entry → EntryFits y.entry → EntryFits (of_both d e x y).entry
 both_fit NoOp e x y h g = h
 both_fit (Req q) NoOp x y h g = g
 both_fit (Req q) (Req r) x y h g = either_fits (nat_le x.sender y.sender) x y h g
 
-two_fit : (a b : Option Told) → ChosenFits a → ChosenFits b → ChosenFits (of_two a b)
+two_fit : (a b : Option Choice) → ChosenFits a → ChosenFits b → ChosenFits (of_two a b)
 two_fit None b h g = g
 two_fit (Some x) None h g = h
 two_fit (Some x) (Some y) h g = both_fit x.entry y.entry x y h g
@@ -46,9 +46,9 @@ two_fit (Some x) (Some y) h g = both_fit x.entry y.entry x y h g
 chosen_fits : (cs : List Change) (k : ℕ) → AllByRecursion (λ c. AllByRecursion EntryFits c.log) cs → ChosenFits (chosen cs k)
 chosen_fits [] k h = tt
 chosen_fits (c ∷ cs) k h =
-    two_fit (told c.sender (slot_of c.log k)) (chosen cs k) (slot_fits c.log k c.sender h.0) (chosen_fits cs k h.1)
+    two_fit (choice_of c.sender (slot_of c.log k)) (chosen cs k) (slot_fits c.log k c.sender h.0) (chosen_fits cs k h.1)
 
-entry_fits : (o : Option Told) → ChosenFits o → EntryFits (entry_of o)
+entry_fits : (o : Option Choice) → ChosenFits o → EntryFits (entry_of o)
 entry_fits None h = tt
 entry_fits (Some t) h = h
 
@@ -60,17 +60,17 @@ pub merge_fits : (cs : List Change) → AllByRecursion (λ c. AllByRecursion Ent
 merge_fits cs h =
     all_map (λ k. entry_of (chosen cs k)) (range_with_len 1 (longest cs)) (λ k. entry_fits (chosen cs k) (chosen_fits cs k h))
 
--- ---- logs that are told, kept whole or trimmed
+-- ---- logs that are sent, kept whole or trimmed
 
 all_drop : (n : ℕ) (l : List Entry) → AllByRecursion EntryFits l → AllByRecursion EntryFits (drop n l)
 all_drop zero l h = h
 all_drop (suc n) [] h = tt
 all_drop (suc n) (x ∷ l) h = all_drop n l h.1
 
-above_fits : (k : Keeping) (n : ℕ) (cs : List told.Change) → AllByRecursion (ChangeIsIn k) cs
+above_fits : (k : Keeping) (n : ℕ) (cs : List code.Change) → AllByRecursion (ChangeIsIn k) cs
     → AllByRecursion (λ c. AllByRecursion EntryFits c.log) (map (plain_above k n) cs)
 above_fits k n [] h = tt
-above_fits k n (c ∷ cs) h = (all_drop (place_of k c.log n) c.log.entries h.0.rest.told.entries, above_fits k n cs h.1)
+above_fits k n (c ∷ cs) h = (all_drop (place_of k c.log n) c.log.entries h.0.rest.log_fits.entries, above_fits k n cs h.1)
 
 -- a log with the sync point of another one and n entries is within the limits
 abbrev Bounded : Keeping → Log → ℕ → Type 0
@@ -88,12 +88,12 @@ one_bounded Trimmed g l most low h =
     let rest = length-drop (g.sync_point - l.sync_point) l.entries in
     (omega (arith, room, rest), omega (arith, most, low, limit, rest))
 
-longest_bounded : (k : Keeping) (g : Log) (cs : List told.Change) → Bounded k g 0 → g.sync_point ≤ MAX_LENGTH
-    → ((c : told.Change) → Has cs c → c.log.sync_point ≤ g.sync_point) → AllByRecursion (ChangeIsIn k) cs
+longest_bounded : (k : Keeping) (g : Log) (cs : List code.Change) → Bounded k g 0 → g.sync_point ≤ MAX_LENGTH
+    → ((c : code.Change) → Has cs c → c.log.sync_point ≤ g.sync_point) → AllByRecursion (ChangeIsIn k) cs
     → Bounded k g (longest (map (plain_above k (before k g)) cs))
 longest_bounded k g [] none most low h = none
 longest_bounded k g (c ∷ cs) none most low h =
-    let one = one_bounded k g c.log most (low c (Has-first c c cs refl)) h.0.rest.told in
+    let one = one_bounded k g c.log most (low c (Has-first c c cs refl)) h.0.rest.log_fits in
     let rest = longest_bounded k g cs none most (λ d has. low d (Has-rest d c cs has)) h.1 in
     (omega (arith, one.0, rest.0), omega (arith, one.1, rest.1))
 
@@ -101,7 +101,7 @@ none_bounded : (k : Keeping) (g : Log) → g.sync_point ≤ MAX_LENGTH → Bound
 none_bounded Whole g most = (omega arith, omega arith)
 none_bounded Trimmed g most = (omega arith, omega (arith, most))
 
-all_has : (k : Keeping) (cs : List told.Change) (g : told.Change) → AllByRecursion (ChangeIsIn k) cs → Has cs g → ChangeIsIn k g
+all_has : (k : Keeping) (cs : List code.Change) (g : code.Change) → AllByRecursion (ChangeIsIn k) cs → Has cs g → ChangeIsIn k g
 all_has k [] g h has = absurd (Has-none g has)
 all_has k (c ∷ cs) g h has = elim (Has-cases g c cs has) [
   | inl same ↦ subst (ChangeIsIn k) (sym same) h.0
@@ -112,11 +112,11 @@ empty_fits : (k : Keeping) → LogIsIn k empty
 empty_fits Whole = record { entries = tt; room = omega arith; limit = omega arith; point = omega arith; checkpoint = refl }
 empty_fits Trimmed = record { entries = tt; room = omega arith; limit = omega arith; point = omega arith; checkpoint = (refl, tt) }
 
-longest_of : (k : Keeping) (n : ℕ) (cs : List told.Change) (c : told.Change) → Has cs c
+longest_of : (k : Keeping) (n : ℕ) (cs : List code.Change) (c : code.Change) → Has cs c
     → length (above k c.log n) ≤ longest (map (plain_above k n) cs)
 longest_of k n [] c has = absurd (Has-none c has)
 longest_of k n (d ∷ cs) c has = elim (Has-cases c d cs has) [
-  | inl same ↦ omega (arith, ap (λ (t : told.Change). length (above k t.log n)) same)
+  | inl same ↦ omega (arith, ap (λ (t : code.Change). length (above k t.log n)) same)
   | inr rest ↦ omega (arith, longest_of k n cs c rest)
 ]
 
@@ -146,14 +146,14 @@ log_fits Trimmed l es n len bound point each checkpoint = record {
 sync_within : (k : Keeping) (l : Log) → LogIsIn k l → l.sync_point ≤ MAX_LENGTH
 sync_within k l h = omega (arith, h.point, h.limit)
 
-pub merged_fits : (k : Keeping) (cs : List told.Change) → AllByRecursion (ChangeIsIn k) cs → LogIsIn k (merged k cs)
+pub merged_fits : (k : Keeping) (cs : List code.Change) → AllByRecursion (ChangeIsIn k) cs → LogIsIn k (merged k cs)
 merged_fits k cs h = on (best cs) refl
   where
-    on : (o : Option told.Change) → best cs ≡ o → LogIsIn k (merged_from k cs o)
+    on : (o : Option code.Change) → best cs ≡ o → LogIsIn k (merged_from k cs o)
     on None e = empty_fits k
     on (Some g) e =
         let is = best_is_best cs g e in
-        let own = (all_has k cs g h is.member).rest.told in
+        let own = (all_has k cs g h is.member).rest.log_fits in
         let most = sync_within k g.log own in
         let plains = map (plain_above k (before k g.log)) cs in
         log_fits k g.log (merge plains) (longest plains) (length-merge plains)

@@ -1,4 +1,4 @@
--- What a merge has in a slot, by who told which log.
+-- What a merge has in a slot, by who sent which log.
 use Rattle.std.proofs.lemmas.List.FromFn.{length-map-range_with_len}
 use Rattle.std.proofs.Common.{subst, ◌≡◌, ℕ, zero, suc, ◌≤◌, Bool, true, false, List, [], ◌∷◌, length, max, map, Some, None, refl, sym, ap}
 use Rattle.std.proofs.Common.{◌∙◌, arith}
@@ -9,8 +9,8 @@ use Rattle.nop_types.specs.declared.request.Entry.{Entry}
 use Rattle.nop_types.specs.declared.request.Entry.TheVariants.{NoOp, Req}
 use Rattle.nop_types.specs.PlainChanges.{Change}
 use Rattle.nop_types.specs.Lists.{Has, IsGreatest, slot_of}
-use Rattle.log_merge.specs.Merge.{Told, chosen, entry_of, longest, merge}
-use Rattle.log_merge.specs.Merged.{HasInSlot, HasNoOp, HasLowest, HasDistinctSenders, TellSame}
+use Rattle.log_merge.specs.Merge.{Choice, chosen, entry_of, longest, merge}
+use Rattle.log_merge.specs.Merged.{HasInSlot, HasNoOp, HasLowest, HasDistinctSenders, HaveSamePlainLogs}
 use Rattle.log_merge.proofs.Winners.{WinsBy, Winner, Nobody, Somebody, winner}
 use Rattle.log_merge.proofs.Slots.{same_slots}
 
@@ -44,16 +44,16 @@ lowest_is cs k r s has wins = record {
 same_entry : (cs : List Change) (k s t : ℕ) (x y : Entry) → HasDistinctSenders cs → HasInSlot cs k s x → HasInSlot cs k t y → s ≡ t → x ≡ y
 same_entry cs k s t x y distinct h g e =
     let place =
-    distinct h.told.member.0 g.told.member.0 h.told.change g.told.change h.told.member.1 g.told.member.1
-    (h.told.sender ∙ e ∙ sym g.told.sender) in
-    let left = h.told.member.1 in
-    let right = g.told.member.1 in
-    let change : h.told.change ≡ g.told.change = cc in
-    let log : h.log ≡ g.log = sym h.told.log ∙ ap (λ (c : Change). c.log) change ∙ g.told.log in
+    distinct h.source.member.0 g.source.member.0 h.source.change g.source.change h.source.member.1 g.source.member.1
+    (h.source.sender ∙ e ∙ sym g.source.sender) in
+    let left = h.source.member.1 in
+    let right = g.source.member.1 in
+    let change : h.source.change ≡ g.source.change = cc in
+    let log : h.log ≡ g.log = sym h.source.log ∙ ap (λ (c : Change). c.log) change ∙ g.source.log in
     let entry : Some x ≡ Some y = sym h.entry ∙ ap (λ (l : List Entry). slot_of l k) log ∙ g.entry in
     cc
 
-lowest_wins : (cs : List Change) (k : ℕ) (r : Request) (w : Told) → HasDistinctSenders cs → HasLowest cs k r
+lowest_wins : (cs : List Change) (k : ℕ) (r : Request) (w : Choice) → HasDistinctSenders cs → HasLowest cs k r
     → HasInSlot cs k w.sender w.entry → ((s : ℕ) (x : Entry) → HasInSlot cs k s x → WinsBy w.entry x w.sender s) → w.entry ≡ Req r
 lowest_wins cs k r w distinct h has wins = at w.entry has (wins h.sender (Req r) h.request)
   where
@@ -105,13 +105,13 @@ longest_is (c ∷ cs) = greatest_more (length c.log) (longest cs) (map (λ d. le
 pub longest_in_merge : (cs : List Change) → IsGreatest (0 ∷ map (λ c. length c.log) cs) (length (merge cs))
 longest_in_merge cs = rw (length-merge cs) (longest_is cs)
 
-carried : (cs ds : List Change) (k s : ℕ) (x : Entry) → TellSame cs ds → HasInSlot cs k s x → HasInSlot ds k s x
-carried cs ds k s x same h = record { log = h.log; told = (same s h.log).0 h.told; entry = h.entry }
+carried : (cs ds : List Change) (k s : ℕ) (x : Entry) → HaveSamePlainLogs cs ds → HasInSlot cs k s x → HasInSlot ds k s x
+carried cs ds k s x same h = record { log = h.log; source = (same s h.log).0 h.source; entry = h.entry }
 
-turned : (cs ds : List Change) → TellSame cs ds → TellSame ds cs
+turned : (cs ds : List Change) → HaveSamePlainLogs cs ds → HaveSamePlainLogs ds cs
 turned cs ds same s l = ((same s l).1, (same s l).0)
 
-lowest_carried : (cs ds : List Change) (k : ℕ) (r : Request) → TellSame cs ds → HasLowest cs k r → HasLowest ds k r
+lowest_carried : (cs ds : List Change) (k : ℕ) (r : Request) → HaveSamePlainLogs cs ds → HasLowest cs k r → HasLowest ds k r
 lowest_carried cs ds k r same h =
     let back = turned cs ds same in
     record {
@@ -121,7 +121,7 @@ lowest_carried cs ds k r same h =
       lowest = λ s x g. h.lowest s x (carried ds cs k s x back g);
     }
 
-pub merge_of_same : (cs ds : List Change) → HasDistinctSenders cs → TellSame cs ds → merge cs ≡ merge ds
+pub merge_of_same : (cs ds : List Change) → HasDistinctSenders cs → HaveSamePlainLogs cs ds → merge cs ≡ merge ds
 merge_of_same cs ds distinct same = same_slots (merge cs) (merge ds) (λ k. at k (winner ds k))
   where
     at : (k : ℕ) → Winner ds k → slot_of (merge cs) k ≡ slot_of (merge ds) k

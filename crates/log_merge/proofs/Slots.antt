@@ -7,7 +7,7 @@ use Rattle.std.proofs.lemmas.Bool.Decides.{nat_tests}
 use Rattle.nop_types.specs.declared.request.Entry.{Entry}
 use Rattle.nop_types.specs.PlainChanges.{Change}
 use Rattle.nop_types.specs.Lists.{slot_of}
-use Rattle.log_merge.specs.Merge.{Told, told, of_two, chosen, entry_of, longest, merge}
+use Rattle.log_merge.specs.Merge.{Choice, choice_of, of_two, chosen, entry_of, longest, merge}
 
 get-map-range : {A : Type 0} (f : ℕ → A) (a n i : ℕ) → slice_get (map f (range_with_len a n)) i ≡ cond (nat_lt i n) (Some (f (a + i))) None
 get-map-range f a zero i = rw (let past : nat_lt i zero ≡ false = grind (arith, nat_tests) in past) refl
@@ -24,11 +24,11 @@ some-get (x ∷ xs) zero = let here : nat_lt zero (suc (length xs)) ≡ true = g
 some-get (x ∷ xs) (suc i) =
     some-get xs i ∙ (let less : nat_lt i (length xs) ≡ nat_lt (suc i) (suc (length xs)) = grind (arith, nat_tests) in less)
 
-some-told : (s : ℕ) (o : Option Entry) → is_some (told s o) ≡ is_some o
-some-told s None = refl
-some-told s (Some x) = refl
+some-choice_of : (s : ℕ) (o : Option Entry) → is_some (choice_of s o) ≡ is_some o
+some-choice_of s None = refl
+some-choice_of s (Some x) = refl
 
-some-two : (a b : Option Told) → is_some (of_two a b) ≡ (is_some a || is_some b)
+some-two : (a b : Option Choice) → is_some (of_two a b) ≡ (is_some a || is_some b)
 some-two None b = refl
 some-two (Some a) None = refl
 some-two (Some a) (Some b) = refl
@@ -40,8 +40,8 @@ below-max i m n = grind (arith, nat_tests)
 some-chosen : (cs : List Change) (i : ℕ) → is_some (chosen cs (suc i)) ≡ nat_lt i (longest cs)
 some-chosen [] i = let past : nat_lt i zero ≡ false = grind (arith, nat_tests) in sym past
 some-chosen (c ∷ cs) i =
-    some-two (told c.sender (slice_get c.log i)) (chosen cs (suc i))
-    ∙ ap (λ b. b || is_some (chosen cs (suc i))) (some-told c.sender (slice_get c.log i) ∙ some-get c.log i)
+    some-two (choice_of c.sender (slice_get c.log i)) (chosen cs (suc i))
+    ∙ ap (λ b. b || is_some (chosen cs (suc i))) (some-choice_of c.sender (slice_get c.log i) ∙ some-get c.log i)
     ∙ ap (λ b. nat_lt i (length c.log) || b) (some-chosen cs i)
     ∙ sym (below-max i (length c.log) (longest cs))
 
@@ -49,7 +49,7 @@ none-chosen : (cs : List Change) → chosen cs zero ≡ None
 none-chosen [] = refl
 none-chosen (c ∷ cs) = none-chosen cs
 
-given : (o : Option Told) (b : Bool) → is_some o ≡ b → cond b (Some (entry_of o)) None ≡ option_map (λ t. t.entry) o
+given : (o : Option Choice) (b : Bool) → is_some o ≡ b → cond b (Some (entry_of o)) None ≡ option_map (λ t. t.entry) o
 given None b e = rw (sym e) refl
 given (Some t) b e = rw (sym e) refl
 

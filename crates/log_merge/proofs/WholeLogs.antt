@@ -10,10 +10,10 @@ use Rattle.nop_types.specs.PlainChanges.{plain}
 use Rattle.nop_types.specs.Ranges.{ChangeIsIn}
 use Rattle.nop_types.specs.Views.{is_view}
 use Rattle.log_merge.specs.Merge.{merge}
-use Rattle.log_merge.specs.Merging.{kept_told, precedes, better, best, merged}
+use Rattle.log_merge.specs.Merging.{kept_changes, precedes, better, best, merged}
 use Rattle.log_merge.specs.Starting.{greatest, kept, greatest_point}
 
--- ---- what is kept of changes that are told
+-- ---- what is kept of changes that are sent
 
 map_first : {A B : Type 0} (f : A → B) (b : Bool) (x : A) (xs : List A) (ys : List B) → map f xs ≡ ys
     → map f (cond b (x ∷ xs) xs) ≡ cond b (f x ∷ ys) ys
@@ -24,7 +24,7 @@ pub map_filter : {A B : Type 0} (f : A → B) (p : B → Bool) (xs : List A) →
 map_filter f p [] = refl
 map_filter f p (x ∷ xs) = map_first f (p (f x)) x (filter (λ y. p (f y)) xs) (filter p (map f xs)) (map_filter f p xs)
 
-pub kept_is_plain : (cs : List Change) → map plain (kept_told cs) ≡ kept (map plain cs)
+pub kept_is_plain : (cs : List Change) → map plain (kept_changes cs) ≡ kept (map plain cs)
 kept_is_plain cs = map_filter plain (λ c. is_view c.last_normal (greatest (map plain cs))) cs
 
 -- ---- the best has the greatest sync point
@@ -58,7 +58,7 @@ better_none c (Some d) h g = either_none (precedes c d) c d h g
 
 best_none : (cs : List Change) → AllByRecursion (ChangeIsIn Whole) cs → IfSome (best cs) (λ d. d.log.checkpoint ≡ None)
 best_none [] h = tt
-best_none (c ∷ cs) h = better_none c (best cs) h.0.rest.told.checkpoint (best_none cs h.1)
+best_none (c ∷ cs) h = better_none c (best cs) h.0.rest.log_fits.checkpoint (best_none cs h.1)
 
 -- ---- the merge
 

@@ -3,7 +3,7 @@ use Rattle.std.proofs.Common.{◌≡◌, ℕ, List, [], ◌∷◌, Some, refl}
 use Rattle.nop_types.specs.declared.request.Entry.{Entry}
 use Rattle.nop_types.specs.declared.request.Entry.TheVariants.{NoOp, Req}
 use Rattle.nop_types.specs.declared.view.View.{View}
-use Rattle.nop_types.specs.declared.peer.Change as told
+use Rattle.nop_types.specs.declared.peer.Change as code
 use Rattle.nop_types.specs.Checkpoints.{Checkpoint}
 use Rattle.nop_types.specs.Logs.{Log, Trimmed, whole}
 use Rattle.nop_types.specs.PlainChanges.{Change}
@@ -64,14 +64,14 @@ state n = record { host = n ∷ []; clients = [] }
 abbrev trimmed : ℕ → List Entry → Log
 trimmed point entries = record { sync_point = point; checkpoint = Some (state point); entries = entries }
 
-abbrev tells : ℕ → Log → told.Change
-tells sender log = record { sender = sender; last_normal = view 0 1; next = 1; log = log }
+abbrev change_of : ℕ → Log → code.Change
+change_of sender log = record { sender = sender; last_normal = view 0 1; next = 1; log = log }
 
 -- sync point and checkpoint of the best; of the others what they have above its sync point, which may be nothing
-merge_stands_above_the_best : merged Trimmed (tells 3 (trimmed 2 (req 5 ∷ [])) ∷ tells 4 (trimmed 2 (req 7 ∷ [])) ∷ tells 1 (trimmed 1 (NoOp ∷ req 4 ∷ NoOp ∷
-    [])) ∷ tells 0 (whole 0 (req 1 ∷ [])) ∷ []) ≡ trimmed 2 (req 4 ∷ NoOp ∷ [])
+merge_stands_above_the_best : merged Trimmed (change_of 3 (trimmed 2 (req 5 ∷ [])) ∷ change_of 4 (trimmed 2 (req 7 ∷ [])) ∷ change_of 1 (trimmed 1 (NoOp ∷ req 4 ∷ NoOp ∷
+    [])) ∷ change_of 0 (whole 0 (req 1 ∷ [])) ∷ []) ≡ trimmed 2 (req 4 ∷ NoOp ∷ [])
 merge_stands_above_the_best = refl
 
-best_is_of_the_lower_sender : best (tells 4 (trimmed 2 (req 7 ∷ [])) ∷ tells 3 (trimmed 2 (req 5 ∷ [])) ∷ tells 1 (trimmed 1 []) ∷ [])
-    ≡ Some (tells 3 (trimmed 2 (req 5 ∷ [])))
+best_is_of_the_lower_sender : best (change_of 4 (trimmed 2 (req 7 ∷ [])) ∷ change_of 3 (trimmed 2 (req 5 ∷ [])) ∷ change_of 1 (trimmed 1 []) ∷ [])
+    ≡ Some (change_of 3 (trimmed 2 (req 5 ∷ [])))
 best_is_of_the_lower_sender = refl

@@ -6,12 +6,12 @@ use Rattle.nop_types.specs.Logs.{Trimmed}
 use Rattle.nop_types.specs.PlainChanges as plains
 use Rattle.nop_types.specs.PlainChanges.{plain_above}
 use Rattle.nop_types.specs.Views.{is_view}
-use Rattle.log_merge.specs.declared.merging.Told as code
-use Rattle.log_merge.specs.Merge.{Told}
+use Rattle.log_merge.specs.declared.merging.Choice as code
+use Rattle.log_merge.specs.Merge.{Choice}
 use Rattle.log_merge.specs.Merging.{better}
 
--- what a replica told, without where it lies in memory
-abbrev pub given : code.Told → Told
+-- what a log says of a slot, without where it lies in memory
+abbrev pub given : code.Choice → Choice
 given t = record { sender = t.sender; entry = t.entry.now }
 
 -- what the trimmed logs of the changes with a last normal view have above a slot

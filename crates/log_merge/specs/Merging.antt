@@ -10,8 +10,8 @@ use Rattle.log_merge.specs.Merge.{merge}
 use Rattle.log_merge.specs.Starting.{greatest}
 
 -- of the changes, those that come from the last normal view of greatest rank
-abbrev pub kept_told : List Change → List Change
-kept_told cs = filter (λ c. is_view c.last_normal (greatest (map plain cs))) cs
+abbrev pub kept_changes : List Change → List Change
+kept_changes cs = filter (λ c. is_view c.last_normal (greatest (map plain cs))) cs
 
 -- the merge of what stands above a slot
 abbrev pub merge_above : Keeping → ℕ → List Change → List Entry

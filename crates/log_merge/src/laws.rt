@@ -2,7 +2,7 @@ ghost use Rattle.std.specs.Prelude.{◌≡◌, ◌↔◌, ◌∷◌, ℕ, List, 
 ghost use Rattle.nop_types.specs.declared.request.Request.{Request};
 ghost use Rattle.nop_types.specs.declared.request.Entry.TheVariants.{NoOp, Req};
 ghost use Rattle.nop_types.specs.declared.view.View.{View};
-ghost use Rattle.nop_types.specs.declared.peer.Change as told;
+ghost use Rattle.nop_types.specs.declared.peer.Change as code;
 ghost use Rattle.nop_types.specs.PlainChanges.{Change, plain};
 ghost use Rattle.std.specs.List.{AllByRecursion};
 ghost use Rattle.std.specs.List.Sorted.{IsPermutation};
@@ -11,14 +11,14 @@ ghost use Rattle.nop_types.specs.Logs.{Keeping, Whole, whole};
 ghost use Rattle.nop_types.specs.Ranges.{EntryFits, LogIsIn, ChangeIsIn};
 ghost use Rattle.nop_types.specs.Views.{is_view};
 ghost use Rattle.log_merge.specs.Merge.{merge};
-ghost use Rattle.log_merge.specs.Merging.{kept_told, best, IsBest, merged};
+ghost use Rattle.log_merge.specs.Merging.{kept_changes, best, IsBest, merged};
 ghost use Rattle.log_merge.specs.Starting.{greatest_point, kept};
 ghost use Rattle.log_merge.specs.Merged.{
   HasNoOp,
   HasLowest,
   HasDistinctSenders,
-  TellSame,
-  TellSameLogs,
+  HaveSamePlainLogs,
+  HaveSameLogs,
 };
 
 /// A merge is as long as the longest log. It has a NO-OP exactly where a log has one, and a request exactly where no log has a
@@ -32,19 +32,19 @@ pub fn merge_by_slot()
         → ((slot_of (merge cs) k ≡ Some (Req r)) ↔ HasLowest cs k r) }
 {}
 
-/// A merge depends on who told which log, and not on the order of the changes, nor on anything else in them.
+/// A merge depends on who sent which log, and not on the order of the changes, nor on anything else in them.
 #[tactic(auto, using(crate::proofs::Merged::merge_of_same))]
 pub fn merge_is_of_pairs()
-    ensures { (cs ds : List Change) → HasDistinctSenders cs → TellSame cs ds →
+    ensures { (cs ds : List Change) → HasDistinctSenders cs → HaveSamePlainLogs cs ds →
         merge cs ≡ merge ds }
 {}
 
-/// So does the merge of the logs that replicas tell, kept whole or trimmed, with its sync point and its checkpoint. Changes that
+/// So does the merge of the logs that replicas send, kept whole or trimmed, with its sync point and its checkpoint. Changes that
 /// came in another order give the same.
 pub fn merged_is_of_pairs()
-    ensures pairs { (k : Keeping) (cs ds : List told.Change) → HasDistinctSenders (map plain cs)
-        → TellSameLogs cs ds → merged k cs ≡ merged k ds }
-    ensures order { (k : Keeping) (view : View) (cs ds : List told.Change)
+    ensures pairs { (k : Keeping) (cs ds : List code.Change) → HasDistinctSenders (map plain cs)
+        → HaveSameLogs cs ds → merged k cs ≡ merged k ds }
+    ensures order { (k : Keeping) (view : View) (cs ds : List code.Change)
         → HasDistinctSenders (map plain cs) → IsPermutation cs ds
         → merged k (filter (λ c. is_view c.last_normal view) cs)
         ≡ merged k (filter (λ c. is_view c.last_normal view) ds) }
@@ -56,18 +56,18 @@ pub fn merged_is_of_pairs()
 pub fn merge_is_in_ranges()
     ensures logs { (cs : List Change) → AllByRecursion (λ c. AllByRecursion EntryFits c.log) cs
         → AllByRecursion EntryFits (merge cs) }
-    ensures changes { (k : Keeping) (cs : List told.Change) → AllByRecursion (ChangeIsIn k) cs
+    ensures changes { (k : Keeping) (cs : List code.Change) → AllByRecursion (ChangeIsIn k) cs
         → LogIsIn k (merged k cs) }
 {}
 
 /// The merge of whole logs has the entries of the plain merge and the greatest of their sync points. The same changes are kept.
 #[tactic(auto, using(crate::proofs::WholeLogs::is_plain))]
 pub fn whole_merge_is_plain()
-    ensures entries { (cs : List told.Change) → (merged Whole cs).entries ≡ merge (map plain cs) }
-    ensures point { (cs : List told.Change)
+    ensures entries { (cs : List code.Change) → (merged Whole cs).entries ≡ merge (map plain cs) }
+    ensures point { (cs : List code.Change)
         → (merged Whole cs).sync_point ≡ greatest_point (map plain cs) }
-    ensures kept { (cs : List told.Change) → map plain (kept_told cs) ≡ kept (map plain cs) }
-    ensures log { (cs : List told.Change) → AllByRecursion (ChangeIsIn Whole) cs
+    ensures kept { (cs : List code.Change) → map plain (kept_changes cs) ≡ kept (map plain cs) }
+    ensures log { (cs : List code.Change) → AllByRecursion (ChangeIsIn Whole) cs
         → merged Whole cs ≡ whole (greatest_point (map plain cs)) (merge (map plain cs)) }
 {}
 
@@ -75,6 +75,6 @@ pub fn whole_merge_is_plain()
 /// is one, if there is a change.
 #[tactic(auto, using(crate::proofs::Best::best_of_none))]
 pub fn best_has_the_greatest()
-    ensures some { (cs : List told.Change) (c : told.Change) → best cs ≡ Some c → IsBest cs c }
-    ensures none { (cs : List told.Change) → best cs ≡ None → cs ≡ [] }
+    ensures some { (cs : List code.Change) (c : code.Change) → best cs ≡ Some c → IsBest cs c }
+    ensures none { (cs : List code.Change) → best cs ≡ None → cs ≡ [] }
 {}

@@ -8,7 +8,7 @@
 //! These laws are of plain changes, whose logs are lists. `merged` is the merge of the logs that
 //! replicas tell, kept whole or trimmed: sync point and checkpoint are those of the best of them
 //! (`best_has_the_greatest`), and of trimmed logs only what stands above that sync point is merged.
-//! Where the senders are distinct it depends on who told which log alone, sync point and checkpoint
+//! Where the senders are distinct it depends on who sent which log alone, sync point and checkpoint
 //! too, and not on the order (`merged_is_of_pairs`). It is in its ranges where the logs are
 //! (`merge_is_in_ranges`). Of whole logs it has the entries of the plain merge, and the greatest
 //! sync point (`whole_merge_is_plain`).
@@ -18,7 +18,7 @@
 //! the entries and the checkpoint instead of copying them.
 //!
 //! Files: `choosing` (the best), `merging` (slot by slot), `moving` (two logs at a time).
-//! Definitions: `specs/Merge`, `Merged` (what the laws say), `Merging` (of logs that are told), and
+//! Definitions: `specs/Merge`, `Merged` (what the laws say), `Merging` (of logs that are sent), and
 //! `Starting`: `start_of` and `start_point`, the rule by which a view is started.
 #![tactic(auto)]
 

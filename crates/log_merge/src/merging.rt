@@ -14,7 +14,7 @@ ghost use Rattle.std.specs.Prelude.{
 ghost use Rattle.nop_types.specs.Lists.{slot_of};
 ghost use Rattle.nop_types.specs.Logs.{Trimmed, above};
 ghost use Rattle.nop_types.specs.Views.{is_view};
-ghost use Rattle.log_merge.specs.Merge.{told, of_both, of_two, chosen, entry_of, longest, merge};
+ghost use Rattle.log_merge.specs.Merge.{choice_of, of_both, of_two, chosen, entry_of, longest, merge};
 ghost use Rattle.log_merge.specs.Merging.{merged};
 ghost use Rattle.log_merge.specs.Given.{given, rests};
 
@@ -24,9 +24,9 @@ use nop_types::{
 };
 use std::alloc::Global;
 
-/// An entry and who told it.
+/// an entry and its sender.
 #[derive(Clone, Copy)]
-struct Told<'a> {
+struct Choice<'a> {
     sender: u8,
     entry: &'a Entry,
 }
@@ -39,28 +39,28 @@ fn above(log: &Log, slot: u32) -> &[Entry]
     ensures limit { slot + length result.now ≤ MAX_LENGTH }
 {
     let entries = log.entries();
-    let front = slot.saturating_sub(log.sync_point()) as usize;
-    &entries[front.min(entries.len())..]
+    let prefix = slot.saturating_sub(log.sync_point()) as usize;
+    &entries[prefix.min(entries.len())..]
 }
 
 /// What a change with this last normal view tells of a place above the slot. The others tell nothing.
-fn told_at(change: &Change, view: View, slot: u32, place: usize) -> Option<Told<'_>>
+fn choice_at(change: &Change, view: View, slot: u32, place: usize) -> Option<Choice<'_>>
     requires { slot ≤ MAX_LENGTH }
     ensures { option_map given result ≡ cond (is_view change.now.last_normal view)
-        (told change.now.sender (slot_of (above Trimmed change.now.log slot) (suc place))) None }
+        (choice_of change.now.sender (slot_of (above Trimmed change.now.log slot) (suc place))) None }
 {
     if !change.last_normal.is(view) {
         return None;
     }
     let entry = above(&change.log, slot).get(place)?;
-    Some(Told {
+    Some(Choice {
         sender: change.sender,
         entry,
     })
 }
 
 /// A NO-OP wins, else the lower sender.
-fn of_both<'a>(a: Told<'a>, b: Told<'a>) -> Told<'a>
+fn of_both<'a>(a: Choice<'a>, b: Choice<'a>) -> Choice<'a>
     ensures { given result
         ≡ of_both a.entry.entry.now b.entry.entry.now (given a.entry) (given b.entry) }
 {
@@ -71,7 +71,7 @@ fn of_both<'a>(a: Told<'a>, b: Told<'a>) -> Told<'a>
     }
 }
 
-fn of_two<'a>(a: Option<Told<'a>>, b: Option<Told<'a>>) -> Option<Told<'a>>
+fn of_two<'a>(a: Option<Choice<'a>>, b: Option<Choice<'a>>) -> Option<Choice<'a>>
     ensures { option_map given result
         ≡ of_two (option_map given a.entry) (option_map given b.entry) }
 {
@@ -83,13 +83,13 @@ fn of_two<'a>(a: Option<Told<'a>>, b: Option<Told<'a>>) -> Option<Told<'a>>
 }
 
 /// What wins at a place above the slot.
-fn chosen(changes: &[Change], view: View, slot: u32, place: usize) -> Option<Told<'_>>
+fn chosen(changes: &[Change], view: View, slot: u32, place: usize) -> Option<Choice<'_>>
     requires { slot ≤ MAX_LENGTH }
     ensures { option_map given result ≡ chosen (rests view slot changes.now) (suc place) }
 {
     let mut won = None;
     for change in changes {
-        won = of_two(won, told_at(change, view, slot, place));
+        won = of_two(won, choice_at(change, view, slot, place));
     }
     won
 }
@@ -100,7 +100,7 @@ fn entry_at(changes: &[Change], view: View, slot: u32, place: usize) -> Result<E
         entry ≡ entry_of (chosen (rests view slot changes.now) (suc place))) }
 {
     match chosen(changes, view, slot, place) {
-        Some(told) => told.entry.try_clone(),
+        Some(choice) => choice.entry.try_clone(),
         None => Ok(Entry::NoOp),
     }
 }

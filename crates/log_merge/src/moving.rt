@@ -67,9 +67,9 @@ fn split_above(log: Log, slot: u32) -> (Option<Checkpoint>, Vec<Entry>)
     ensures room { length result.1.items ≤ MAX_SLOTS }
     ensures limit { slot + length result.1.items ≤ MAX_LENGTH }
 {
-    let front = slot.saturating_sub(log.sync_point()) as usize;
+    let prefix = slot.saturating_sub(log.sync_point()) as usize;
     let (checkpoint, mut entries) = log.into_parts();
-    let end = front.min(entries.len());
+    let end = prefix.min(entries.len());
     entries.drain(..end);
     (checkpoint, entries)
 }

@@ -1,5 +1,5 @@
 use crate::checking::{check, check_row};
-use crate::logs::{Ids, full, is_full, is_told, log_of};
+use crate::logs::{Ids, full, is_expected, is_full, log_of};
 use log_merge::merge_of_view;
 use nop_types::{Change, Log, View};
 use std::alloc::Global;
@@ -10,10 +10,10 @@ use view_change::{Changes, Start, Step};
 const EPOCH: u64 = 4_294_967_296;
 
 /// A change in numbers: its sender, leader and session of its last normal view, its next number, and its log.
-type Told = (u8, u32, u64, u64, Ids);
+type Row = (u8, u32, u64, u64, Ids);
 
-fn change(rt: &impl Abort, alloc: Global, told: &Told) -> Change {
-    let (sender, leader, session, next, log) = *told;
+fn change(rt: &impl Abort, alloc: Global, row: &Row) -> Change {
+    let (sender, leader, session, next, log) = *row;
     Change {
         sender,
         last_normal: View { leader, session },
@@ -45,9 +45,9 @@ const MERGES: [(&[(u8, &[u64])], &[u64]); 6] = [
 ];
 
 /// Changes of one view.
-fn changes_of(rt: &impl Abort, alloc: Global, told: &[(u8, &'static [u64])]) -> Vec<Change> {
+fn changes_of(rt: &impl Abort, alloc: Global, row: &[(u8, &'static [u64])]) -> Vec<Change> {
     let mut changes = Vec::new(alloc);
-    for (sender, log) in told {
+    for (sender, log) in row {
         let change = change(rt, alloc, &(*sender, 0, 1, 1, (0, 0, *log)));
         changes.push(change).expect(rt, "memory");
     }
@@ -55,7 +55,7 @@ fn changes_of(rt: &impl Abort, alloc: Global, told: &[(u8, &'static [u64])]) -> 
 }
 
 /// A change of another view, of which neither the sync point nor the entries count.
-const OTHER: Told = (0, 1, 1, 1, (5, 9, &[0, 0, 0, 0, 0]));
+const OTHER: Row = (0, 1, 1, 1, (5, 9, &[0, 0, 0, 0, 0]));
 
 /// The log of the changes, and that of those and one of another view.
 fn merged(rt: &impl Abort, alloc: Global, mut changes: Vec<Change>) -> (Log, Log) {
@@ -75,14 +75,14 @@ fn merges(rt: HostRuntime) {
     for (row, (changes, log)) in MERGES.iter().enumerate() {
         let changes = changes_of(&rt, rt.alloc(), changes);
         let (first, second) = merged(&rt, rt.alloc(), changes);
-        check_row(&rt, is_told(first.as_ref(), (0, 0, log)), row);
-        check_row(&rt, is_told(second.as_ref(), (0, 0, log)), row);
+        check_row(&rt, is_expected(first.as_ref(), (0, 0, log)), row);
+        check_row(&rt, is_expected(second.as_ref(), (0, 0, log)), row);
     }
 }
 
 /// The leader, the session and the count of the others that the start waits for; then the changes, of which only the last one starts
 /// the view; then the next number that it starts with, and the log.
-type Case = (u32, u64, u8, &'static [Told], u64, Ids);
+type Case = (u32, u64, u8, &'static [Row], u64, Ids);
 
 /// Of five replicas a change of an older view counts, and its log does not; a second one of a sender does not count; what stands below
 /// the greatest sync point is not merged. Of three: in one session next is the greater one; in a new session numbers begin at 1;
@@ -162,14 +162,14 @@ const STARTS: [Case; 9] = [
 ];
 
 /// What a view is started with by the last of these changes, of which the first is the leader's own; none before it starts the view.
-fn started(rt: &impl Abort, alloc: Global, view: View, f: u8, told: &[Told]) -> Option<Start> {
-    let [own, waiting @ .., last] = told else {
+fn started(rt: &impl Abort, alloc: Global, view: View, f: u8, row: &[Row]) -> Option<Start> {
+    let [own, waiting @ .., last] = row else {
         return None;
     };
     let own = change(rt, alloc, own);
     let mut changes = Changes::enter(alloc, view, f, own).expect(rt, "memory");
-    for told in waiting {
-        let change = change(rt, alloc, told);
+    for row in waiting {
+        let change = change(rt, alloc, row);
         if let Step::Started(_) = changes.on_change(change).expect(rt, "memory") {
             return None;
         }
@@ -182,7 +182,7 @@ fn started(rt: &impl Abort, alloc: Global, view: View, f: u8, told: &[Told]) -> 
 }
 
 /// What a leader alone starts its view with.
-fn started_alone(rt: &impl Abort, alloc: Global, view: View, own: &Told) -> Option<Start> {
+fn started_alone(rt: &impl Abort, alloc: Global, view: View, own: &Row) -> Option<Start> {
     let own = change(rt, alloc, own);
     let mut changes = Changes::enter(alloc, view, 0, own).expect(rt, "memory");
     Some(changes.start_now().expect(rt, "memory"))
@@ -190,18 +190,18 @@ fn started_alone(rt: &impl Abort, alloc: Global, view: View, own: &Told) -> Opti
 
 /// What a view is started with by the changes of a case.
 fn started_by(rt: &impl Abort, alloc: Global, case: &Case) -> Option<Start> {
-    let (leader, session, f, told, _next, _log) = *case;
+    let (leader, session, f, row, _next, _log) = *case;
     let view = View { leader, session };
-    match told {
+    match row {
         [own] => started_alone(rt, alloc, view, own),
-        _ => started(rt, alloc, view, f, told),
+        _ => started(rt, alloc, view, f, row),
     }
 }
 
 /// The view is started with the next number and the log of the case.
 fn is_started(start: Option<Start>, case: &Case) -> bool {
     match start {
-        Some(start) => start.next == case.4 && is_told(start.log.as_ref(), case.5),
+        Some(start) => start.next == case.4 && is_expected(start.log.as_ref(), case.5),
         None => false,
     }
 }

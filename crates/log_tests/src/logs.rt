@@ -27,8 +27,8 @@ fn checkpoint(rt: &impl Abort, alloc: Global, name: u8) -> Option<Checkpoint> {
 }
 
 /// A log with this sync point, this checkpoint and these entries.
-pub fn log_of(rt: &impl Abort, alloc: Global, told: Ids) -> Log {
-    let (sync_point, name, ids) = told;
+pub fn log_of(rt: &impl Abort, alloc: Global, expected: Ids) -> Log {
+    let (sync_point, name, ids) = expected;
     let mut entries = Vec::new(alloc);
     for id in ids {
         let entry = entry(rt, alloc, *id);
@@ -65,8 +65,10 @@ fn is_checkpoint(checkpoint: Option<&Checkpoint>, name: u8) -> bool {
 }
 
 /// The log has this sync point, this checkpoint and these entries.
-pub fn is_told(log: LogRef<'_>, told: Ids) -> bool {
-    log.sync_point == told.0 && is_checkpoint(log.checkpoint, told.1) && is_log(log.entries, told.2)
+pub fn is_expected(log: LogRef<'_>, expected: Ids) -> bool {
+    log.sync_point == expected.0
+        && is_checkpoint(log.checkpoint, expected.1)
+        && is_log(log.entries, expected.2)
 }
 
 /// Lays another log over, and says how many slots are appended.
@@ -77,9 +79,9 @@ fn overlay(rt: &impl Abort, log: &mut ReplicaLog, other: Log) -> u32 {
 }
 
 /// A replica's log with this sync point, checkpoint and ids.
-fn adopted(rt: &impl Abort, alloc: Global, told: Ids) -> ReplicaLog {
+fn adopted(rt: &impl Abort, alloc: Global, expected: Ids) -> ReplicaLog {
     let mut log = ReplicaLog::new(alloc);
-    log.adopt(log_of(rt, alloc, told));
+    log.adopt(log_of(rt, alloc, expected));
     log
 }
 
@@ -98,23 +100,27 @@ fn entries(rt: HostRuntime) {
     check(&rt, log.at(6).is_none(), "there is no slot 6");
     check(
         &rt,
-        is_told(log.as_ref(), (2, 5, &[3, 0, 6])),
+        is_expected(log.as_ref(), (2, 5, &[3, 0, 6])),
         "by reference",
     );
     check(
         &rt,
-        is_told(log.first(2), (2, 5, &[])),
+        is_expected(log.first(2), (2, 5, &[])),
         "what is synchronised",
     );
-    check(&rt, is_told(log.first(4), (2, 5, &[3, 0])), "its front");
+    check(&rt, is_expected(log.first(4), (2, 5, &[3, 0])), "its front");
     let copy = log.copy().expect(&rt, "memory");
-    check(&rt, is_told(copy.as_ref(), (2, 5, &[3, 0, 6])), "its copy");
+    check(
+        &rt,
+        is_expected(copy.as_ref(), (2, 5, &[3, 0, 6])),
+        "its copy",
+    );
 }
 
 #[test]
 fn a_new_log(rt: HostRuntime) {
     let log = ReplicaLog::new(rt.alloc());
-    check(&rt, is_told(log.as_ref(), (0, 0, &[])), "empty");
+    check(&rt, is_expected(log.as_ref(), (0, 0, &[])), "empty");
     check(&rt, log.has_room(), "with room");
 }
 
@@ -131,20 +137,28 @@ fn sync_points_rise(rt: HostRuntime) {
     let passed = raised(&rt, &mut log, 4, 7, rt.alloc());
     check(
         &rt,
-        is_told(passed.as_ref(), (0, 0, &[3, 0])),
+        is_expected(passed.as_ref(), (0, 0, &[3, 0])),
         "what moved out",
     );
-    check(&rt, is_told(log.as_ref(), (4, 7, &[6])), "what is kept");
+    check(&rt, is_expected(log.as_ref(), (4, 7, &[6])), "what is kept");
     check(&rt, log.len() == 5, "as long as before");
     let passed = raised(&rt, &mut log, 4, 8, rt.alloc());
     check(
         &rt,
-        is_told(passed.as_ref(), (0, 0, &[])),
+        is_expected(passed.as_ref(), (0, 0, &[])),
         "nothing moves out",
     );
     let passed = raised(&rt, &mut log, 5, 9, rt.alloc());
-    check(&rt, is_told(passed.as_ref(), (0, 0, &[6])), "the last one");
-    check(&rt, is_told(log.as_ref(), (5, 9, &[])), "nothing is kept");
+    check(
+        &rt,
+        is_expected(passed.as_ref(), (0, 0, &[6])),
+        "the last one",
+    );
+    check(
+        &rt,
+        is_expected(log.as_ref(), (5, 9, &[])),
+        "nothing is kept",
+    );
 }
 
 /// An own log, another one, and what the own log is after the other was adopted, and after it was laid over.
@@ -193,13 +207,13 @@ const TAKINGS: [Taking; 10] = [
 fn is_adopted(rt: &impl Abort, alloc: Global, row: &Taking) -> bool {
     let mut log = adopted(rt, alloc, row.0);
     log.adopt(log_of(rt, alloc, row.1));
-    is_told(log.as_ref(), row.2)
+    is_expected(log.as_ref(), row.2)
 }
 
 fn is_laid_over(rt: &impl Abort, alloc: Global, row: &Taking) -> bool {
     let mut log = adopted(rt, alloc, row.0);
     overlay(rt, &mut log, log_of(rt, alloc, row.1));
-    is_told(log.as_ref(), row.3)
+    is_expected(log.as_ref(), row.3)
 }
 
 #[test]

@@ -53,8 +53,8 @@ enum Call {
 /// Carries out a call, and tells whether a packet has the verdict that is told.
 fn carry_out(rt: &impl Abort, alloc: Global, receiver: &mut Receiver, call: Call) -> bool {
     match call {
-        Call::Offer(session, number, told) => {
-            return offer(rt, alloc, receiver, session, number) == told;
+        Call::Offer(session, number, expected) => {
+            return offer(rt, alloc, receiver, session, number) == expected;
         }
         Call::Message => drop(receiver.take_message()),
         Call::Front => take_front(rt, receiver),
@@ -132,17 +132,17 @@ const CALLS: [(Call, u64, u64, Option<u64>); 32] = [
 ];
 
 /// The receiver has this session, this next number and this front.
-fn is_at(receiver: &Receiver, session: u64, next: u64, told: Option<u64>) -> bool {
-    receiver.session() == session && receiver.next() == next && front(receiver) == told
+fn is_at(receiver: &Receiver, session: u64, next: u64, expected: Option<u64>) -> bool {
+    receiver.session() == session && receiver.next() == next && front(receiver) == expected
 }
 
 #[test]
 fn calls(rt: HostRuntime) {
     let mut receiver = Receiver::new(rt.alloc(), 2, 1).expect(&rt, "memory");
-    for (row, (call, session, next, told)) in CALLS.iter().enumerate() {
+    for (row, (call, session, next, expected)) in CALLS.iter().enumerate() {
         let holds = carry_out(&rt, rt.alloc(), &mut receiver, *call);
         check_row(&rt, holds, row);
-        check_row(&rt, is_at(&receiver, *session, *next, *told), row);
+        check_row(&rt, is_at(&receiver, *session, *next, *expected), row);
     }
 }
 

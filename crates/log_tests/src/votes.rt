@@ -16,8 +16,8 @@ const VOTES: [(u8, Vote); 6] = [
 #[test]
 fn gaps(rt: HostRuntime) {
     let mut gap = Gap::begin(5, 3);
-    for (row, (replica, told)) in VOTES.iter().enumerate() {
-        check_row(&rt, gap.on_rep(*replica) == *told, row);
+    for (row, (replica, expected)) in VOTES.iter().enumerate() {
+        check_row(&rt, gap.on_rep(*replica) == *expected, row);
     }
     check(&rt, gap.slot() == 5, "the slot");
 }
@@ -45,8 +45,8 @@ const LENGTHS: [(u8, u32, Vote); 5] = [
 fn a_leader_synchronises(rt: HostRuntime) {
     let mut points = SyncPoints::new(2);
     points.prepare(3);
-    for (row, (replica, len, told)) in LENGTHS.iter().enumerate() {
-        check_row(&rt, points.on_rep(*replica, *len) == *told, row);
+    for (row, (replica, len, expected)) in LENGTHS.iter().enumerate() {
+        check_row(&rt, points.on_rep(*replica, *len) == *expected, row);
     }
     check(&rt, points.sync_point() == 3, "3");
 }
@@ -86,8 +86,8 @@ fn a_follower_synchronises(rt: HostRuntime) {
     check(&rt, points.on_commit(1) == None, "nothing is prepared");
     points.on_prepare(2);
     points.on_prepare(1);
-    for (row, (len, told)) in COMMITS.iter().enumerate() {
-        check_row(&rt, points.on_commit(*len) == *told, row);
+    for (row, (len, expected)) in COMMITS.iter().enumerate() {
+        check_row(&rt, points.on_commit(*len) == *expected, row);
     }
     points.clear();
     check(&rt, points.on_commit(1) == None, "nothing is prepared");

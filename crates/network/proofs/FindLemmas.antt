@@ -136,11 +136,11 @@ parts_eq (h ∷ hs) rest (w ∷ ws) =
     ∙ ap (λ (b : Bool). eqb w h && b) (parts_eq hs rest ws)
     ∙ ap (λ (b : Bool). b && bytes_eq (hs ++ rest) ws) (nat_eq_equiv.symm w h)
 
-module _ (head rest wanted front back : List ℕ) (is_front : front ≡ take (length head) wanted)
-    (is_back : back ≡ drop (length head) wanted) (b : Bool) (is : b ≡ bytes_eq front head) where
+module _ (head rest wanted prefix back : List ℕ) (is_prefix : prefix ≡ take (length head) wanted)
+    (is_back : back ≡ drop (length head) wanted) (b : Bool) (is : b ≡ bytes_eq prefix head) where
   compared : (b && bytes_eq back rest) ≡ bytes_eq (head ++ rest) wanted
   compared =
-      ap (λ (x : Bool). x && bytes_eq back rest) (is ∙ ap (λ (xs : List ℕ). bytes_eq xs head) is_front)
+      ap (λ (x : Bool). x && bytes_eq back rest) (is ∙ ap (λ (xs : List ℕ). bytes_eq xs head) is_prefix)
       ∙ ap (λ (xs : List ℕ). bytes_eq (take (length head) wanted) head && bytes_eq xs rest) is_back
       ∙ parts_eq head rest wanted
 

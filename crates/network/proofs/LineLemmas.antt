@@ -14,7 +14,7 @@ use Rattle.nop_types.specs.declared.output.Out.TheVariants as outs
 use Rattle.transcript_text.specs.Transcript.{line_text, lines_text}
 use Rattle.network.specs.declared.lines.Tally.{Tally}
 use Rattle.network.specs.LineCounts.{is_send, is_accept, Grows}
-use Rattle.network.specs.Network.{Sent, SendsFront, sends_of, lines_from}
+use Rattle.network.specs.Network.{Sent, SendsPrefix, sends_of, lines_from}
 
 count_by-append : (p : Line → Bool) (xs ys : List Line) → count_by p (xs ++ ys) ≡ count_by p xs + count_by p ys
 count_by-append p xs ys = sum_by-append (λ (x : Line). cond (p x) 1 0) xs ys
@@ -85,9 +85,9 @@ carried_more from net mid last a b c all i out lt is so_far sent more =
     }
 
 -- an output of which a front was sent leaves a front of all of them
-pub front_stays : (from : Actor) (net mid last : List Sent) (all : List Out) (i : ℕ) (out : Out) → i < length all → out ≡ get_or all i out
-    → mid ≡ net ++ sends_of from (take i all) → SendsFront mid last (sends_of from (out ∷ [])) → SendsFront net last (sends_of from all)
-front_stays from net mid last all i out lt is so_far front =
+pub prefix_stays : (from : Actor) (net mid last : List Sent) (all : List Out) (i : ℕ) (out : Out) → i < length all → out ≡ get_or all i out
+    → mid ≡ net ++ sends_of from (take i all) → SendsPrefix mid last (sends_of from (out ∷ [])) → SendsPrefix net last (sends_of from all)
+prefix_stays from net mid last all i out lt is so_far prefix =
     let done : List Sent = sends_of from (take i all) in
     let left : List Sent = sends_of from (drop (i + 1) all) in
     let one : take (i + 1) all ≡ take i all ++ out ∷ [] = take_more all i out lt ∙ ap (λ (x : Out). take i all ++ x ∷ []) (sym is) in
@@ -95,17 +95,17 @@ front_stays from net mid last all i out lt is so_far front =
     ap (sends_of from) (sym (take-append-drop (i + 1) all)) ∙ sends_of-append from (take (i + 1) all) (drop (i + 1) all)
     ∙ ap (λ (s : List Sent). s ++ left) (ap (sends_of from) one ∙ sends_of-append from (take i all) (out ∷ [])) in
     record {
-      front = done ++ front.front;
-      rest = front.rest ++ left;
-      parts = parts ∙ ap (λ (s : List Sent). (done ++ s) ++ left) front.parts
-          ∙ ap (λ (s : List Sent). s ++ left) (sym (append_assoc done front.front front.rest))
-          ∙ append_assoc (done ++ front.front) front.rest left;
-      sent = front.sent ∙ ap (λ (s : List Sent). s ++ front.front) so_far ∙ append_assoc net done front.front;
+      prefix = done ++ prefix.prefix;
+      rest = prefix.rest ++ left;
+      parts = parts ∙ ap (λ (s : List Sent). (done ++ s) ++ left) prefix.parts
+          ∙ ap (λ (s : List Sent). s ++ left) (sym (append_assoc done prefix.prefix prefix.rest))
+          ∙ append_assoc (done ++ prefix.prefix) prefix.rest left;
+      sent = prefix.sent ∙ ap (λ (s : List Sent). s ++ prefix.prefix) so_far ∙ append_assoc net done prefix.prefix;
     }
 
 -- where an output was not sent, those before it are a front
 pub front_before : (from : Actor) (net mid last : List Sent) (all : List Out) (i : ℕ) (out : Out) → i < length all → out ≡ get_or all i out
-    → mid ≡ net ++ sends_of from (take i all) → last ≡ mid → SendsFront net last (sends_of from all)
+    → mid ≡ net ++ sends_of from (take i all) → last ≡ mid → SendsPrefix net last (sends_of from all)
 front_before from net mid last all i out lt is so_far same =
-    front_stays from net mid last all i out lt is so_far
-    (record { front = []; rest = sends_of from (out ∷ []); parts = refl; sent = same ∙ sym (append-nil mid) })
+    prefix_stays from net mid last all i out lt is so_far
+    (record { prefix = []; rest = sends_of from (out ∷ []); parts = refl; sent = same ∙ sym (append-nil mid) })

@@ -36,13 +36,13 @@ all_destinations bytes (m ∷ ms) (suc i) = all_destinations bytes ms i
 -- ---- more bytes
 
 -- a front of the old bytes is one of the new
-front_kept : (old new : List ℕ) (n : ℕ) → Keeps old new → n ≤ length old → take n new ≡ take n old
-front_kept old new n keeps le = sym (take-take n (length old) new le) ∙ ap (take n) keeps
+prefix_kept : (old new : List ℕ) (n : ℕ) → Keeps old new → n ≤ length old → take n new ≡ take n old
+prefix_kept old new n keeps le = sym (take-take n (length old) new le) ∙ ap (take n) keeps
 
 pub part_kept : (old new : List ℕ) (begin len : ℕ) → Keeps old new → begin + len ≤ length old
     → part_of new begin len ≡ part_of old begin len
 part_kept old new begin len keeps fits =
-    between_is new begin (begin + len) ∙ ap (drop begin) (front_kept old new (begin + len) keeps fits)
+    between_is new begin (begin + len) ∙ ap (drop begin) (prefix_kept old new (begin + len) keeps fits)
     ∙ sym (between_is old begin (begin + len))
 
 pub sent_kept : (old new : List ℕ) (m : Mark) → Keeps old new → MarkFits (length old) m → sent_of new m ≡ sent_of old m
@@ -70,17 +70,17 @@ shared_is bytes wanted begin len fits is =
 
 -- ---- a datagram whose parts were put
 
-pub put_is : (middle new datagram front back : List ℕ) (head rest len : ℕ) (from : Actor) (dest : Dest) → Keeps middle new
-    → head + length front ≤ length middle → part_of middle head (length front) ≡ front → part_of new rest (length back) ≡ back
-    → datagram ≡ front ++ back → length front ≡ min len FRAGMENT_HEADER_BYTES → length back ≡ len - FRAGMENT_HEADER_BYTES
+pub put_is : (middle new datagram prefix back : List ℕ) (head rest len : ℕ) (from : Actor) (dest : Dest) → Keeps middle new
+    → head + length prefix ≤ length middle → part_of middle head (length prefix) ≡ prefix → part_of new rest (length back) ≡ back
+    → datagram ≡ prefix ++ back → length prefix ≡ min len FRAGMENT_HEADER_BYTES → length back ≡ len - FRAGMENT_HEADER_BYTES
     → sent_of new (record { head = head; rest = rest; len = len; from = from; dest = dest })
     ≡ record { from = from; dest = dest; bytes = datagram }
-put_is middle new datagram front back head rest len from dest keeps fits is_front is_back parts front_len back_len =
-    let first : part_of new head (min len FRAGMENT_HEADER_BYTES) ≡ front =
-    subst (λ (n : ℕ). part_of new head n ≡ front) front_len (part_kept middle new head (length front) keeps fits ∙ is_front) in
+put_is middle new datagram prefix back head rest len from dest keeps fits is_prefix is_back parts prefix_len back_len =
+    let first : part_of new head (min len FRAGMENT_HEADER_BYTES) ≡ prefix =
+    subst (λ (n : ℕ). part_of new head n ≡ prefix) prefix_len (part_kept middle new head (length prefix) keeps fits ∙ is_prefix) in
     let second : part_of new rest (len - FRAGMENT_HEADER_BYTES) ≡ back = subst (λ (n : ℕ). part_of new rest n ≡ back) back_len is_back in
     let both : part_of new head (min len FRAGMENT_HEADER_BYTES) ++ part_of new rest (len - FRAGMENT_HEADER_BYTES) ≡ datagram =
-    ap (λ (xs : List ℕ). xs ++ part_of new rest (len - FRAGMENT_HEADER_BYTES)) first ∙ ap (λ (ys : List ℕ). front ++ ys) second ∙ sym parts in
+    ap (λ (xs : List ℕ). xs ++ part_of new rest (len - FRAGMENT_HEADER_BYTES)) first ∙ ap (λ (ys : List ℕ). prefix ++ ys) second ∙ sym parts in
     ap (λ (bytes : List ℕ). record { from = from; dest = dest; bytes = bytes }) both
 
 pub all_pushed : (old new : List ℕ) (marks new_marks : List Mark) (m : Mark) (s : Sent) → Keeps old new
@@ -96,13 +96,13 @@ all_pushed old new marks new_marks m s keeps fits pushed is =
 part_is : (bytes : List ℕ) (begin len : ℕ) → part_of bytes begin len ≡ take len (drop begin bytes)
 part_is bytes begin len = between_is bytes begin (begin + len) ∙ drop-take begin len bytes
 
-two_parts : (bytes : List ℕ) (begin front back : ℕ)
-    → part_of bytes begin (front + back) ≡ part_of bytes begin front ++ part_of bytes (begin + front) back
-two_parts bytes begin front back =
-    let whole = part_is bytes begin (front + back) ∙ take-add front back (drop begin bytes) in
-    let first = part_is bytes begin front in
-    let second = part_is bytes (begin + front) back in
-    let deeper : drop front (drop begin bytes) ≡ drop (begin + front) bytes = drop-drop front begin bytes in
+two_parts : (bytes : List ℕ) (begin prefix back : ℕ)
+    → part_of bytes begin (prefix + back) ≡ part_of bytes begin prefix ++ part_of bytes (begin + prefix) back
+two_parts bytes begin prefix back =
+    let whole = part_is bytes begin (prefix + back) ∙ take-add prefix back (drop begin bytes) in
+    let first = part_is bytes begin prefix in
+    let second = part_is bytes (begin + prefix) back in
+    let deeper : drop prefix (drop begin bytes) ≡ drop (begin + prefix) bytes = drop-drop prefix begin bytes in
     cc
 
 pub joined_parts : (bytes : List ℕ) (m : Mark) → m.head + head_len m ≡ m.rest → part_of bytes m.head m.len ≡ datagram_of bytes m

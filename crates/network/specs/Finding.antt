@@ -1,4 +1,4 @@
--- Where the first datagram with some bytes stands in the network.
+-- Where the first datagram with some bytes is in the network.
 use Rattle.std.specs.Prelude.{◌≡◌, ℕ, ⊤, List, Bool, true, false, Option, Some, None}
 use Rattle.std.specs.HashMap.{get_by}
 use Rattle.std.specs.List.{position_from}

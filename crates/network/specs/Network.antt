@@ -39,11 +39,11 @@ did_of None = Nothing
 did_of (Some outs) = Outputs outs
 
 -- a front of these datagrams stands behind what was sent before
-pub record SendsFront (old new sends : List Sent) : Type 0 where
-  pub front : List Sent
+pub record SendsPrefix (old new sends : List Sent) : Type 0 where
+  pub prefix : List Sent
   pub rest : List Sent
-  pub parts : sends ≡ front ++ rest
-  pub sent : new ≡ old ++ front
+  pub parts : sends ≡ prefix ++ rest
+  pub sent : new ≡ old ++ prefix
 
 -- what an actor sent, and its lines
 abbrev pub sends_by : Actor → Did → List Sent

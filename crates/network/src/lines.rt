@@ -1,7 +1,7 @@
 ghost use Rattle.std.specs.Prelude.{◌≡◌, ◌+◌, ◌++◌, ◌∷◌, [], OnOk, OnErr, IfOk, length};
 ghost use Rattle.nop_types.specs.Lines.{Accept};
 ghost use Rattle.network.specs.LineCounts.{Shows, Grows};
-ghost use Rattle.network.specs.Network.{did_of, sends_of, lines_from, sends_by, lines_by, SendsFront};
+ghost use Rattle.network.specs.Network.{did_of, sends_of, lines_from, sends_by, lines_by, SendsPrefix};
 
 use crate::network::Network;
 use nop_types::{Actor, Bytes, Dest, NoMemory, Out, Outbox};
@@ -49,7 +49,7 @@ fn carry_send(
         ≡ network.old ++ sends_of from (Out.Send dest bytes.now ∷ [])) }
     ensures lines { OnOk result (Grows tally.old tally.new
         (lines_from from (length network.old) (Out.Send dest bytes.now ∷ []))) }
-    ensures front { OnErr result (SendsFront network.old network.new
+    ensures prefix { OnErr result (SendsPrefix network.old network.new
         (sends_of from (Out.Send dest bytes.now ∷ []))) }
 {
     send_line(network.len(), from, dest, bytes, &mut tally.text)?;
@@ -77,7 +77,7 @@ fn carry_out_one(
     ensures network { OnOk result (network.new ≡ network.old ++ sends_of from (out.now ∷ [])) }
     ensures lines { OnOk result (Grows tally.old tally.new
         (lines_from from (length network.old) (out.now ∷ []))) }
-    ensures front { OnErr result (SendsFront network.old network.new
+    ensures prefix { OnErr result (SendsPrefix network.old network.new
         (sends_of from (out.now ∷ []))) }
 {
     match out {
@@ -98,7 +98,7 @@ fn carry_out_all(
     ensures network { OnOk result (network.new ≡ network.old ++ sends_of from outs.now) }
     ensures lines { OnOk result (Grows tally.old tally.new
         (lines_from from (length network.old) outs.now)) }
-    ensures front { OnErr result (SendsFront network.old network.new (sends_of from outs.now)) }
+    ensures prefix { OnErr result (SendsPrefix network.old network.new (sends_of from outs.now)) }
 {
     for out in outs {
         carry_out_one(network, from, out, tally)?;
@@ -117,7 +117,7 @@ fn carry(
         ≡ network.old ++ sends_by from (did_of did.now)) }
     ensures lines { OnOk result (Grows tally.old tally.new
         (lines_by from (length network.old) (did_of did.now))) }
-    ensures front { OnErr result (SendsFront network.old network.new
+    ensures prefix { OnErr result (SendsPrefix network.old network.new
         (sends_by from (did_of did.now))) }
 {
     match did {
@@ -145,7 +145,7 @@ pub fn carry_out(
     ensures network { OnOk result (network.new ≡ network.old ++ sends_by from (did_of did.now)) }
     ensures lines { IfOk result (λ l.
         Shows l (lines_by from (length network.old) (did_of did.now))) }
-    ensures front { OnErr result (SendsFront network.old network.new
+    ensures prefix { OnErr result (SendsPrefix network.old network.new
         (sends_by from (did_of did.now))) }
 {
     let mut tally = Tally {

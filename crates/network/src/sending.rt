@@ -1,7 +1,7 @@
 //! The datagrams of what an actor did, where no line is wanted.
 
 ghost use Rattle.std.specs.Prelude.{◌≡◌, ◌++◌, ◌∷◌, [], OnOk, OnErr};
-ghost use Rattle.network.specs.Network.{did_of, sends_of, sends_by, SendsFront};
+ghost use Rattle.network.specs.Network.{did_of, sends_of, sends_by, SendsPrefix};
 
 use crate::network::Network;
 use nop_types::{Actor, NoMemory, Out, Outbox};
@@ -18,7 +18,7 @@ fn send_one(network: &mut Network, from: Actor, out: &Out) -> Result<(), NoMemor
 
 fn send_each(network: &mut Network, from: Actor, outs: &[Out]) -> Result<(), NoMemory>
     ensures network { OnOk result (network.new ≡ network.old ++ sends_of from outs.now) }
-    ensures front { OnErr result (SendsFront network.old network.new (sends_of from outs.now)) }
+    ensures prefix { OnErr result (SendsPrefix network.old network.new (sends_of from outs.now)) }
 {
     for out in outs {
         send_one(network, from, out)?;
@@ -30,7 +30,7 @@ fn send_each(network: &mut Network, from: Actor, outs: &[Out]) -> Result<(), NoM
 /// there.
 pub fn send_all(network: &mut Network, from: Actor, did: &Option<Outbox>) -> Result<(), NoMemory>
     ensures network { OnOk result (network.new ≡ network.old ++ sends_by from (did_of did.now)) }
-    ensures front { OnErr result (SendsFront network.old network.new
+    ensures prefix { OnErr result (SendsPrefix network.old network.new
         (sends_by from (did_of did.now))) }
 {
     match did {

@@ -18,7 +18,7 @@ use Rattle.peer_codec.proofs.Peers.{reads_again}
 use Rattle.replica_state.specs.declared.sending.Sending.{Sending}
 use Rattle.replica_core.specs.Posting.{posted}
 use Rattle.replica_state.specs.Sends.{SendingFits, message_count}
-use Rattle.network_laws.specs.Carried.{Carried, IsMessage, IsWhole, WasSent, WasTold}
+use Rattle.network_laws.specs.Carried.{Carried, IsMessage, IsWhole, WasSent, WasSentInRange}
 use Rattle.network_laws.specs.PostedFragments.{fragments_in, messages_from, fragments_of_all}
 use Rattle.network_laws.specs.Sends.{peers_in, IsBy}
 use Rattle.network_laws.proofs.Messages.{posted_next, posted_once, posted_message, stays_message, each_posted, cut_from_all, all_cut}
@@ -29,19 +29,19 @@ use Rattle.network_laws.proofs.PostedFragments.{posts_fragments}
 same_peer : (x : Result Peer BadPeer) (p q : Peer) → x ≡ Ok p → x ≡ Ok q → p ≡ q
 same_peer x p q e d = cc
 
-message_told : (told : List Peer) (f : Fragment) (bytes : List ℕ) (p : Peer)
-    → IsMessage told (record { sender = f.replica; number = f.message; bytes = bytes }) → reading bytes ≡ Ok p → WasTold told f p
-message_told told f bytes p h read =
+message_was_sent : (peer_messages : List Peer) (f : Fragment) (bytes : List ℕ) (p : Peer)
+    → IsMessage peer_messages (record { sender = f.replica; number = f.message; bytes = bytes }) → reading bytes ≡ Ok p → WasSentInRange peer_messages f p
+message_was_sent peer_messages f bytes p h read =
     let same = same_peer (reading bytes) h.peer p (ap reading h.bytes ∙ reads_again h.peer h.fits) read in
-    subst (WasTold told f) same (record { has = h.has; fits = h.fits; sender = h.sender })
+    subst (WasSentInRange peer_messages f) same (record { has = h.has; fits = h.fits; sender = h.sender })
 
-pub joined_was_told : (told : List Peer) (net : List Fragment) (used : ℕ → ℕ) (all : List Waiting) (f : Fragment) (bytes : List ℕ)
-    (p : Peer) → Carried told net used → Has net f → AllCame net all → (taken all f).1 ≡ Some bytes → reading bytes ≡ Ok p
-    → WasTold told f p
-joined_was_told told net used all f bytes p c here came is read =
+pub joined_was_sent : (peer_messages : List Peer) (net : List Fragment) (used : ℕ → ℕ) (all : List Waiting) (f : Fragment) (bytes : List ℕ)
+    (p : Peer) → Carried peer_messages net used → Has net f → AllCame net all → (taken all f).1 ≡ Some bytes → reading bytes ≡ Ok p
+    → WasSentInRange peer_messages f p
+joined_was_sent peer_messages net used all f bytes p c here came is read =
     let parts = (keeps_what_came net all f here came).gave bytes is in
     let sent = joins_what_was_sent c.sent net f bytes c.distinct c.cut here parts in
-    message_told told f bytes p (c.spelled (record { sender = f.replica; number = f.message; bytes = bytes }) sent) read
+    message_was_sent peer_messages f bytes p (c.spelled (record { sender = f.replica; number = f.message; bytes = bytes }) sent) read
 
 -- ---- the opening
 
@@ -61,7 +61,7 @@ opening_carries = record {
 more_used : (used : ℕ → ℕ) (r count q : ℕ) → used q ≤ put used r (used r + count) q
 more_used used r count = put-all (λ (q n : ℕ). used q ≤ n) used r (used r + count) (omega arith) (λ q d. omega arith)
 
-module _ (told : List Peer) (net : List Fragment) (used : ℕ → ℕ) (r : ℕ) (sends : List Sending) (c : Carried told net used)
+module _ (peer_messages : List Peer) (net : List Fragment) (used : ℕ → ℕ) (r : ℕ) (sends : List Sending) (c : Carried peer_messages net used)
     (fits : AllByRecursion SendingFits sends) (by : AllByRecursion (IsBy r) sends) where
   abbrev new : List Sent
   new = messages_from (used r) sends
@@ -113,10 +113,10 @@ module _ (told : List Peer) (net : List Fragment) (used : ℕ → ℕ) (r : ℕ)
         record { message = from.message; was_sent = Has-append_left new c.sent from.message from.was_sent; cut = from.cut }
   ]
 
-  spelled : (x : Sent) → Has (new ++ c.sent) x → IsMessage (peers_in sends ++ told) x
+  spelled : (x : Sent) → Has (new ++ c.sent) x → IsMessage (peers_in sends ++ peer_messages) x
   spelled x h = elim (Has-append_cases new c.sent x h) [
-    | inl is_new ↦ stays_message (λ p. Has-append_left (peers_in sends) told p) x (posted_message (used r) sends fits x is_new)
-    | inr old ↦ stays_message (λ p. Has-append_right (peers_in sends) told p) x (c.spelled x old)
+    | inl is_new ↦ stays_message (λ p. Has-append_left (peers_in sends) peer_messages p) x (posted_message (used r) sends fits x is_new)
+    | inr old ↦ stays_message (λ p. Has-append_right (peers_in sends) peer_messages p) x (c.spelled x old)
   ]
 
   whole : (x : Sent) → Has (new ++ c.sent) x → IsWhole (net ++ fragments_of_all new) x
@@ -125,8 +125,8 @@ module _ (told : List Peer) (net : List Fragment) (used : ℕ → ℕ) (r : ℕ)
     | inr old ↦ Has-append_left net (fragments_of_all new) f (c.whole x old f i)
   ]
 
-  all : (p : Peer) → Has (peers_in sends ++ told) p → WasSent (new ++ c.sent) p
-  all p h = elim (Has-append_cases (peers_in sends) told p h) [
+  all : (p : Peer) → Has (peers_in sends ++ peer_messages) p → WasSent (new ++ c.sent) p
+  all p h = elim (Has-append_cases (peers_in sends) peer_messages p h) [
     | inl is_new ↦
         let under = each_posted (used r) sends p is_new in
         record { number = under.under; has = Has-append_left new c.sent _ under.has }
@@ -135,24 +135,24 @@ module _ (told : List Peer) (net : List Fragment) (used : ℕ → ℕ) (r : ℕ)
         record { number = under.number; has = Has-append_right new c.sent _ under.has }
   ]
 
-  carries : (d : Carried (peers_in sends ++ told) (net ++ fragments_of_all new) used_then) × (d.sent ≡ new ++ c.sent)
+  carries : (d : Carried (peers_in sends ++ peer_messages) (net ++ fragments_of_all new) used_then) × (d.sent ≡ new ++ c.sent)
   carries = (
     record { sent = new ++ c.sent; distinct = distinct; numbered = numbered; cut = cut; spelled = spelled; whole = whole; all = all },
     refl,
   )
 
 -- under the numbers above the one that was used last
-pub posting_carries_under : (told : List Peer) (net : List Fragment) (used : ℕ → ℕ) (r : ℕ) (sends : List Sending)
-    → (c : Carried told net used) → AllByRecursion SendingFits sends → AllByRecursion (IsBy r) sends → used r + message_count sends < 2 ^ 64
-    → (d : Carried (peers_in sends ++ told) (net ++ fragments_in (posted (used r) sends)) (put used r (used r + message_count sends)))
+pub posting_carries_under : (peer_messages : List Peer) (net : List Fragment) (used : ℕ → ℕ) (r : ℕ) (sends : List Sending)
+    → (c : Carried peer_messages net used) → AllByRecursion SendingFits sends → AllByRecursion (IsBy r) sends → used r + message_count sends < 2 ^ 64
+    → (d : Carried (peers_in sends ++ peer_messages) (net ++ fragments_in (posted (used r) sends)) (put used r (used r + message_count sends)))
     × (d.sent ≡ messages_from (used r) sends ++ c.sent)
-posting_carries_under told net used r sends c fits by high =
+posting_carries_under peer_messages net used r sends c fits by high =
     subst
-    (λ (fs : List Fragment). (d : Carried (peers_in sends ++ told) (net ++ fs) (put used r (used r + message_count sends)))
+    (λ (fs : List Fragment). (d : Carried (peers_in sends ++ peer_messages) (net ++ fs) (put used r (used r + message_count sends)))
     × (d.sent ≡ messages_from (used r) sends ++ c.sent))
-    (sym (posts_fragments (used r) sends fits high).fragments) (carries told net used r sends c fits by)
+    (sym (posts_fragments (used r) sends fits high).fragments) (carries peer_messages net used r sends c fits by)
 
-pub posting_carries : (told : List Peer) (net : List Fragment) (used : ℕ → ℕ) (r : ℕ) (sends : List Sending) → Carried told net used
+pub posting_carries : (peer_messages : List Peer) (net : List Fragment) (used : ℕ → ℕ) (r : ℕ) (sends : List Sending) → Carried peer_messages net used
     → AllByRecursion SendingFits sends → AllByRecursion (IsBy r) sends → used r + message_count sends < 2 ^ 64
-    → Carried (peers_in sends ++ told) (net ++ fragments_in (posted (used r) sends)) (put used r (used r + message_count sends))
-posting_carries told net used r sends c fits by high = (posting_carries_under told net used r sends c fits by high).0
+    → Carried (peers_in sends ++ peer_messages) (net ++ fragments_in (posted (used r) sends)) (put used r (used r + message_count sends))
+posting_carries peer_messages net used r sends c fits by high = (posting_carries_under peer_messages net used r sends c fits by high).0

@@ -17,7 +17,7 @@ use Rattle.oum_receiver.specs.Front.{Nothing, Message, front_at}
 use Rattle.oum_receiver.specs.Receiving.{Receiving, QueuedFits, IsSound, judged, front_of}
 use Rattle.replica_state.specs.declared.sending.Sending.{Sending}
 use Rattle.replica_state.specs.declared.state.ReplicaState.{ReplicaState}
-use Rattle.replica_state.specs.State.{others}
+use Rattle.replica_state.specs.State.{max_faults}
 use Rattle.replica_state.specs.Sends.{Effect, still, then_do, when, to_replica, to_all, to_all_if, SendingIsIn}
 use Rattle.replica_state.specs.Moves.{hear, entered, own_change}
 use Rattle.replica_state.specs.Within.{IsIn}
@@ -66,7 +66,7 @@ number_small s w = let less = w.number in let few = w.few in omega arith
 
 pub own_change_fits : {k : Keeping} (s : ReplicaState) → IsIn k s → ChangeIsIn k (own_change s)
 own_change_fits s w =
-    record { sender = number_small s w; rest = record { view = w.last_normal; number = w.next; told = w.log } }
+    record { sender = number_small s w; rest = record { view = w.last_normal; number = w.next; log_fits = w.log } }
 
 pub to_replica_fits : {k : Keeping} (s : ReplicaState) (q : ℕ) (body : Body) → IsIn k s → BodyIsIn k body
     → AllByRecursion (SendingIsIn k) (to_replica s q body)
@@ -79,7 +79,7 @@ all_if_fits false s body w fits = (record { sender = number_small s w; view = w.
 
 pub to_all_fits : {k : Keeping} (s : ReplicaState) (body : Body) → IsIn k s → BodyIsIn k body
     → AllByRecursion (SendingIsIn k) (to_all s body)
-to_all_fits s body w fits = all_if_fits (others s == 0) s body w fits
+to_all_fits s body w fits = all_if_fits (max_faults s == 0) s body w fits
 
 -- ---- the receiver
 

@@ -1,4 +1,4 @@
--- A fragment brings a message that was told, or none.
+-- A fragment delivers a message that was sent, or none.
 use Rattle.std.proofs.Common.{◌≡◌, ℕ, Bool, true, false, Option, Some, None, refl, ap}
 use Rattle.std.proofs.Common.{inl, inr, List, []}
 use Rattle.std.specs.Prelude.{◌==◌, Result, Ok, Err}
@@ -15,46 +15,46 @@ use Rattle.peer_codec.specs.Reading as peer
 use Rattle.replica_state.specs.State.{is_other}
 use Rattle.replica_core.specs.ReplicaSteps.{Replica, of_sender_if, read, joined}
 use Rattle.replica_core.specs.ReplicaSteps.{fragment_if, fragment}
-use Rattle.network_laws.specs.Carried.{Carried, WasTold}
+use Rattle.network_laws.specs.Carried.{Carried, WasSentInRange}
 use Rattle.network_laws.specs.Steps.{Brings}
-use Rattle.network_laws.proofs.Carrying.{joined_was_told}
+use Rattle.network_laws.proofs.Carrying.{joined_was_sent}
 
-module _ {S : Type 0} (m : Meaning S) (told : List Peer) (net : List Fragment) (used : ℕ → ℕ) (s : Replica) (f : Fragment)
-    (c : Carried told net used) (here : Has net f) (came : AllCame net s.reassembly) where
+module _ {S : Type 0} (m : Meaning S) (peer_messages : List Peer) (net : List Fragment) (used : ℕ → ℕ) (s : Replica) (f : Fragment)
+    (c : Carried peer_messages net used) (here : Has net f) (came : AllCame net s.reassembly) where
   abbrev t : Replica
   t = record s { reassembly = (taken s.reassembly f).0 }
 
   kept : AllCame net (taken s.reassembly f).0
   kept = (keeps_what_came net s.reassembly f here came).kept
 
-  takes_only : Brings m told net s f (t, [])
+  takes_only : Brings m peer_messages net s f (t, [])
   takes_only = inr (record { reassembly = (taken s.reassembly f).0; kept = kept; same = refl })
 
-  told_brings : (p : Peer) → WasTold told f p → Brings m told net s f (of_sender_if m (p.sender == f.replica) t p)
-  told_brings p h = inl (record {
+  sent_brings : (p : Peer) → WasSentInRange peer_messages f p → Brings m peer_messages net s f (of_sender_if m (p.sender == f.replica) t p)
+  sent_brings p h = inl (record {
     peer = p;
-    was_told = h;
+    was_sent = h;
     kept = kept;
     row = ap (λ (b : Bool). of_sender_if m b t p) (eq-eqb p.sender f.replica h.sender);
   })
 
   read_brings : (bytes : List ℕ) (x : Result Peer BadPeer) → (taken s.reassembly f).1 ≡ Some bytes → peer.reading bytes ≡ x
-      → Brings m told net s f (read m t f.replica x)
-  read_brings bytes (Ok p) is e = told_brings p (joined_was_told told net used s.reassembly f bytes p c here came is e)
+      → Brings m peer_messages net s f (read m t f.replica x)
+  read_brings bytes (Ok p) is e = sent_brings p (joined_was_sent peer_messages net used s.reassembly f bytes p c here came is e)
   read_brings bytes (Err e) is d = takes_only
 
-  joined_brings : (o : Option (List ℕ)) → (taken s.reassembly f).1 ≡ o → Brings m told net s f (joined m t f.replica o)
+  joined_brings : (o : Option (List ℕ)) → (taken s.reassembly f).1 ≡ o → Brings m peer_messages net s f (joined m t f.replica o)
   joined_brings None is = takes_only
   joined_brings (Some bytes) is = read_brings bytes (peer.reading bytes) is refl
 
-  if_brings : (b : Bool) → Brings m told net s f (fragment_if m b s f)
+  if_brings : (b : Bool) → Brings m peer_messages net s f (fragment_if m b s f)
   if_brings true = joined_brings (taken s.reassembly f).1 refl
   if_brings false = inr (record { reassembly = s.reassembly; kept = came; same = refl })
 
-  brings : Brings m told net s f (fragment m s f)
+  brings : Brings m peer_messages net s f (fragment m s f)
   unfolding fragment
   brings = if_brings (is_other s.state f.replica)
 
-pub fragment_brings : {S : Type 0} (m : Meaning S) (told : List Peer) (net : List Fragment) (used : ℕ → ℕ) (s : Replica) (f : Fragment)
-    → Carried told net used → Has net f → AllCame net s.reassembly → Brings m told net s f (fragment m s f)
-fragment_brings m told net used s f c here came = brings m told net used s f c here came
+pub fragment_brings : {S : Type 0} (m : Meaning S) (peer_messages : List Peer) (net : List Fragment) (used : ℕ → ℕ) (s : Replica) (f : Fragment)
+    → Carried peer_messages net used → Has net f → AllCame net s.reassembly → Brings m peer_messages net s f (fragment m s f)
+fragment_brings m peer_messages net used s f c here came = brings m peer_messages net used s f c here came

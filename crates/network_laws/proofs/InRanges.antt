@@ -29,9 +29,9 @@ use Rattle.nop_types.specs.Ranges.{ViewFits, RequestFits, EntryFits, LogIsIn, Ne
 use Rattle.nop_types.specs.Ranges.{ChangeIsIn}
 use Rattle.nop_types.specs.Views.{join_of}
 use Rattle.lemmas.proofs.Limits.{is_configuration-few_replicas}
-use Rattle.gap_agree.specs.Agreement.{Agreement, counted}
+use Rattle.gap_agree.specs.Agreement.{Agreement, gap_vote_counted}
 use Rattle.gap_agree.specs.Votes.{vote_of}
-use Rattle.log_merge.specs.Merging.{kept_told, merged}
+use Rattle.log_merge.specs.Merging.{kept_changes, merged}
 use Rattle.log_merge.specs.Starting as starting
 use Rattle.oum_receiver.specs.Front.{Front, Nothing, Message, Dropped}
 use Rattle.oum_receiver.specs.Receiving.{Receiving, IsSound, opened, verdict_of, offered, front_of}
@@ -41,19 +41,19 @@ use Rattle.replica_log.proofs.InRanges.{first_fits}
 use Rattle.slot_lookup.specs.Answer.{Answer, Below, Found, Begin, answer_by, may_begin, answer_above, answer_of}
 use Rattle.sync_points.specs.Synchronisation as synchronisation
 use Rattle.sync_points.specs.Synchronisation.{Synchronisation}
-use Rattle.view_change.specs.Gathering.{Gathering, teller}
+use Rattle.view_change.specs.Gathering.{Gathering, change_sender}
 use Rattle.view_change.specs.Gathering as gathering
 use Rattle.replica_state.specs.declared.sending.Sending.{Sending}
 use Rattle.replica_state.specs.declared.state.ReplicaState.{ReplicaState}
-use Rattle.replica_state.specs.State.{opening, others, leader, leads, is_normal, drains, waits, waiting, has_room, may_append}
-use Rattle.replica_state.specs.State.{has_risen}
+use Rattle.replica_state.specs.State.{opening, max_faults, leader, leads, is_normal, drains, waits, waiting, has_room, may_append}
+use Rattle.replica_state.specs.State.{may_trim}
 use Rattle.replica_state.specs.Sends.{Effect, then_do, when, to_leader, to_all, SendingIsIn}
 use Rattle.replica_state.specs.Replies.{leader_reply, reply_if, reply_to, reply_for, replies_to, replies_above}
 use Rattle.replica_state.specs.Moves.{queue, begin_session, session_view, logged, take_front, appended, fill, ask_if, gap_opened, open_gap, write_gap}
 use Rattle.replica_state.specs.Moves.{add_gap, count_gap_vote, drain_drop, drain_at, drain_by, drain, listening, entered, own_change}
-use Rattle.replica_state.specs.Moves.{change_told, enter_as, enter, adopted, adopt, open_with, open_view, keep_change}
+use Rattle.replica_state.specs.Moves.{change_sent, enter_as, enter, adopted, adopt, open_with, open_view, keep_change}
 use Rattle.replica_state.specs.Moves.{start_len, count_sync_vote}
-use Rattle.replica_state.specs.Moves.{resend_start, overlaid, overlay, hear, obey, sync_commit, commit_if, raise}
+use Rattle.replica_state.specs.Moves.{resend_start, overlaid, overlay, hear, obey, sync_commit, commit_if, trim}
 use Rattle.replica_state.specs.Repeating.{sync_if, sync}
 use Rattle.replica_rows.specs.Rows as rows
 use Rattle.replica_rows.specs.Messages.{Arrival, arrive}
@@ -72,7 +72,7 @@ use Rattle.replica_rows.proofs.Running.{
 }
 use Rattle.replica_rows.proofs.EachRow.{change_in, arrive_row}
 use Rattle.replica_rows.proofs.EachMove.{Kept, EachMove, each_row}
-use Rattle.replica_rows.proofs.Opening.{opened_next_fits, opened_told_fits, counted_fits}
+use Rattle.replica_rows.proofs.Opening.{opened_next_fits, opened_log_fits, counted_fits}
 use Rattle.replica_rows.proofs.Ready.{opens_within}
 use Rattle.network_laws.specs.Ranges.{StaysInRanges}
 use Rattle.replica_rows.proofs.Fields.{
@@ -237,10 +237,10 @@ module _ {S : Type 0} (m : Meaning S) (k : Keeping) (bounds : Bounds m k) where
 
   gap_vote_stays : (s : ReplicaState) (g : Agreement) (q : ℕ) → IsGood k s → SlotFits g.slot → StaysInRanges k (count_gap_vote s g q)
   gap_vote_stays s g q h fits =
-      still_stays (record s { gap = waiting (counted g q) })
+      still_stays (record s { gap = waiting (gap_vote_counted g q) })
       (record {
-        within = with_gap k s (waiting (counted g q)) h.within
-            (waiting_fits (counted g q) fits (vote_of (counted g q).f (counted g q).votes));
+        within = with_gap k s (waiting (gap_vote_counted g q)) h.within
+            (waiting_fits (gap_vote_counted g q) fits (vote_of (gap_vote_counted g q).f (gap_vote_counted g q).votes));
         sound = h.sound;
       })
 
@@ -253,7 +253,7 @@ module _ {S : Type 0} (m : Meaning S) (k : Keeping) (bounds : Bounds m k) where
       good (ask_if k false s) (record { within = with_asked k s (length_of k s.log + 1) g.within; sound = g.sound })
       (to_replica_fits s (leader s) (bodies.SlotLookup (length_of k s.log + 1)) g.within (next_slot s room))
 
-  -- ---- what stands in front is taken
+  -- ---- what is in front is taken
 
   record AlwaysStays (f : ReplicaState → Effect) : Type 0 where
     at : (s : ReplicaState) → IsGood k s → StaysInRanges k (f s)
@@ -338,16 +338,16 @@ module _ {S : Type 0} (m : Meaning S) (k : Keeping) (bounds : Bounds m k) where
     ahead : IsAhead e.0
     sends : AllByRecursion (SendingIsIn k) e.1
 
-  raise_stays : (s : ReplicaState) → IsAhead s → has_risen s ≡ true → StaysInRanges k (raise m k s)
-  raise_stays s a passed =
+  trim_stays : (s : ReplicaState) → IsAhead s → may_trim s ≡ true → StaysInRanges k (trim m k s)
+  trim_stays s a passed =
       let t : ReplicaState = record s { sync = a.old } in
       let log = bounds.raised s.log s.sync.sync_point a.good.within.log (below _ _ passed) a.fits.sync_point in
-      good (raise m k s)
+      good (trim m k s)
       (record { within = risen_within m k t s.sync a.good.within a.fits a.grown log; sound = a.good.sound })
       (tt, tt)
 
   -- where it did not, nothing moved
-  rests : (s : ReplicaState) → IsAhead s → has_risen s ≡ false → IsGood k s
+  rests : (s : ReplicaState) → IsAhead s → may_trim s ≡ false → IsGood k s
   rests s a behind =
       let t : ReplicaState = record s { sync = a.old } in
       let points = a.good.within.points in
@@ -355,15 +355,15 @@ module _ {S : Type 0} (m : Meaning S) (k : Keeping) (bounds : Bounds m k) where
       let same : s.sync.sync_point ≡ a.old.sync_point = grind (arith, nat_tests, behind, points, grown) in
       record { within = with_sync k t s.sync a.good.within a.fits same; sound = a.good.sound }
 
-  and_raise : (e : Effect) → MovesPoint e → StaysInRanges k (then_do e (rows.raise_and_drain m k))
-  and_raise e h = at (has_risen e.0) refl
+  and_trim : (e : Effect) → MovesPoint e → StaysInRanges k (then_do e (rows.trim_and_drain m k))
+  and_trim e h = at (may_trim e.0) refl
     where
       row : Bool → ReplicaState → Effect
-      row b = when b (λ t. then_do (raise m k t) (drain m k))
+      row b = when b (λ t. then_do (trim m k t) (drain m k))
 
-      at : (b : Bool) → has_risen e.0 ≡ b → StaysInRanges k (then_do e (row b))
+      at : (b : Bool) → may_trim e.0 ≡ b → StaysInRanges k (then_do e (row b))
       at true is =
-          let d = and_drain (raise m k e.0) (raise_stays e.0 h.ahead is) in
+          let d = and_drain (trim m k e.0) (trim_stays e.0 h.ahead is) in
           good (then_do e (row true)) (after (row true e.0) d) (all_behind k e.1 (row true e.0).1 h.sends d.sends)
       at false is = good (then_do e (row false)) (rests e.0 h.ahead is) (all_behind k e.1 [] h.sends tt)
 
@@ -390,11 +390,11 @@ module _ {S : Type 0} (m : Meaning S) (k : Keeping) (bounds : Bounds m k) where
   enter_as_stays true s g =
       let own = own_change_fits s g.within in
       good (enter_as true s)
-      (record { within = gathers_within k s (gathering.entered s.view (others s) (own_change s)) g.within (own, tt); sound = g.sound })
+      (record { within = gathers_within k s (gathering.entered s.view (max_faults s) (own_change s)) g.within (own, tt); sound = g.sound })
       (to_all_fits s bodies.ViewChangeReq g.within tt)
   enter_as_stays false s g =
       good (enter_as false s) g
-      (all_behind k (to_all s bodies.ViewChangeReq) (change_told s) (to_all_fits s bodies.ViewChangeReq g.within tt)
+      (all_behind k (to_all s bodies.ViewChangeReq) (change_sent s) (to_all_fits s bodies.ViewChangeReq g.within tt)
       (to_replica_fits s (leader s) (bodies.ViewChange s.last_normal s.next s.log) g.within (own_change_fits s g.within).rest))
 
   enter_stays : (s : ReplicaState) (v : View) → IsGood k s → ViewFits v → StaysInRanges k (enter s v)
@@ -405,8 +405,8 @@ module _ {S : Type 0} (m : Meaning S) (k : Keeping) (bounds : Bounds m k) where
 
   adopted_good : (s : ReplicaState) (v : View) (x : ℕ) (l : Log) → IsGood k s → ViewFits v → NextFits x → LogIsIn k l
       → IsGood k (adopted k s v x l)
-  adopted_good s v x l g view next told = record {
-    within = adopted_within k s v x l g.within view next told;
+  adopted_good s v x l g view next log_fits = record {
+    within = adopted_within k s v x l g.within view next log_fits;
     sound =
         cond_sound (nat_lt s.receiver.session v.session) (opened v.session x) (advanced s.receiver x) (opened_sound v.session x next.high)
         (advanced_sound s.receiver x g.sound next.high);
@@ -415,37 +415,37 @@ module _ {S : Type 0} (m : Meaning S) (k : Keeping) (bounds : Bounds m k) where
   adopt_stays : (s : ReplicaState) (v : View) (x : ℕ) (l : Log) → IsGood k s → ViewFits v → NextFits x → LogIsIn k l
       → StaysInRanges k (adopt m k s v x l)
   unfolding adopt
-  adopt_stays s v x l g view next told =
+  adopt_stays s v x l g view next log_fits =
       let t : ReplicaState = adopted k s v x l in
-      let a = adopted_good s v x l g view next told in
+      let a = adopted_good s v x l g view next log_fits in
       and_drain (t, replies_above m k t t.sync.sync_point)
       (good _ a (above_fit t t.sync.sync_point a.within (synced_most t a.within)))
 
   open_with_stays : (s : ReplicaState) (x : ℕ) (l : Log) → IsGood k s → NextFits x → LogIsIn k l
       → StaysInRanges k (open_with m k s x l)
-  open_with_stays s x l g next told =
+  open_with_stays s x l g next log_fits =
       then_stays (s, to_all s (bodies.StartView x l)) (λ t. adopt m k t t.view x l)
       (good (s, to_all s (bodies.StartView x l)) g
-      (to_all_fits s (bodies.StartView x l) g.within (record { number = next; told = told })))
-      (adopt_stays s s.view x l g g.within.view next told)
+      (to_all_fits s (bodies.StartView x l) g.within (record { number = next; log_fits = log_fits })))
+      (adopt_stays s s.view x l g g.within.view next log_fits)
 
   open_view_stays : (s : ReplicaState) (g : Gathering peer.Change) → IsGood k s → AllByRecursion (ChangeIsIn k) g.changes
       → g.f < length g.changes → StaysInRanges k (open_view m k g s)
   open_view_stays s g h fits many =
-      open_with_stays s (starting.start_of g.view (map plain g.changes)).next (merged k (kept_told g.changes)) h
+      open_with_stays s (starting.start_of g.view (map plain g.changes)).next (merged k (kept_changes g.changes)) h
       (opened_next_fits k g.view g.changes fits (omega (arith, many)))
-      (opened_told_fits k g.changes fits)
+      (opened_log_fits k g.changes fits)
 
   -- the first entries of the own log
-  front_told : (s : ReplicaState) (n : ℕ) → IsIn k s → s.sync.sync_point ≤ n → LogIsIn k (first k s.log n)
-  front_told s n w low = let points = w.points in first_fits k s.log n w.log (omega (arith, points, low))
+  first_log_fits : (s : ReplicaState) (n : ℕ) → IsIn k s → s.sync.sync_point ≤ n → LogIsIn k (first k s.log n)
+  first_log_fits s n w low = let points = w.points in first_fits k s.log n w.log (omega (arith, points, low))
 
   keep_stays : (s : ReplicaState) (g : Gathering peer.Change) (c : peer.Change) → IsGood k s → AllByRecursion (ChangeIsIn k) g.changes
       → ChangeIsIn k c → StaysInRanges k (keep_change s g c)
   keep_stays s g c h all fits =
-      still_stays (record s { changes = Some (gathering.counted teller g c) })
+      still_stays (record s { changes = Some (gathering.change_added change_sender g c) })
       (record {
-        within = gathers_within k s (gathering.counted teller g c) h.within (counted_fits (ChangeIsIn k) g c all fits);
+        within = gathers_within k s (gathering.change_added change_sender g c) h.within (counted_fits (ChangeIsIn k) g c all fits);
         sound = h.sound;
       })
 
@@ -460,7 +460,7 @@ module _ {S : Type 0} (m : Meaning S) (k : Keeping) (bounds : Bounds m k) where
       (to_replica_fits s q (bodies.StartView next (first k s.log (start_len s))) w
       (record {
         number = record { low = omega (arith, start, base); high = omega (arith, high) };
-        told = front_told s (start_len s) w (omega arith);
+        log_fits = first_log_fits s (start_len s) w (omega arith);
       }))
 
   -- ---- rows of packets and view changes
@@ -491,13 +491,13 @@ module _ {S : Type 0} (m : Meaning S) (k : Keeping) (bounds : Bounds m k) where
       → s.next + (length_of k l - length_of k s.log) ≤ NUMBER_END
       → StaysInRanges k (overlay m k s l)
   unfolding overlay
-  overlay_stays s l g told high =
+  overlay_stays s l g log_fits high =
       let t : ReplicaState = overlaid k s l in
-      let w = overlaid_within k s l g.within told high in
+      let w = overlaid_within k s l g.within log_fits high in
       let own = g.within.log.limit in
       let point = synced_most t w in
       let least : ℕ = max (length_of k s.log) t.sync.sync_point in
-      let most = told.limit in
+      let most = log_fits.limit in
       good (t, replies_above m k t least ++ to_leader s (bodies.SyncRep (length_of k l)))
       (record { within = w; sound = advanced_sound s.receiver (s.next + (length_of k l - length_of k s.log)) g.sound high })
       (all_behind k (replies_above m k t least) (to_leader s (bodies.SyncRep (length_of k l)))
@@ -516,7 +516,7 @@ module _ {S : Type 0} (m : Meaning S) (k : Keeping) (bounds : Bounds m k) where
 
   commit_row_stays : (n : ℕ) (s : ReplicaState) → IsGood k s → StaysInRanges k (rows.sync_commit m k n s)
   unfolding rows.sync_commit
-  commit_row_stays n s g = and_raise (sync_commit n s) (commit_moves n s g)
+  commit_row_stays n s g = and_trim (sync_commit n s) (commit_moves n s g)
 
   -- what the answer to a lookup says of the log
   record AnswerFits (s : ReplicaState) (r : Answer) : Type 0 where
@@ -558,8 +558,8 @@ module _ {S : Type 0} (m : Meaning S) (k : Keeping) (bounds : Bounds m k) where
   sync_reply_stays : (q n : ℕ) (s : ReplicaState) → IsGood k s → n < 2 ^ 32 → StaysInRanges k (rows.sync_reply m k q n s)
   unfolding rows.sync_reply
   sync_reply_stays q n s g less =
-      and_raise (count_sync_vote s q n)
-      (with_sync_moves s (synchronisation.counted s.sync q n) (commit_if s n (synchronisation.vote_for s.sync q n)) g
+      and_trim (count_sync_vote s q n)
+      (with_sync_moves s (synchronisation.sync_vote_counted s.sync q n) (commit_if s n (synchronisation.vote_for s.sync q n)) g
       (counted_in_fits (length_of k s.log) s.sync s.sync.syncing q n (sync_of k s g.within) g.within.syncing)
       (counted_grows s.sync s.sync.syncing q n)
       (commit_if_fits s n (synchronisation.vote_for s.sync q n) g.within less))
@@ -583,7 +583,7 @@ module _ {S : Type 0} (m : Meaning S) (k : Keeping) (bounds : Bounds m k) where
 
   sync_row_stays : (s : ReplicaState) → IsGood k s → StaysInRanges k (rows.sync m k s)
   unfolding rows.sync
-  sync_row_stays s g = and_raise (sync k s) (sync_moves s g)
+  sync_row_stays s g = and_trim (sync k s) (sync_moves s g)
 
   -- ---- all that arrives
 
@@ -616,14 +616,14 @@ module _ {S : Type 0} (m : Meaning S) (k : Keeping) (bounds : Bounds m k) where
         let c : peer.Change = change_in p u x l in
         after (keep_change s o c) (keep_stays s o c g all (record { sender = fits.sender; rest = fits.body }));
     start_again = λ s p g fits. (resend_start_stays s p.sender g).sends;
-    adopt = λ s p x l g fits. kept (adopt m k s p.view x l) (adopt_stays s p.view x l g fits.view fits.body.number fits.body.told);
+    adopt = λ s p x l g fits. kept (adopt m k s p.view x l) (adopt_stays s p.view x l g fits.view fits.body.number fits.body.log_fits);
     write_gap = λ s p n g fits. kept (write_gap k (hear s) n) (write_gap_stays (hear s) n (hears s g) fits.body);
     add_gap = λ s g may. kept (add_gap k (hear s)) (add_gap_stays (hear s) (hears s g) may);
     fill = λ s p n r g fits may. kept (fill m k (hear s) r) (fill_stays (hear s) r (hears s g) fits.body.request may);
     overlay = λ s p l g fits e. kept (overlay m k (hear s) l) (overlay_stays (hear s) l (hears s g) fits.body (at_most _ _ e));
     synced = λ s p g fits.
         to_replica_fits s p.sender (bodies.SyncPrepare (first k s.log s.sync.sync_point)) g.within
-        (front_told s s.sync.sync_point g.within (omega arith));
+        (first_log_fits s s.sync.sync_point g.within (omega arith));
     found_again = λ s p n r g fits is.
         let asked = answer_fits s n g.within in
         to_replica_fits s p.sender (bodies.Found n r) g.within (record { place = fits.body; request = asked.found r is });

@@ -66,7 +66,7 @@ posted_once r number (ToReplicas dest p ∷ sends) by a b i j n =
 -- ---- messages
 
 -- it is a message too where more were told
-pub stays_message : {told more : List Peer} → ((p : Peer) → Has told p → Has more p) → (x : Sent) → IsMessage told x → IsMessage more x
+pub stays_message : {peer_messages more : List Peer} → ((p : Peer) → Has peer_messages p → Has more p) → (x : Sent) → IsMessage peer_messages x → IsMessage more x
 stays_message more x h = record { peer = h.peer; has = more h.peer h.has; fits = h.fits; sender = h.sender; bytes = h.bytes }
 
 pub posted_message : (number : ℕ) (sends : List Sending) → AllByRecursion SendingFits sends → (x : Sent)

@@ -99,28 +99,28 @@ pub opening_network : Network [] [] (λ (r : ℕ). 0)
 opening_network = record { datagrams = none_sent.each; carried = opening_carries }
 
 -- a replica posts what it sends
-pub posting_network : (told : List Peer) (sent : List (List ℕ)) (used : ℕ → ℕ) (r : ℕ) (sends : List Sending) → Network told sent used
+pub posting_network : (peer_messages : List Peer) (sent : List (List ℕ)) (used : ℕ → ℕ) (r : ℕ) (sends : List Sending) → Network peer_messages sent used
     → AllByRecursion SendingFits sends → AllByRecursion (IsBy r) sends → used r + message_count sends < 2 ^ 64
-    → Network (peers_in sends ++ told) (sent ++ bytes_in (posted (used r) sends)) (put used r (used r + message_count sends))
-posting_network told sent used r sends n fits by high =
+    → Network (peers_in sends ++ peer_messages) (sent ++ bytes_in (posted (used r) sends)) (put used r (used r + message_count sends))
+posting_network peer_messages sent used r sends n fits by high =
     let os : List Out = posted (used r) sends in
     let more : fragments_among (sent ++ bytes_in os) ≡ fragments_among sent ++ fragments_in os =
     among_append sent (bytes_in os) ∙ ap (λ (fs : List Fragment). fragments_among sent ++ fs) (among_outs os) in
     record {
       datagrams = (both_sent sent (bytes_in os) (record { each = n.datagrams }) (posted_sent (used r) sends fits high)).each;
       carried =
-          subst (λ (fs : List Fragment). Carried (peers_in sends ++ told) fs (put used r (used r + message_count sends))) (sym more)
-          (posting_carries told (fragments_among sent) used r sends n.carried fits by high);
+          subst (λ (fs : List Fragment). Carried (peers_in sends ++ peer_messages) fs (put used r (used r + message_count sends))) (sym more)
+          (posting_carries peer_messages (fragments_among sent) used r sends n.carried fits by high);
     }
 
 -- what is read of a packet is in its ranges
-pub packet_fits : (told : List Peer) (sent : List (List ℕ)) (used : ℕ → ℕ) (bytes : List ℕ) → Network told sent used
+pub packet_fits : (peer_messages : List Peer) (sent : List (List ℕ)) (used : ℕ → ℕ) (bytes : List ℕ) → Network peer_messages sent used
     → MayCome sent (Packet bytes) → IfOk (reading bytes) DatagramFits
-packet_fits told sent used bytes n (inl has) =
+packet_fits peer_messages sent used bytes n (inl has) =
     let d = n.datagrams bytes has in
     let read : reading bytes ≡ Ok d.datagram = ap reading d.spells.spelled ∙ reads_again d.datagram d.spells.fits in
     subst (λ (x : Result Datagram Bad). IfOk x DatagramFits) (sym read) d.spells.fits
-packet_fits told sent used bytes n (inr none) = subst (λ (x : Result Datagram Bad). IfOk x DatagramFits) (sym none.refused) tt
+packet_fits peer_messages sent used bytes n (inr none) = subst (λ (x : Result Datagram Bad). IfOk x DatagramFits) (sym none.refused) tt
 
 -- ---- datagrams that are no fragments
 
@@ -138,13 +138,13 @@ others_sent [] h = none_sent
 others_sent (bytes ∷ more) h = one_sent h.0.datagram bytes more h.0.spells (others_sent more h.1)
 
 -- another actor sends them
-pub others_network : (told : List Peer) (sent more : List (List ℕ)) (used : ℕ → ℕ) → Network told sent used
-    → AllByRecursion IsOtherDatagram more → Network told (sent ++ more) used
-others_network told sent more used n h =
+pub others_network : (peer_messages : List Peer) (sent more : List (List ℕ)) (used : ℕ → ℕ) → Network peer_messages sent used
+    → AllByRecursion IsOtherDatagram more → Network peer_messages (sent ++ more) used
+others_network peer_messages sent more used n h =
     let same : fragments_among (sent ++ more) ≡ fragments_among sent =
     among_append sent more ∙ ap (λ (fs : List Fragment). fragments_among sent ++ fs) (among_none more h)
     ∙ append-nil (fragments_among sent) in
     record {
       datagrams = (both_sent sent more (record { each = n.datagrams }) (others_sent more h)).each;
-      carried = subst (λ (fs : List Fragment). Carried told fs used) (sym same) n.carried;
+      carried = subst (λ (fs : List Fragment). Carried peer_messages fs used) (sym same) n.carried;
     }

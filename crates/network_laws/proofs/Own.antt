@@ -18,21 +18,21 @@ use Rattle.nop_types.specs.declared.request.Entry.TheVariants.{NoOp, Req}
 use Rattle.nop_types.specs.declared.peer.Peer.{Peer}
 use Rattle.nop_types.specs.declared.peer.Body.{Body}
 use Rattle.nop_types.specs.declared.peer.Body.TheVariants as bodies
-use Rattle.log_merge.specs.Merging.{kept_told, merged}
+use Rattle.log_merge.specs.Merging.{kept_changes, merged}
 use Rattle.log_merge.specs.Starting.{start_of}
 use Rattle.oum_receiver.specs.Front.{Front, Nothing, Message, Dropped}
 use Rattle.oum_receiver.specs.Receiving.{front_of}
 use Rattle.sync_points.specs.Synchronisation.{vote_for}
 use Rattle.replica_state.specs.declared.sending.Sending.{Sending}
 use Rattle.replica_state.specs.declared.state.ReplicaState.{ReplicaState}
-use Rattle.replica_state.specs.State.{others, leader, leads, is_normal, drains, waits}
-use Rattle.replica_state.specs.State.{is_other, has_risen}
+use Rattle.replica_state.specs.State.{max_faults, leader, leads, is_normal, drains, waits}
+use Rattle.replica_state.specs.State.{is_other, may_trim}
 use Rattle.replica_state.specs.Sends.{Effect, then_do, when, to_replica, to_leader, to_all, to_all_if}
 use Rattle.replica_state.specs.Replies.{reply_to, reply_if, leader_reply, reply_for, replies_to, replies_above}
 use Rattle.replica_state.specs.Moves.{ask_if, open_gap, drain_drop, drain_at, drain_by, drain, entered, logged}
-use Rattle.replica_state.specs.Moves.{enter_as, enter, change_told, adopted, adopt, open_with, overlaid, overlay}
+use Rattle.replica_state.specs.Moves.{enter_as, enter, change_sent, adopted, adopt, open_with, overlaid, overlay}
 use Rattle.replica_state.specs.Moves.{commit_if, appended, begin_session, hear, sync_commit}
-use Rattle.replica_state.specs.Moves.{raise, take_front, session_view, obey, count_sync_vote}
+use Rattle.replica_state.specs.Moves.{trim, take_front, session_view, obey, count_sync_vote}
 use Rattle.replica_state.specs.Repeating.{sync_if, sync}
 use Rattle.replica_rows.specs.Rows as rows
 use Rattle.replica_rows.specs.Messages.{Arrival, arrive}
@@ -86,7 +86,7 @@ module _ (number count : ℕ) where
   all_if_own false s body is = (record { by = is.0; to = tt }, tt)
 
   all_own : (s : ReplicaState) (body : Body) → Is s → AllOwn (to_all s body)
-  all_own s body is = all_if_own (others s == 0) s body is
+  all_own s body is = all_if_own (max_faults s == 0) s body is
 
   module _ {S : Type 0} (m : Meaning S) (k : Keeping) where
     -- ---- replies
@@ -148,20 +148,20 @@ module _ (number count : ℕ) where
     drain_own s is = (drain_by_own _).at s is
 
     -- the entries that move out of the log go to nobody
-    raise_if_own : (b : Bool) (s : ReplicaState) → Is s → Own (when b (λ t. then_do (raise m k t) (drain m k)) s)
+    raise_if_own : (b : Bool) (s : ReplicaState) → Is s → Own (when b (λ t. then_do (trim m k t) (drain m k)) s)
     raise_if_own true s is =
-        then_own (raise m k s) (drain m k) (record { state = is; sends = (record { by = tt; to = tt }, tt) }) (drain_own (raise m k s).0)
+        then_own (trim m k s) (drain m k) (record { state = is; sends = (record { by = tt; to = tt }, tt) }) (drain_own (trim m k s).0)
     raise_if_own false s is = own s [] is tt
 
-    and_raise : (e : Effect) → Own e → Own (then_do e (rows.raise_and_drain m k))
-    and_raise e h = then_own e (rows.raise_and_drain m k) h (raise_if_own (has_risen e.0) e.0)
+    and_trim : (e : Effect) → Own e → Own (then_do e (rows.trim_and_drain m k))
+    and_trim e h = then_own e (rows.trim_and_drain m k) h (raise_if_own (may_trim e.0) e.0)
 
     -- ---- views
 
     enter_as_own : (b : Bool) (s : ReplicaState) → Is s → Own (enter_as b s)
     enter_as_own true s is = record { state = is; sends = all_own s bodies.ViewChangeReq is }
     enter_as_own false s is =
-        own s _ is (both_own (to_all s bodies.ViewChangeReq) (change_told s) (all_own s bodies.ViewChangeReq is) (leader_own s _ is))
+        own s _ is (both_own (to_all s bodies.ViewChangeReq) (change_sent s) (all_own s bodies.ViewChangeReq is) (leader_own s _ is))
 
     enter_own : (s : ReplicaState) (v : View) → Is s → Own (enter s v)
     unfolding enter
@@ -193,7 +193,7 @@ module _ (number count : ℕ) where
 
     commit_row_own : (n : ℕ) (s : ReplicaState) → Is s → Own (rows.sync_commit m k n s)
     unfolding rows.sync_commit
-    commit_row_own n s is = and_raise (sync_commit n s) (commit_own n s is)
+    commit_row_own n s is = and_trim (sync_commit n s) (commit_own n s is)
 
     commit_if_own : (s : ReplicaState) (n : ℕ) (v : Vote) → Is s → AllOwn (commit_if s n v)
     commit_if_own s n Settled is = all_own s (bodies.SyncCommit n) is
@@ -201,7 +201,7 @@ module _ (number count : ℕ) where
 
     sync_reply_own : (q n : ℕ) (s : ReplicaState) → Is s → Own (rows.sync_reply m k q n s)
     unfolding rows.sync_reply
-    sync_reply_own q n s is = and_raise (count_sync_vote s q n) (record { state = is; sends = commit_if_own s n (vote_for s.sync q n) is })
+    sync_reply_own q n s is = and_trim (count_sync_vote s q n) (record { state = is; sends = commit_if_own s n (vote_for s.sync q n) is })
 
     sync_if_own : (b : Bool) (s : ReplicaState) → Is s → Own (sync_if k b s)
     sync_if_own true s is = record { state = is; sends = all_own s (bodies.SyncPrepare s.log) is }
@@ -216,7 +216,7 @@ module _ (number count : ℕ) where
 
     sync_row_own : (s : ReplicaState) → Is s → Own (rows.sync m k s)
     unfolding rows.sync
-    sync_row_own s is = and_raise (sync k s) (sync_own s is)
+    sync_row_own s is = and_trim (sync k s) (sync_own s is)
 
     -- ---- all that arrives
 
@@ -231,7 +231,7 @@ module _ (number count : ℕ) where
       session = λ s p is f. enter_own (begin_session s p) (session_view s p) is;
       join = λ s p is g. enter_own s (join_of s.view p.view) is;
       next = λ s is e. enter_own s (rows.next_leader s.view) is;
-      opens = λ s g is e many. open_with_own s (start_of g.view (map plain g.changes)).next (merged k (kept_told g.changes)) is;
+      opens = λ s g is e many. open_with_own s (start_of g.view (map plain g.changes)).next (merged k (kept_changes g.changes)) is;
       gather = λ s p u x l g is f e. is;
       start_again = λ s p is g. replica_own s p.sender _ is g;
       adopt = λ s p x l is g. adopt_own s p.view x l is;

@@ -49,21 +49,21 @@ record IsPostable (r : ℕ) (s : Replica) (e : Effect) : Type 0 where
   by : AllByRecursion (IsBy r) e.1
   high : s.messages + message_count e.1 < 2 ^ 64
 
-module _ {S : Type 0} (m : Meaning S) (told : List Peer) (sent : List (List ℕ)) (used : ℕ → ℕ) (r : ℕ) (s : Replica)
-    (n : Network told sent used) (h : InNetwork sent used r s) where
+module _ {S : Type 0} (m : Meaning S) (peer_messages : List Peer) (sent : List (List ℕ)) (used : ℕ → ℕ) (r : ℕ) (s : Replica)
+    (n : Network peer_messages sent used) (h : InNetwork sent used r s) where
   abbrev Does : Replica × List Out → Type 0
-  Does result = Delivers m told sent used r s result
+  Does result = Delivers m peer_messages sent used r s result
 
   network_then : (e : Effect) → IsPostable r s e
-      → Network (peers_in e.1 ++ told) (sent ++ bytes_in (posted s.messages e.1)) (put used r (s.messages + message_count e.1))
+      → Network (peers_in e.1 ++ peer_messages) (sent ++ bytes_in (posted s.messages e.1)) (put used r (s.messages + message_count e.1))
   network_then e k =
       subst
-      (λ (i : ℕ). Network (peers_in e.1 ++ told) (sent ++ bytes_in (posted i e.1)) (put used r (i + message_count e.1)))
+      (λ (i : ℕ). Network (peers_in e.1 ++ peer_messages) (sent ++ bytes_in (posted i e.1)) (put used r (i + message_count e.1)))
       (sym h.messages)
-      (posting_network told sent used r e.1 n k.ranges.sends k.by
+      (posting_network peer_messages sent used r e.1 n k.ranges.sends k.by
       (subst (λ (i : ℕ). i + message_count e.1 < 2 ^ 64) h.messages k.high))
 
-  posts : (all : List Waiting) (e : Effect) → AllCame (fragments_among sent) all → TakesRow m told sent s.state e ⊎ (e ≡ still s.state)
+  posts : (all : List Waiting) (e : Effect) → AllCame (fragments_among sent) all → TakesRow m peer_messages sent s.state e ⊎ (e ≡ still s.state)
       → IsPostable r s e → Does (post (record s { reassembly = all }) e)
   posts all e came row k = record {
     effect = e;
@@ -100,7 +100,7 @@ module _ {S : Type 0} (m : Meaning S) (told : List Peer) (sent : List (List ℕ)
       }))
 
   row_if_delivers : Bounds m Trimmed → (all : List Waiting) (a : Arrival) (b : Bool) → nat_lt s.messages LAST_MESSAGE ≡ b
-      → AllCame (fragments_among sent) all → Came told sent a → ArrivalFits a → Does (row_if m b (record s { reassembly = all }) a)
+      → AllCame (fragments_among sent) all → Came peer_messages sent a → ArrivalFits a → Does (row_if m b (record s { reassembly = all }) a)
   row_if_delivers bounds all a true e came arrived fits =
       let few = arrive_sends_few m Trimmed s.state a in
       let low = ltb-true s.messages LAST_MESSAGE e in
@@ -113,14 +113,14 @@ module _ {S : Type 0} (m : Meaning S) (told : List Peer) (sent : List (List ℕ)
       })
   row_if_delivers bounds all a false e came arrived fits = does_nothing all came
 
-  row_delivers : Bounds m Trimmed → (all : List Waiting) (a : Arrival) → AllCame (fragments_among sent) all → Came told sent a → ArrivalFits a
+  row_delivers : Bounds m Trimmed → (all : List Waiting) (a : Arrival) → AllCame (fragments_among sent) all → Came peer_messages sent a → ArrivalFits a
       → Does (row m (record s { reassembly = all }) a)
   row_delivers bounds all a came arrived fits = row_if_delivers bounds all a (nat_lt s.messages LAST_MESSAGE) refl came arrived fits
 
   fragment_delivers : Bounds m Trimmed → (f : Fragment) → Has (fragments_among sent) f → Does (fragment m s f)
-  fragment_delivers bounds f here = elim (fragment_brings m told (fragments_among sent) used s f n.carried here h.came) [
+  fragment_delivers bounds f here = elim (fragment_brings m peer_messages (fragments_among sent) used s f n.carried here h.came) [
     | inl b ↦
-        subst Does (sym b.row) (row_delivers bounds (taken s.reassembly f).0 (messages.Told b.peer) b.kept b.was_told.has b.was_told.fits)
+        subst Does (sym b.row) (row_delivers bounds (taken s.reassembly f).0 (messages.PeerMessage b.peer) b.kept b.was_sent.has b.was_sent.fits)
     | inr b ↦ subst Does (sym b.same) (does_nothing b.reassembly b.kept)
   ]
 
@@ -151,7 +151,7 @@ module _ {S : Type 0} (m : Meaning S) (told : List Peer) (sent : List (List ℕ)
   delivers bounds (Ticked tick) may = row_delivers bounds s.reassembly (messages.Ticked tick) h.came tt tt
   delivers bounds (Submit op) may = does_nothing s.reassembly h.came
 
-pub step_delivers : {S : Type 0} (m : Meaning S) → Bounds m Trimmed → (told : List Peer) (sent : List (List ℕ)) (used : ℕ → ℕ) (r : ℕ)
-    (s : Replica) (given : Given) → Network told sent used → InNetwork sent used r s → MayCome sent given
-    → Delivers m told sent used r s (next m s given)
-step_delivers m bounds told sent used r s given n h may = delivers m told sent used r s n h bounds given may
+pub step_delivers : {S : Type 0} (m : Meaning S) → Bounds m Trimmed → (peer_messages : List Peer) (sent : List (List ℕ)) (used : ℕ → ℕ) (r : ℕ)
+    (s : Replica) (given : Given) → Network peer_messages sent used → InNetwork sent used r s → MayCome sent given
+    → Delivers m peer_messages sent used r s (next m s given)
+step_delivers m bounds peer_messages sent used r s given n h may = delivers m peer_messages sent used r s n h bounds given may

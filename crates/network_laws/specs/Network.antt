@@ -64,10 +64,10 @@ pub record PostsReplies (number : ℕ) (sends : List Sending) : Type 0 where
   pub each : (reply : Reply) → Has sends (ToClient reply) → Has (bytes_in (posted number sends)) (spelling (datagrams.Reply reply))
   pub only : (bytes : List ℕ) → Has (bytes_in (posted number sends)) bytes → IsReplyIn sends bytes ⊎ IsFragment bytes
 
--- all that was sent are datagrams in their ranges, and the fragments among them carry the messages that were told
-pub record Network (told : List Peer) (sent : List (List ℕ)) (used : ℕ → ℕ) : Type 0 where
+-- all that was sent are datagrams in their ranges, and the fragments among them carry the messages that were sent
+pub record Network (peer_messages : List Peer) (sent : List (List ℕ)) (used : ℕ → ℕ) : Type 0 where
   pub datagrams : (bytes : List ℕ) → Has sent bytes → IsDatagram bytes
-  pub carried : Carried told (fragments_among sent) used
+  pub carried : Carried peer_messages (fragments_among sent) used
 
 -- ---- what an actor is given
 

@@ -21,17 +21,17 @@ use Rattle.replica_core.specs.ReplicaSteps.{Replica, row}
 use Rattle.replica_state.specs.Sends.{Effect, SendingFits, still, message_count}
 use Rattle.replica_rows.specs.Within.{ArrivalFits}
 use Rattle.replica_state.specs.Within.{IsWithin}
-use Rattle.network_laws.specs.Carried.{WasTold}
+use Rattle.network_laws.specs.Carried.{WasSentInRange}
 use Rattle.network_laws.specs.Network.{bytes_in, fragments_among, Network}
 use Rattle.network_laws.specs.Sends.{peers_in, IsBy}
 
 -- ---- what a replica takes
 
--- a stamped request was sent, a message was told
+-- a stamped request was sent, a message was sent
 abbrev pub Came : List Peer → List (List ℕ) → Arrival → Type 0
-Came told sent (messages.Packet p) = Has sent (spelling (datagrams.Stamped p))
-Came told sent (messages.Told p) = Has told p
-Came told sent (messages.Ticked tick) = ⊤
+Came peer_messages sent (messages.Packet p) = Has sent (spelling (datagrams.Stamped p))
+Came peer_messages sent (messages.PeerMessage p) = Has peer_messages p
+Came peer_messages sent (messages.Ticked tick) = ⊤
 
 -- ---- a replica
 
@@ -47,13 +47,13 @@ pub record InNetwork (sent : List (List ℕ)) (used : ℕ → ℕ) (r : ℕ) (s 
 
 -- ---- a fragment
 
--- the row of a message that was told, with the fragment taken
-pub record BringsMessage {S : Type 0} (m : Meaning S) (told : List Peer) (net : List Fragment) (s : Replica) (f : Fragment)
+-- the row of a message that was sent, with the fragment taken
+pub record BringsMessage {S : Type 0} (m : Meaning S) (peer_messages : List Peer) (net : List Fragment) (s : Replica) (f : Fragment)
     (result : Replica × List Out) : Type 0 where
   pub peer : Peer
-  pub was_told : WasTold told f peer
+  pub was_sent : WasSentInRange peer_messages f peer
   pub kept : AllCame net (taken s.reassembly f).0
-  pub row : result ≡ row m (record s { reassembly = (taken s.reassembly f).0 }) (messages.Told peer)
+  pub row : result ≡ row m (record s { reassembly = (taken s.reassembly f).0 }) (messages.PeerMessage peer)
 
 -- at most the reassembly changes
 pub record BringsNone (net : List Fragment) (s : Replica) (result : Replica × List Out) : Type 0 where
@@ -62,26 +62,26 @@ pub record BringsNone (net : List Fragment) (s : Replica) (result : Replica × L
   pub same : result ≡ (record s { reassembly = reassembly }, [])
 
 abbrev pub Brings : {S : Type 0} → Meaning S → List Peer → List Fragment → Replica → Fragment → Replica × List Out → Type 0
-Brings m told net s f result = BringsMessage m told net s f result ⊎ BringsNone net s result
+Brings m peer_messages net s f result = BringsMessage m peer_messages net s f result ⊎ BringsNone net s result
 
 -- ---- a step
 
 -- the row of what came, in its ranges
-pub record TakesRow {S : Type 0} (m : Meaning S) (told : List Peer) (sent : List (List ℕ)) (s : ReplicaState) (e : Effect) : Type 0 where
+pub record TakesRow {S : Type 0} (m : Meaning S) (peer_messages : List Peer) (sent : List (List ℕ)) (s : ReplicaState) (e : Effect) : Type 0 where
   pub arrival : Arrival
-  pub came : Came told sent arrival
+  pub came : Came peer_messages sent arrival
   pub fits : ArrivalFits arrival
   pub effect : e ≡ arrive m Trimmed s arrival
 
 -- what a step of replica r does: the row of what came, or none; what it sends is posted, and the network carries that too
-pub record Delivers {S : Type 0} (m : Meaning S) (told : List Peer) (sent : List (List ℕ)) (used : ℕ → ℕ) (r : ℕ) (s : Replica)
+pub record Delivers {S : Type 0} (m : Meaning S) (peer_messages : List Peer) (sent : List (List ℕ)) (used : ℕ → ℕ) (r : ℕ) (s : Replica)
     (result : Replica × List Out) : Type 0 where
   pub effect : Effect
-  pub row : TakesRow m told sent s.state effect ⊎ (effect ≡ still s.state)
+  pub row : TakesRow m peer_messages sent s.state effect ⊎ (effect ≡ still s.state)
   pub fits : AllByRecursion SendingFits effect.1
   pub by : AllByRecursion (IsBy r) effect.1
   pub state : result.0.state ≡ effect.0
   pub messages : result.0.messages ≡ s.messages + message_count effect.1
   pub outs : result.1 ≡ posted s.messages effect.1
-  pub network : Network (peers_in effect.1 ++ told) (sent ++ bytes_in result.1) (put used r result.0.messages)
+  pub network : Network (peers_in effect.1 ++ peer_messages) (sent ++ bytes_in result.1) (put used r result.0.messages)
   pub replica : InNetwork (sent ++ bytes_in result.1) (put used r result.0.messages) r result.0

@@ -23,7 +23,7 @@ ghost use Rattle.replica_state.specs.Sends.{SendingFits, message_count};
 ghost use Rattle.replica_state.specs.State as state;
 ghost use Rattle.replica_rows.specs.Within.{ArrivalIsIn};
 ghost use Rattle.replica_state.specs.Within.{IsIn};
-ghost use Rattle.network_laws.specs.Carried.{Carried, WasTold};
+ghost use Rattle.network_laws.specs.Carried.{Carried, WasSentInRange};
 ghost use Rattle.network_laws.specs.Network.{IsOtherDatagram, MayCome, Network, PostsReplies};
 ghost use Rattle.network_laws.specs.PostedFragments.{PostsFragments, fragments_in};
 ghost use Rattle.network_laws.specs.Ranges.{StaysInRanges};
@@ -68,22 +68,22 @@ pub fn rows_send_within_the_configuration<S>()
 {}
 
 /// Where the fragments of a network carry what was told, and a reassembly has only parts that came
-/// in them, a message that one more of them completes was told by that fragment's replica, and is
+/// in them, a message that one more of them completes was sent by that fragment's replica, and is
 /// in its ranges.
-pub fn joined_was_told()
-    ensures { (told : List Peer) (net : List Fragment) (used : ℕ → ℕ) (all : List Waiting)
-        (f : Fragment) (bytes : List ℕ) (p : Peer) → Carried told net used → Has net f
+pub fn joined_was_sent()
+    ensures { (peer_messages : List Peer) (net : List Fragment) (used : ℕ → ℕ) (all : List Waiting)
+        (f : Fragment) (bytes : List ℕ) (p : Peer) → Carried peer_messages net used → Has net f
         → AllCame net all → (taken all f).1 ≡ Some bytes → reading bytes ≡ Ok p
-        → WasTold told f p }
+        → WasSentInRange peer_messages f p }
 {}
 
 /// What a replica posts is carried too, where it is in its ranges and names that replica as the
 /// sender, and message numbers are left.
 pub fn posting_carries()
-    ensures { (told : List Peer) (net : List Fragment) (used : ℕ → ℕ) (r : ℕ)
-        (sends : List Sending) → Carried told net used → AllByRecursion SendingFits sends
+    ensures { (peer_messages : List Peer) (net : List Fragment) (used : ℕ → ℕ) (r : ℕ)
+        (sends : List Sending) → Carried peer_messages net used → AllByRecursion SendingFits sends
         → AllByRecursion (IsBy r) sends → used r + message_count sends < 2 ^ 64
-        → Carried (peers_in sends ++ told) (net ++ fragments_in (posted (used r) sends))
+        → Carried (peers_in sends ++ peer_messages) (net ++ fragments_in (posted (used r) sends))
         (put used r (used r + message_count sends)) }
 {}
 
@@ -93,7 +93,7 @@ pub fn posts_replies()
         → number + message_count sends < 2 ^ 64 → PostsReplies number sends }
 {}
 
-/// At the opening nothing was told or sent, and no message number was used.
+/// At the opening nothing was sent, and no message number was used.
 pub fn opening_carries()
     ensures network { Network [] [] (λ (r : ℕ). 0) }
     ensures replica { (config : Configuration) (r : ℕ) → IsTrue (is_configuration config)
@@ -103,9 +103,9 @@ pub fn opening_carries()
 /// Datagrams that are no fragments leave a network one. Whatever others send, a replica stays in
 /// the network, also where another replica used further message numbers.
 pub fn network_goes_on()
-    ensures network { (told : List Peer) (sent more : List (List ℕ)) (used : ℕ → ℕ)
-        → Network told sent used → AllByRecursion IsOtherDatagram more
-        → Network told (sent ++ more) used }
+    ensures network { (peer_messages : List Peer) (sent more : List (List ℕ)) (used : ℕ → ℕ)
+        → Network peer_messages sent used → AllByRecursion IsOtherDatagram more
+        → Network peer_messages (sent ++ more) used }
     ensures replica { (sent more : List (List ℕ)) (used : ℕ → ℕ) (r : ℕ) (s : Replica)
         → InNetwork sent used r s → InNetwork (sent ++ more) used r s }
     ensures other { (sent more : List (List ℕ)) (used : ℕ → ℕ) (r q n : ℕ)
@@ -113,20 +113,20 @@ pub fn network_goes_on()
         → InNetwork sent used q s → InNetwork (sent ++ more) (put used r n) q s }
 {}
 
-/// A fragment that was sent brings a message that its replica told, or at most the reassembly
+/// A fragment that was sent brings a message that its replica sent, or at most the reassembly
 /// changes.
 pub fn fragments_bring_messages<S>()
-    ensures { (m : Meaning S) (told : List Peer) (net : List Fragment) (used : ℕ → ℕ)
-        (s : Replica) (f : Fragment) → Carried told net used → Has net f
+    ensures { (m : Meaning S) (peer_messages : List Peer) (net : List Fragment) (used : ℕ → ℕ)
+        (s : Replica) (f : Fragment) → Carried peer_messages net used → Has net f
         → AllCame net s.reassembly
-        → Brings m told net s f (fragment m s f) }
+        → Brings m peer_messages net s f (fragment m s f) }
 {}
 
-/// Whatever comes to a replica of a network, it takes the row of something that was sent or told,
+/// Whatever comes to a replica of a network, it takes the row of something that was sent,
 /// or none. What it sends is carried, and it stays in the network.
 pub fn steps_deliver<S>()
-    ensures { (m : Meaning S) → Bounds m Trimmed → (told : List Peer) (sent : List (List ℕ))
-        (used : ℕ → ℕ) (r : ℕ) (s : Replica) (given : Given) → Network told sent used
+    ensures { (m : Meaning S) → Bounds m Trimmed → (peer_messages : List Peer) (sent : List (List ℕ))
+        (used : ℕ → ℕ) (r : ℕ) (s : Replica) (given : Given) → Network peer_messages sent used
         → InNetwork sent used r s → MayCome sent given
-        → Delivers m told sent used r s (next m s given) }
+        → Delivers m peer_messages sent used r s (next m s given) }
 {}

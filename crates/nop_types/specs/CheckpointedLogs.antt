@@ -1,4 +1,4 @@
--- What the execution of a log leaves, where a checkpoint may stand in place of its first entries.
+-- What the execution of a log leaves, where a checkpoint may be in place of its first entries.
 use Rattle.std.specs.Prelude.{ℕ, List, Option, Some, None, Bool, true, is_some}
 use Rattle.std.specs.Option.{unwrap_or}
 use Rattle.nop_types.specs.declared.request.Entry.{Entry}

@@ -20,7 +20,7 @@ pub record IsGreatest (ns : List ℕ) (n : ℕ) : Type 0 where
   pub has : Has ns n
   pub most : (k : ℕ) → Has ns k → k ≤ n
 
--- whether the number stands in the list
+-- whether the number is in the list
 abbrev pub is_in : List ℕ → ℕ → Bool
 is_in ns n = list_any (λ k. k == n) ns
 

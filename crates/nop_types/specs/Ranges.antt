@@ -124,11 +124,11 @@ pub record NextFits (next : ℕ) : Type 0 where
 pub record LogChangeIsIn (k : Keeping) (last_normal : View) (next : ℕ) (log : Log) : Type 0 where
   pub view : ViewFits last_normal
   pub number : NextFits next
-  pub told : LogIsIn k log
+  pub log_fits : LogIsIn k log
 
 pub record LogStartIsIn (k : Keeping) (next : ℕ) (log : Log) : Type 0 where
   pub number : NextFits next
-  pub told : LogIsIn k log
+  pub log_fits : LogIsIn k log
 
 pub record FoundFits (slot : ℕ) (r : Request) : Type 0 where
   pub place : SlotFits slot

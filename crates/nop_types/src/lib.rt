@@ -10,7 +10,7 @@
 //! the same state. What `save` gives has at most `MAX_HOST_BYTES` bytes, and `load` of it gives a
 //! host in the same state; `load` is None exactly where bytes are no saved state.
 //!
-//! A `Log` is trimmed: a sync point, the checkpoint that stands in place of the entries up to it,
+//! A `Log` is trimmed: a sync point, the checkpoint that is in place of the entries up to it,
 //! and at most `MAX_SLOTS` entries above it; it has at most `MAX_LENGTH` slots in all. A `LogRef`
 //! borrows one, and `to_log` copies it; `lay_over` moves entries over the first ones of others.
 //! Where the sync point of a replica rises, the entries up to it go out as `Out::Trimmed`.

@@ -8,7 +8,7 @@ use crate::{Checkpoint, Entry, MAX_LENGTH, MAX_SLOTS, NoMemory};
 use std::alloc::Global;
 use std::marker::Model;
 
-/// A trimmed log, as messages carry it: its sync point, the checkpoint that stands in place of the entries up to there, and the
+/// A trimmed log, as messages carry it: its sync point, the checkpoint that is in place of the entries up to there, and the
 /// entries above, at most `MAX_SLOTS`. It has at most `MAX_LENGTH` slots.
 #[derive(Debug)]
 pub struct Log {

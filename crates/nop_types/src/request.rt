@@ -22,7 +22,7 @@ impl Request {
     }
 }
 
-/// What stands in a slot of a log.
+/// What is in a slot of a log.
 #[derive(Debug, Drop)]
 pub enum Entry {
     NoOp,

@@ -19,10 +19,10 @@ use Rattle.world.specs.Lookups.{timers_if, timers_by, timers_of}
 use Rattle.world.specs.Others.{Kind, Sequencers, seats, timers, Who, AReplica, Another, who}
 use Rattle.world.specs.Seats.{Seated}
 use Rattle.world.specs.WorldSteps.{WorldState, opening}
-use Rattle.one_box.specs.declared.node.Node as code
+use Rattle.one_box.specs.declared.node.BoxActor as code
 use Rattle.one_box.specs.Actors.{numbered}
 use Rattle.one_box.specs.Attaching.{IsFresh, AttachesOne, AttachesAll, AttachingOn, Holds, HasRoom, place_for}
-use Rattle.one_box.specs.ClusterRun.{Node, opening_node, opening_nodes}
+use Rattle.one_box.specs.ClusterRun.{BoxActor, opening_node, opening_nodes}
 use Rattle.one_box.specs.Showing.{LinkView, Shows, AllShow, AllLostFit, place_of}
 
 -- ---- the actors of a kind
@@ -68,12 +68,12 @@ module _ {L : Type 0} (v : LinkView L) (base : ℕ) (config : Configuration) (no
       ≡ opening_nodes base config now actors polls ++ opening_node base config now a (next_link (drop (length actors) polls)) ∷ []
   opening_push [] a polls = refl
   opening_push (x ∷ actors) a polls =
-      ap (λ (ns : List Node). opening_node base config now x (next_link polls) ∷ ns)
+      ap (λ (ns : List BoxActor). opening_node base config now x (next_link polls) ∷ ns)
       (opening_push actors a (drop 1 polls)
       ∙ ap (λ (ps : List (List PollAnswer)). opening_nodes base config now actors (drop 1 polls)
       ++ opening_node base config now a (next_link ps) ∷ []) (drop_one (length actors) polls))
 
-  shown_push : (ns : List Node) (xs : List (code.Node L)) (n : Node) (x : code.Node L) → AllShow v ns xs → Shows v n x
+  shown_push : (ns : List BoxActor) (xs : List (code.BoxActor L)) (n : BoxActor) (x : code.BoxActor L) → AllShow v ns xs → Shows v n x
       → AllShow v (ns ++ n ∷ []) (xs ++ x ∷ [])
   shown_push [] [] n x all one = (one, tt)
   shown_push [] (y ∷ xs) n x all one = absurd all
@@ -88,7 +88,7 @@ module _ {L : Type 0} (v : LinkView L) (base : ℕ) (config : Configuration) (no
       ∙ ap (side (Some []) 0) k) in
       subst (λ (b : LinkSide). Sends [] (side (Some []) 0 0) b) same (no_sends (side (Some []) 0 0))
 
-  fresh_shows : (a : Actor) (polls : List (List PollAnswer)) (x : code.Node L) (new : Option (List (List PollAnswer)))
+  fresh_shows : (a : Actor) (polls : List (List PollAnswer)) (x : code.BoxActor L) (new : Option (List (List PollAnswer)))
       → IsFresh v (record { base = base; own = a; config = config }) (map (armed now) (timers_of (opening config) a)) x
       → GivesNext (Some polls) new (v.answers x.link) (v.trace x.link) → Shows v (opening_node base config now a (next_link polls)) x
   fresh_shows a polls x new fresh gives = record {
@@ -99,19 +99,19 @@ module _ {L : Type 0} (v : LinkView L) (base : ℕ) (config : Configuration) (no
     sends = fresh_side (v.trace x.link) x.lost (v.losses x.link) gives.2 fresh.lost fresh.losses;
   }
 
-  pub attaching_first : (to_come : Option (List (List PollAnswer))) (xs : List (code.Node L)) → xs ≡ []
+  pub attaching_first : (to_come : Option (List (List PollAnswer))) (xs : List (code.BoxActor L)) → xs ≡ []
       → AttachingOn v base config now [] to_come to_come xs
   attaching_first None xs none = tt
   attaching_first (Some polls) xs none = (refl, subst (AllShow v []) (sym none) tt)
 
   pub attaching_more : (all : List Actor) (i : ℕ) (a : Actor) (to_come mid new : Option (List (List PollAnswer)))
-      (xs ys : List (code.Node L)) (w : WorldState) → slice_get all i ≡ Some a → w ≡ opening config
+      (xs ys : List (code.BoxActor L)) (w : WorldState) → slice_get all i ≡ Some a → w ≡ opening config
       → AttachesOne v (record { base = base; own = a; config = config }) (map (armed now) (timers_of w a)) mid new xs ys
       → AttachingOn v base config now (take i all) to_come mid xs → AttachingOn v base config now (take (i + 1) all) to_come new ys
   attaching_more all i a None mid new xs ys w there is one before = tt
   attaching_more all i a (Some polls) mid new xs ys w there is one before =
       let actors : List Actor = take i all in
-      let front : take (i + 1) all ≡ actors ++ a ∷ [] = ap (λ (k : ℕ). take k all) (add-one i) ∙ (Splits-at all i a there).front in
+      let prefix : take (i + 1) all ≡ actors ++ a ∷ [] = ap (λ (k : ℕ). take k all) (add-one i) ∙ (Splits-at all i a there).prefix in
       let left : List (List PollAnswer) = drop (length actors) polls in
       let gives : GivesNext (Some left) new (v.answers one.node.link) (v.trace one.node.link) =
       subst (λ (o : Option (List (List PollAnswer))). GivesNext o new (v.answers one.node.link) (v.trace one.node.link)) before.0
@@ -119,48 +119,48 @@ module _ {L : Type 0} (v : LinkView L) (base : ℕ) (config : Configuration) (no
       let place : Address = record { base = base; own = a; config = config } in
       let fresh : IsFresh v place (map (armed now) (timers_of (opening config) a)) one.node =
       subst (λ (u : WorldState). IsFresh v place (map (armed now) (timers_of u a)) one.node) is one.fresh in
-      let ns : List Node = opening_nodes base config now actors polls in
-      let k : Node = opening_node base config now a (next_link left) in
+      let ns : List BoxActor = opening_nodes base config now actors polls in
+      let k : BoxActor = opening_node base config now a (next_link left) in
       let shown : AllShow v (ns ++ k ∷ []) (xs ++ one.node ∷ []) =
       shown_push ns xs k one.node before.1 (fresh_shows a left one.node new fresh gives) in
       let all_shown : AllShow v (opening_nodes base config now (actors ++ a ∷ []) polls) ys =
       subst (AllShow v (opening_nodes base config now (actors ++ a ∷ []) polls)) (sym one.added)
-      (subst (λ (ms : List Node). AllShow v ms (xs ++ one.node ∷ [])) (sym (opening_push actors a polls)) shown) in
+      (subst (λ (ms : List BoxActor). AllShow v ms (xs ++ one.node ∷ [])) (sym (opening_push actors a polls)) shown) in
       let count : length (actors ++ a ∷ []) ≡ suc (length actors) = omega (arith, length-append actors (a ∷ [])) in
       let later : new ≡ Some (drop (length (actors ++ a ∷ [])) polls) =
       gives.0 ∙ ap Some (drop_then (length actors) polls ∙ ap (λ (k : ℕ). drop k polls) (sym count)) in
-      subst (λ (front_actors : List Actor). AttachingOn v base config now front_actors (Some polls) new ys) (sym front) (later, all_shown)
+      subst (λ (prefix_actors : List Actor). AttachingOn v base config now prefix_actors (Some polls) new ys) (sym prefix) (later, all_shown)
 
-  pub attached_all : (all : List Actor) (i : ℕ) (to_come new : Option (List (List PollAnswer))) (xs : List (code.Node L)) → length all ≤ i
+  pub attached_all : (all : List Actor) (i : ℕ) (to_come new : Option (List (List PollAnswer))) (xs : List (code.BoxActor L)) → length all ≤ i
       → AttachingOn v base config now (take i all) to_come new xs → AttachesAll v base config now all to_come xs
   attached_all all i None new xs past on = tt
   attached_all all i (Some polls) new xs past on =
       subst (λ (actors : List Actor). AllShow v (opening_nodes base config now actors polls) xs) (take_all i all past) on.1
 
-  pub places_more : (all : List Actor) (i : ℕ) (a : Actor) (mid new : Option (List (List PollAnswer))) (xs ys : List (code.Node L))
+  pub places_more : (all : List Actor) (i : ℕ) (a : Actor) (mid new : Option (List (List PollAnswer))) (xs ys : List (code.BoxActor L))
       (ts : List Timer) → slice_get all i ≡ Some a → AttachesOne v (record { base = base; own = a; config = config }) ts mid new xs ys
       → map (place_of v) xs ≡ map (place_for base config) (take i all)
       → map (place_of v) ys ≡ map (place_for base config) (take (i + 1) all)
   places_more all i a mid new xs ys ts there one before =
-      let front : take (i + 1) all ≡ take i all ++ a ∷ [] = ap (λ (k : ℕ). take k all) (add-one i) ∙ (Splits-at all i a there).front in
+      let prefix : take (i + 1) all ≡ take i all ++ a ∷ [] = ap (λ (k : ℕ). take k all) (add-one i) ∙ (Splits-at all i a there).prefix in
       let place : place_of v one.node ≡ place_for base config a =
       ap (λ (p : Address). (p, v.port one.node.link)) one.fresh.at
       ∙ ap (λ (k : ℕ). (record { base = base; own = a; config = config }, k)) one.fresh.port in
       ap (map (place_of v)) one.added ∙ map-append (place_of v) xs (one.node ∷ [])
       ∙ ap (λ (ps : List (Address × ℕ)). ps ++ place_of v one.node ∷ []) before
       ∙ ap (λ (p : Address × ℕ). map (place_for base config) (take i all) ++ p ∷ []) place
-      ∙ sym (ap (map (place_for base config)) front ∙ map-append (place_for base config) (take i all) (a ∷ []))
+      ∙ sym (ap (map (place_for base config)) prefix ∙ map-append (place_for base config) (take i all) (a ∷ []))
 
-  pub places_all : (all : List Actor) (i : ℕ) (xs : List (code.Node L)) → length all ≤ i
+  pub places_all : (all : List Actor) (i : ℕ) (xs : List (code.BoxActor L)) → length all ≤ i
       → map (place_of v) xs ≡ map (place_for base config) (take i all) → map (place_of v) xs ≡ map (place_for base config) all
   places_all all i xs past places = places ∙ ap (map (place_for base config)) (take_all i all past)
 
 -- what was counted as lost stays counted where a fresh link comes
-pub lost_push : {L : Type 0} (v : LinkView L) (xs ys : List (code.Node L)) (x : code.Node L) → ys ≡ xs ++ x ∷ [] → x.lost ≡ 0
+pub lost_push : {L : Type 0} (v : LinkView L) (xs ys : List (code.BoxActor L)) (x : code.BoxActor L) → ys ≡ xs ++ x ∷ [] → x.lost ≡ 0
     → AllLostFit v xs → AllLostFit v ys
 lost_push {L} v xs ys x added none all = subst (AllLostFit v) (sym added) (behind xs all)
   where
-    behind : (zs : List (code.Node L)) → AllLostFit v zs → AllLostFit v (zs ++ x ∷ [])
+    behind : (zs : List (code.BoxActor L)) → AllLostFit v zs → AllLostFit v (zs ++ x ∷ [])
     behind [] fits = (omega (arith, none), tt)
     behind (z ∷ zs) fits = (fits.0, behind zs fits.1)
 

@@ -15,39 +15,39 @@ use Rattle.udp_node.specs.declared.address.Address.{Address}
 use Rattle.udp_node.specs.declared.firing.Timer.{Timer}
 use Rattle.world.specs.Lookups.{takes_op}
 use Rattle.world.specs.WorldSteps.{WorldState}
-use Rattle.one_box.specs.declared.node.Node as code
-use Rattle.one_box.specs.ClusterRun.{Course, Node, take, submit_next, next_of, on_tick, fire_if, fire_due}
+use Rattle.one_box.specs.declared.node.BoxActor as code
+use Rattle.one_box.specs.ClusterRun.{Course, BoxActor, take, submit_next, next_of, on_tick, fire_if, fire_due}
 use Rattle.one_box.specs.Firing.{submit_if, next_event, tick_event, tick_event_if, timer_event, next_after, take_event}
 use Rattle.one_box.specs.Showing.{LinkView, Shows, Reaches, Does, Acts, IsNoJunk}
 use Rattle.one_box.specs.Progress.{FiringOn}
 
 module _ {S L : Type 0} (m : Meaning S) (v : LinkView L) (ops : List (List ℕ)) (now : ℕ) where
-  pub none_fired : (all : List Timer) (c : Course) (n : Node) (x : code.Node L) → Shows v n x → FiringOn m v ops now all all c n c x
+  pub none_fired : (all : List Timer) (c : Course) (n : BoxActor) (x : code.BoxActor L) → Shows v n x → FiringOn m v ops now all all c n c x
   none_fired all c n x shown = record { node = n; shows = shown; goes = refl }
 
   -- one timer more
-  pub fired : (all rest : List Timer) (t : Timer) (c d e : Course) (n : Node) (y z : code.Node L)
+  pub fired : (all rest : List Timer) (t : Timer) (c d e : Course) (n : BoxActor) (y z : code.BoxActor L)
       → FiringOn m v ops now all (t ∷ rest) c n d y → Does v (λ a k. fire_if m ops (nat_le t.due now) a k t.tick) d y e z
       → FiringOn m v ops now all rest c n e z
   unfolding fire_due
   fired all rest t c d e n y z f does =
-      let p : Course × Node = fire_if m ops (nat_le t.due now) d f.node t.tick in
+      let p : Course × BoxActor = fire_if m ops (nat_le t.due now) d f.node t.tick in
       let r : Reaches v p e z = does f.node f.shows in
       record { node = p.1; shows = r.node; goes = ap (λ (a : Course). fire_due m ops now rest a p.1) (sym r.course) ∙ f.goes }
 
   -- all of them
-  pub all_fired : (all : List Timer) (c d : Course) (n : Node) (y : code.Node L) → FiringOn m v ops now all [] c n d y
+  pub all_fired : (all : List Timer) (c d : Course) (n : BoxActor) (y : code.BoxActor L) → FiringOn m v ops now all [] c n d y
       → Reaches v (fire_due m ops now all c n) d y
   unfolding fire_due
   all_fired all c d n y f =
       let ends : (d, f.node) ≡ fire_due m ops now all c n = f.goes in
       record {
-        course = sym (ap (λ (p : Course × Node). p.0) ends);
-        node = subst (λ (p : Course × Node). Shows v p.1 y) ends f.shows;
+        course = sym (ap (λ (p : Course × BoxActor). p.0) ends);
+        node = subst (λ (p : Course × BoxActor). Shows v p.1 y) ends f.shows;
       }
 
   -- one timer more, by its place
-  pub fired_at : (all : List Timer) (i : ℕ) (t : Timer) (c d e : Course) (n : Node) (y z : code.Node L) → slice_get all i ≡ Some t
+  pub fired_at : (all : List Timer) (i : ℕ) (t : Timer) (c d e : Course) (n : BoxActor) (y z : code.BoxActor L) → slice_get all i ≡ Some t
       → FiringOn m v ops now all (drop i all) c n d y → Does v (λ a k. fire_if m ops (nat_le t.due now) a k t.tick) d y e z
       → FiringOn m v ops now all (drop (i + 1) all) c n e z
   fired_at all i t c d e n y z there f does =
@@ -56,7 +56,7 @@ module _ {S L : Type 0} (m : Meaning S) (v : LinkView L) (ops : List (List ℕ))
       fired all (drop (i + 1) all) t c d e n y z (subst (λ (ts : List Timer). FiringOn m v ops now all ts c n d y) next f) does
 
   -- all, where so many are no fewer
-  pub all_fired_at : (all : List Timer) (i : ℕ) (c d : Course) (n : Node) (y : code.Node L) → length all ≤ i → all ≡ n.timers
+  pub all_fired_at : (all : List Timer) (i : ℕ) (c d : Course) (n : BoxActor) (y : code.BoxActor L) → length all ≤ i → all ≡ n.timers
       → FiringOn m v ops now all (drop i all) c n d y → Reaches v (fire_due m ops now n.timers c n) d y
   all_fired_at all i c d n y past same f =
       subst (λ (ts : List Timer). Reaches v (fire_due m ops now ts c n) d y) same
@@ -64,7 +64,7 @@ module _ {S L : Type 0} (m : Meaning S) (v : LinkView L) (ops : List (List ℕ))
 
 -- ---- one timer
 
-module _ {S : Type 0} (m : Meaning S) (ops : List (List ℕ)) (c : Course) (n : Node) where
+module _ {S : Type 0} (m : Meaning S) (ops : List (List ℕ)) (c : Course) (n : BoxActor) where
   submit_by : (b : Bool) (client : ℕ) (op : Option (List ℕ)) → submit_next m b client op c n ≡ take_event m (submit_if b client op) c n
   unfolding submit_next
   submit_by true client (Some op) = refl
@@ -107,15 +107,15 @@ free_if : (b : Bool) (w : WorldState) (a : Actor) (op : Option (List ℕ)) (t : 
 free_if true w a op t = tick_free w a op t
 free_if false w a op t = tt
 
--- no timer brings junk
+-- no timer delivers junk
 pub timer_free : (w : WorldState) (a : Actor) (op : Option (List ℕ)) (t : Timer) (now : ℕ) (o : Option Event) (e : Event)
     → o ≡ timer_event w a op t now → o ≡ Some e → IsNoJunk e
 timer_free w a op t now o e is some = subst HasNoJunk (sym is ∙ some) (free_if (nat_le t.due now) w a op t.tick)
 
-module _ {S L : Type 0} (m : Meaning S) (v : LinkView L) (ops : List (List ℕ)) (c d : Course) (x y : code.Node L) (t : Timer) (now : ℕ)
+module _ {S L : Type 0} (m : Meaning S) (v : LinkView L) (ops : List (List ℕ)) (c d : Course) (x y : code.BoxActor L) (t : Timer) (now : ℕ)
     (op : Option (List ℕ)) (found : op ≡ slice_get ops x.next_op) (o : Option Event) (is : o ≡ timer_event c.world x.at.own op t now) where
   -- what fires is the event that was found
-  is_fired : (n : Node) → Shows v n x → fire_if m ops (nat_le t.due now) c n t.tick ≡ take_event m o c n
+  is_fired : (n : BoxActor) → Shows v n x → fire_if m ops (nat_le t.due now) c n t.tick ≡ take_event m o c n
   is_fired n shown =
       fire_by m ops c n (nat_le t.due now) t.tick
       ∙ ap (λ (a : Address). take_event m (timer_event c.world a.own (slice_get ops n.next_op) t now) c n) (sym shown.at)
@@ -127,7 +127,7 @@ module _ {S L : Type 0} (m : Meaning S) (v : LinkView L) (ops : List (List ℕ))
   fired_none none = record {
     does = λ n shown.
         let here : Reaches v (take_event m None c n) c x = record { course = refl; node = shown } in
-        subst (λ (p : Course × Node). Reaches v p c x) (sym (is_fired n shown ∙ ap (λ (p : Option Event). take_event m p c n) none)) here;
+        subst (λ (p : Course × BoxActor). Reaches v p c x) (sym (is_fired n shown ∙ ap (λ (p : Option Event). take_event m p c n) none)) here;
     goes = λ config led. led;
     lost = λ fits. fits;
   }
@@ -140,7 +140,7 @@ module _ {S L : Type 0} (m : Meaning S) (v : LinkView L) (ops : List (List ℕ))
   fired_some e place (Ok u) some next acts = record {
     does = λ n shown.
         let clients : ℕ = c.world.config.clients in
-        let k : Node = record n { next_op = next_after e n.next_op clients } in
+        let k : BoxActor = record n { next_op = next_after e n.next_op clients } in
         let shows : Shows v k (record x { next_op = place }) = record {
           at = shown.at;
           next_op = next ∙ ap (λ (i : ℕ). next_after e i clients) shown.next_op;
@@ -149,7 +149,7 @@ module _ {S L : Type 0} (m : Meaning S) (v : LinkView L) (ops : List (List ℕ))
           sends = shown.sends;
         } in
         let here : Reaches v (take_event m (Some e) c n) d y = acts.does k shows in
-        subst (λ (p : Course × Node). Reaches v p d y) (sym (is_fired n shown ∙ ap (λ (p : Option Event). take_event m p c n) some)) here;
+        subst (λ (p : Course × BoxActor). Reaches v p d y) (sym (is_fired n shown ∙ ap (λ (p : Option Event). take_event m p c n) some)) here;
     goes = acts.goes;
     lost = acts.lost;
   }

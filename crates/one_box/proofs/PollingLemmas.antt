@@ -18,9 +18,9 @@ use Rattle.udp_node.specs.Timing.{rearmed, Takes}
 use Rattle.udp_node.proofs.SendLemmas.{sends_then}
 use Rattle.udp_node.proofs.TurnLemmas.{answer_of, poll_taken, poll_failed}
 use Rattle.network.specs.Finding.{first_index}
-use Rattle.one_box.specs.declared.node.Node as code
+use Rattle.one_box.specs.declared.node.BoxActor as code
 use Rattle.one_box.specs.ClusterRun as run
-use Rattle.one_box.specs.ClusterRun.{Course, Node, take, deliver, poll, after_poll, fire_due, node_turn}
+use Rattle.one_box.specs.ClusterRun.{Course, BoxActor, take, deliver, poll, after_poll, fire_due, node_turn}
 use Rattle.one_box.specs.Showing.{LinkView, IsLedTo, Shows, Reaches, ReachesIf, Acts, Served, Serves}
 use Rattle.one_box.proofs.LeadingLemmas.{goes_through}
 use Rattle.one_box.proofs.SendingLemmas.{lost_fits}
@@ -31,7 +31,7 @@ led_with_stray : {S : Type 0} (m : Meaning S) (config : Configuration) (c : Cour
 led_with_stray m config c n led =
     record { lines = led.lines; is = led.is; fit = led.fit; spelled = led.spelled; text = led.text; accepts = led.accepts }
 
-module _ {S L : Type 0} (m : Meaning S) (v : LinkView L) (c d : Course) (x y : code.Node L) where
+module _ {S L : Type 0} (m : Meaning S) (v : LinkView L) (c d : Course) (x y : code.BoxActor L) where
   -- it equals one that was sent
   pub delivered : (r : Result (Unit {0}) NoMemory) (datagram : List ℕ) (index : ℕ) → Some index ≡ first_index datagram c.world.sent
       → OnOk r (Acts v m (λ a n. take m a n (events.Deliver index x.at.own)) c x d y)
@@ -60,7 +60,7 @@ module _ {S L : Type 0} (m : Meaning S) (v : LinkView L) (c d : Course) (x y : c
   }
 
 -- the link after a poll, with the timers that were due
-module _ {S L : Type 0} (m : Meaning S) (v : LinkView L) (now : ℕ) (c d : Course) (x z y : code.Node L) (at : z.at ≡ x.at)
+module _ {S L : Type 0} (m : Meaning S) (v : LinkView L) (now : ℕ) (c d : Course) (x z y : code.BoxActor L) (at : z.at ≡ x.at)
     (next_op : z.next_op ≡ x.next_op) (timers : z.timers.items ≡ map (rearmed now) x.timers.items) where
   abbrev before : LinkSide
   before = side (v.trace x.link) x.lost (v.losses x.link)
@@ -68,7 +68,7 @@ module _ {S L : Type 0} (m : Meaning S) (v : LinkView L) (now : ℕ) (c d : Cour
   abbrev after : LinkSide
   after = side (v.trace z.link) z.lost (v.losses z.link)
 
-  shows_after : (n : Node) → Sends (Polled ∷ []) before after → Shows v n x → v.answers z.link ≡ Some (drop 1 n.answers)
+  shows_after : (n : BoxActor) → Sends (Polled ∷ []) before after → Shows v n x → v.answers z.link ≡ Some (drop 1 n.answers)
       → Shows v (after_poll m now n) z
   shows_after n polled shown answers = record {
     at = at ∙ shown.at;
@@ -78,7 +78,7 @@ module _ {S L : Type 0} (m : Meaning S) (v : LinkView L) (now : ℕ) (c d : Cour
     sends = sends_then n.trace (Polled ∷ []) (side (Some []) 0 0) before after shown.sends polled;
   }
 
-  taken : (n : Node) (r : Option (List ℕ)) → Shows v n x → Polls (v.answers x.link) (v.answers z.link) (Ok r)
+  taken : (n : BoxActor) (r : Option (List ℕ)) → Shows v n x → Polls (v.answers x.link) (v.answers z.link) (Ok r)
       → Takes (Some n.answers) (v.answers z.link) (answer_of (Ok r))
   taken n r shown polls =
       poll_taken (Some n.answers) (v.answers x.link) (v.answers z.link) r shown.answers polls
@@ -89,7 +89,7 @@ module _ {S L : Type 0} (m : Meaning S) (v : LinkView L) (now : ℕ) (c d : Cour
   silent polls sends = record {
     does = λ n shown.
         let took = taken n None shown polls in
-        let k : Node = after_poll m now n in
+        let k : BoxActor = after_poll m now n in
         let here : ReachesIf v (run.polled m Nothing c k) c z = record { course = refl; node = shows_after n sends shown took.1 } in
         subst (λ (p : PollAnswer). ReachesIf v (run.polled m p c k) c z) took.0 here;
     goes = λ config led. led;
@@ -104,7 +104,7 @@ module _ {S L : Type 0} (m : Meaning S) (v : LinkView L) (now : ℕ) (c d : Cour
   received datagram shows same polls sends acts = record {
     does = λ n shown.
         let took = taken n (Some datagram) shown polls in
-        let k : Node = after_poll m now n in
+        let k : BoxActor = after_poll m now n in
         let reach : Reaches v (deliver m (first_index shows c.world.sent) c k) d y = acts.does k (shows_after n sends shown took.1) in
         let here : ReachesIf v (run.polled m (Received datagram) c k) d y =
         subst (λ (bytes : List ℕ). Reaches v (deliver m (first_index bytes c.world.sent) c k) d y) same reach in
@@ -122,21 +122,21 @@ module _ {S L : Type 0} (m : Meaning S) (v : LinkView L) (now : ℕ) (c d : Cour
     none = λ n shown.
         let gives : Failure ≡ next_poll n.answers =
         poll_failed (Some n.answers) (v.answers x.link) (v.answers z.link) shown.answers polls in
-        let k : Node = after_poll m now n in
+        let k : BoxActor = after_poll m now n in
         ap (λ (p : PollAnswer). run.polled m p c k) (sym gives);
     rose = let rose = counts.failed refl in omega (arith, rose);
   }
   unpolled devices.NoMemory polls counts = tt
 
 -- the timers and then the poll
-module _ {S L : Type 0} (m : Meaning S) (v : LinkView L) (ops : List (List ℕ)) (now : ℕ) (c d e : Course) (x y z : code.Node L)
+module _ {S L : Type 0} (m : Meaning S) (v : LinkView L) (ops : List (List ℕ)) (now : ℕ) (c d e : Course) (x y z : code.BoxActor L)
     (fires : Acts v m (λ a n. fire_due m ops now n.timers a n) c x d y) where
   pub fired_and_polled : (r : Result (Unit {0}) DeviceError) → Serves v m (λ a n. poll m now a n) r d y e z
       → Serves v m (λ a n. node_turn m ops now a n) r c x e z
   unfolding node_turn
   fired_and_polled (Ok t) polls = record {
     does = λ n shown.
-        let p : Course × Node = fire_due m ops now n.timers c n in
+        let p : Course × BoxActor = fire_due m ops now n.timers c n in
         let reach : Reaches v p d y = fires.does n shown in
         subst (λ (a : Course). ReachesIf v (poll m now a p.1) e z) (sym reach.course) (polls.does p.1 reach.node);
     goes = goes_through m c d e fires.goes polls.goes;
@@ -144,7 +144,7 @@ module _ {S L : Type 0} (m : Meaning S) (v : LinkView L) (ops : List (List ℕ))
   }
   fired_and_polled (Err devices.Failed) polls = record {
     none = λ n shown.
-        let p : Course × Node = fire_due m ops now n.timers c n in
+        let p : Course × BoxActor = fire_due m ops now n.timers c n in
         let reach : Reaches v p d y = fires.does n shown in
         ap (λ (a : Course). poll m now a p.1) reach.course ∙ polls.none p.1 reach.node;
     rose = polls.rose;

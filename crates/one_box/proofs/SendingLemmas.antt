@@ -83,9 +83,9 @@ none_since at xs count a =
 pub one_since : (at : Address) (xs : List Sent) (count i : ℕ) (a b c : LinkSide) → count ≤ i → Sends (posts at (slice_range xs count i)) a b
     → Sends (posts at (option_to_list (slice_get xs i))) b c → Sends (posts at (slice_range xs count (i + 1))) a c
 one_since at xs count i a b c le one two =
-    let front = slice_range xs count i in
+    let prefix = slice_range xs count i in
     let more = option_to_list (slice_get xs i) in
-    rw (range_more xs count i le, posts-append at front more) (sends_then (posts at front) (posts at more) a b c one two)
+    rw (range_more xs count i le, posts-append at prefix more) (sends_then (posts at prefix) (posts at more) a b c one two)
 
 pub all_since : (at : Address) (xs : List Sent) (count i : ℕ) (a b : LinkSide) → length xs ≤ i
     → Sends (posts at (slice_range xs count i)) a b → Sends (posts at (drop count xs)) a b

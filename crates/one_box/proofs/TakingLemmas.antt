@@ -4,7 +4,7 @@ use Rattle.std.proofs.Common.{sym, ap, subst, ◌∙◌, append-nil, arith}
 use Rattle.std.proofs.lemmas.List.{drop_all}
 use Rattle.nop_types.specs.Meaning.{Meaning}
 use Rattle.nop_types.specs.declared.memory.NoMemory.{NoMemory}
-use Rattle.outside.specs.Told.{Stays}
+use Rattle.outside.specs.Observed.{Stays}
 use Rattle.outside.specs.declared.link.LinkCall.{LinkCall}
 use Rattle.outside.specs.declared.link.PollAnswer.{PollAnswer}
 use Rattle.schedule_text.specs.declared.event.Event.{Event}
@@ -16,8 +16,8 @@ use Rattle.world.specs.SeatOutcomes as world
 use Rattle.world.specs.WorldSteps.{Happened, Refusal, step}
 use Rattle.world.specs.declared.step_error.StepError.{StepError}
 use Rattle.world.specs.declared.step_error.StepError.TheVariants as steps
-use Rattle.one_box.specs.declared.node.Node as code
-use Rattle.one_box.specs.ClusterRun.{Course, Node, kept_if, take, posts}
+use Rattle.one_box.specs.declared.node.BoxActor as code
+use Rattle.one_box.specs.ClusterRun.{Course, BoxActor, kept_if, take, posts}
 use Rattle.one_box.specs.Showing.{LinkView, Shows, Reaches, Does, Acts, IsRefusal, Happens, Refuses, Steps, GoesOn}
 use Rattle.one_box.proofs.SendingLemmas.{lost_fits}
 
@@ -47,7 +47,7 @@ module _ {S : Type 0} (m : Meaning S) (e : Event) (c d : Course) where
 
 -- ---- what was sent goes over the link
 
-module _ {S L : Type 0} (m : Meaning S) (v : LinkView L) (c d : Course) (e : Event) (x y : code.Node L) (count : ℕ)
+module _ {S L : Type 0} (m : Meaning S) (v : LinkView L) (c d : Course) (e : Event) (x y : code.BoxActor L) (count : ℕ)
     (counted : count ≡ length c.world.sent) (at : y.at ≡ x.at) (next_op : y.next_op ≡ x.next_op)
     (timers : y.timers.items ≡ x.timers.items) (answers : Stays (v.answers x.link) (v.answers y.link)) where
   abbrev before : LinkSide
@@ -60,7 +60,7 @@ module _ {S L : Type 0} (m : Meaning S) (v : LinkView L) (c d : Course) (e : Eve
   more = drop count d.world.sent
 
   module _ (sends : Sends (posts x.at more) before after) where
-    shows_more : (n : Node) → Shows v n x → Shows v (record n { trace = n.trace ++ posts n.at more }) y
+    shows_more : (n : BoxActor) → Shows v n x → Shows v (record n { trace = n.trace ++ posts n.at more }) y
     shows_more n shown =
         let there : Sends (posts n.at more) before after =
         subst (λ (a : Address). Sends (posts a more) before after) shown.at sends in

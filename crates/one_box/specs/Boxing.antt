@@ -4,7 +4,7 @@ use Rattle.std.specs.Io.KnownBytes.{Appends}
 use Rattle.nop_types.specs.Configuration.{Configuration}
 use Rattle.nop_types.specs.Meaning.{Meaning}
 use Rattle.outside.specs.Causes.{Rose}
-use Rattle.outside.specs.Fronts.{AppendsFront}
+use Rattle.outside.specs.Prefixes.{AppendsPrefix}
 use Rattle.outside.specs.declared.errors.DeviceError.{DeviceError}
 use Rattle.outside.specs.declared.errors.DeviceError.TheVariants.{Failed}
 use Rattle.outside.specs.declared.errors.DeviceError.TheVariants as devices
@@ -12,13 +12,13 @@ use Rattle.outside.specs.declared.link.PollAnswer.{PollAnswer}
 use Rattle.safety.specs.Safe.{SafelyPassed}
 use Rattle.schedule_text.specs.declared.event.Event.{Event}
 use Rattle.transcript_text.specs.Transcript.{lines_text}
-use Rattle.udp_node.specs.Effects.{WroteFront}
+use Rattle.udp_node.specs.Effects.{WrotePrefix}
 use Rattle.network.specs.LineCounts.{is_accept}
 use Rattle.world.specs.WorldSteps.{Happened, run}
 use Rattle.one_box.specs.declared.boxed.Boxed.{Boxed}
 use Rattle.one_box.specs.declared.errors.ClusterError.{ClusterError}
 use Rattle.one_box.specs.declared.errors.ClusterError.TheVariants.{LinkFault, WriteFault, NoMemory}
-use Rattle.one_box.specs.declared.node.Node as code_node
+use Rattle.one_box.specs.declared.node.BoxActor as code_node
 use Rattle.one_box.specs.declared.serving.Taken.{Taken}
 use Rattle.one_box.specs.Actors.{actors_of}
 use Rattle.one_box.specs.Attaching.{place_for, lost_by}
@@ -36,14 +36,14 @@ error_of devices.NoMemory = NoMemory
 
 -- the text was written and the run told, or a front of the text was written
 abbrev pub WritesRun : List ℕ → Boxed → Result Boxed ClusterError → Option (List ℕ) → Option (List ℕ) → Type 0
-WritesRun text boxed (Ok told) before now = (told ≡ boxed) × Appends before now text
+WritesRun text boxed (Ok given) before now = (given ≡ boxed) × Appends before now text
 WritesRun text boxed (Err LinkFault) before now = ⊥
-WritesRun text boxed (Err WriteFault) before now = AppendsFront before now text
-WritesRun text boxed (Err NoMemory) before now = WroteFront text before now
+WritesRun text boxed (Err WriteFault) before now = AppendsPrefix before now text
+WritesRun text boxed (Err NoMemory) before now = WrotePrefix text before now
 
 -- ---- the run
 
--- where the ports and the clock tell their content, there is no run over it
+-- where the ports and the clock are observable, there is no run over it
 abbrev pub IsNoRun : {S : Type 0} → Meaning S → Configuration → List (List ℕ) → ℕ → ℕ → Option (List (List PollAnswer))
     → Option (List ℕ) → Type 0
 IsNoRun m c ops base turns None values = ⊤
@@ -51,16 +51,16 @@ IsNoRun m c ops base turns (Some polls) None = ⊤
 IsNoRun m c ops base turns (Some polls) (Some values) = cluster_run m c ops base turns values polls ≡ None
 
 module _ {S L : Type 0} (m : Meaning S) (v : LinkView L) (c : Configuration) (ops : List (List ℕ)) (base turns : ℕ) where
-  -- where the ports and the clock tell their content, it is the run over it
-  abbrev pub IsToldRun : Option (List (List PollAnswer)) → Option (List ℕ) → Taken → Course → List (code_node.Node L) → Type 0
-  IsToldRun None values taken course xs = ⊤
-  IsToldRun (Some polls) None taken course xs = ⊤
-  IsToldRun (Some polls) (Some values) taken course xs = IsRunIf v (cluster_run m c ops base turns values polls) taken course xs
+  -- where the ports and the clock are observable, it is the run over it
+  abbrev pub IsObservedRun : Option (List (List PollAnswer)) → Option (List ℕ) → Taken → Course → List (code_node.BoxActor L) → Type 0
+  IsObservedRun None values taken course xs = ⊤
+  IsObservedRun (Some polls) None taken course xs = ⊤
+  IsObservedRun (Some polls) (Some values) taken course xs = IsRunIf v (cluster_run m c ops base turns values polls) taken course xs
 
   -- the turns were taken: the events lead to the course, and each actor has a link at its port
   pub record RanTurns (polls : Option (List (List PollAnswer))) (values : Option (List ℕ)) (given_back given_back_now : List L)
-      (taken : Taken) (course : Course) (xs : List (code_node.Node L)) : Type 0 where
-    pub told : IsToldRun polls values taken course xs
+      (taken : Taken) (course : Course) (xs : List (code_node.BoxActor L)) : Type 0 where
+    pub observed : IsObservedRun polls values taken course xs
     pub led : IsLedTo m c course
     pub done : taken.done ≡ all_accepted ops course
     pub spent : taken.done ≡ false → taken.turns ≡ turns
@@ -70,14 +70,14 @@ module _ {S L : Type 0} (m : Meaning S) (v : LinkView L) (c : Configuration) (op
 
   -- a poll failed
   pub record BreaksOff (polls : Option (List (List PollAnswer))) (values : Option (List ℕ)) (given_back given_back_now : List L)
-      (xs : List (code_node.Node L)) : Type 0 where
+      (xs : List (code_node.BoxActor L)) : Type 0 where
     pub given : given_back_now ≡ given_back
     pub fault : HasFault v xs
     pub none : IsNoRun m c ops base turns polls values
 
   -- or a port had no link
   abbrev pub RunsOr : Option (List (List PollAnswer)) → Option (List ℕ) → ℕ → ℕ → List L → List L → Result Taken DeviceError → Course
-      → List (code_node.Node L) → Type 0
+      → List (code_node.BoxActor L) → Type 0
   RunsOr polls values faults faults_now given_back given_back_now (Ok taken) course xs =
       RanTurns polls values given_back given_back_now taken course xs
   RunsOr polls values faults faults_now given_back given_back_now (Err Failed) course xs =
@@ -85,7 +85,7 @@ module _ {S L : Type 0} (m : Meaning S) (v : LinkView L) (c : Configuration) (op
   RunsOr polls values faults faults_now given_back given_back_now (Err devices.NoMemory) course xs = ⊤
 
   -- it is the run over these values and answers: its events, turns and counts are told, and each link sent what its actor sent
-  pub record Tells (values : List ℕ) (polls : List (List PollAnswer)) (es : List Event) (boxed : Boxed) (xs : List (code_node.Node L))
+  pub record Reports (values : List ℕ) (polls : List (List PollAnswer)) (es : List Event) (boxed : Boxed) (xs : List (code_node.BoxActor L))
       : Type 0 where
     pub whole : ClusterRun
     pub is : cluster_run m c ops base turns values polls ≡ Some whole
@@ -95,10 +95,10 @@ module _ {S L : Type 0} (m : Meaning S) (v : LinkView L) (c : Configuration) (op
     pub ends : whole.done ≡ boxed.done
     pub links : AllShow v whole.nodes xs
 
-  abbrev pub TellsOf : Option (List (List PollAnswer)) → Option (List ℕ) → List Event → Boxed → List (code_node.Node L) → Type 0
-  TellsOf None values events boxed xs = ⊤
-  TellsOf (Some polls) None events boxed xs = ⊤
-  TellsOf (Some polls) (Some values) events boxed xs = Tells values polls events boxed xs
+  abbrev pub ReportsOf : Option (List (List PollAnswer)) → Option (List ℕ) → List Event → Boxed → List (code_node.BoxActor L) → Type 0
+  ReportsOf None values events boxed xs = ⊤
+  ReportsOf (Some polls) None events boxed xs = ⊤
+  ReportsOf (Some polls) (Some values) events boxed xs = Reports values polls events boxed xs
 
   -- The events that were kept are not refused, and what they lead to is safe. Each actor had a link at its port, which was given
   -- back, and the failed sends of all links are told: no more than the links counted, whatever they tell.
@@ -110,12 +110,12 @@ module _ {S L : Type 0} (m : Meaning S) (v : LinkView L) (c : Configuration) (op
     pub safely : SafelyPassed m c events happened
     pub done : boxed.done ≡ (count_by is_accept happened.lines == length ops)
     pub spent : boxed.done ≡ false → boxed.turns ≡ turns
-    pub nodes : List (code_node.Node L)
+    pub nodes : List (code_node.BoxActor L)
     pub back : given_back_now ≡ given_back ++ map (λ x. x.link) nodes
     pub places : map (place_of v) nodes ≡ map (place_for base c) (actors_of c)
     pub lost : boxed.lost ≡ lost_by nodes
     pub most : boxed.lost ≤ sum (map (λ x. v.losses x.link) nodes)
-    pub tells : TellsOf polls values events boxed nodes
+    pub tells : ReportsOf polls values events boxed nodes
 
   -- what is written: the schedule of these events, its transcript, and the last line
   abbrev pub text_of : List Event → Happened → Boxed → List ℕ
@@ -129,13 +129,13 @@ module _ {S L : Type 0} (m : Meaning S) (v : LinkView L) (c : Configuration) (op
       (r : Ran polls values given_back given_back_now boxed) × Appends before now (text_of r.events r.happened boxed)
   EndsWith polls values given_back given_back_now (Err LinkFault) before now = now ≡ before
   EndsWith polls values given_back given_back_now (Err WriteFault) before now =
-      (boxed : Boxed) × (r : Ran polls values given_back given_back_now boxed) × AppendsFront before now (text_of r.events r.happened boxed)
+      (boxed : Boxed) × (r : Ran polls values given_back given_back_now boxed) × AppendsPrefix before now (text_of r.events r.happened boxed)
   EndsWith polls values given_back given_back_now (Err NoMemory) before now =
       (now ≡ before) ⊎ ((boxed : Boxed) × (r : Ran polls values given_back given_back_now boxed)
-      × WroteFront (text_of r.events r.happened boxed) before now)
+      × WrotePrefix (text_of r.events r.happened boxed) before now)
 
 -- the poll of a link failed, which was given back
 pub record PollFailed {L : Type 0} (v : LinkView L) (given_back given_back_now : List L) : Type 0 where
-  pub nodes : List (code_node.Node L)
+  pub nodes : List (code_node.BoxActor L)
   pub back : given_back_now ≡ given_back ++ map (λ x. x.link) nodes
   pub fault : HasFault v nodes

@@ -41,7 +41,7 @@ pub record Course : Type 0 where
   pub stray : ℕ
 
 -- an actor: where it is, its timers, the number of its next op, what the polls of its link answer, and the calls on its link
-pub record Node : Type 0 where
+pub record BoxActor : Type 0 where
   pub at : Address
   pub timers : List Timer
   pub next_op : ℕ
@@ -51,7 +51,7 @@ pub record Node : Type 0 where
 -- how a run ended: the turns taken, and whether all ops were accepted
 pub record ClusterRun : Type 0 where
   pub course : Course
-  pub nodes : List Node
+  pub nodes : List BoxActor
   pub turns : ℕ
   pub done : Bool
 
@@ -70,7 +70,7 @@ kept c e h = record c {
   accepts = c.accepts + count_by is_accept h.lines;
 }
 
-abbrev pub kept_if : Course → Node → Event → Result Happened Refusal → Course × Node
+abbrev pub kept_if : Course → BoxActor → Event → Result Happened Refusal → Course × BoxActor
 kept_if c n e (Err refusal) = (c, n)
 kept_if c n e (Ok h) = (kept c e h, record n { trace = n.trace ++ posts n.at (drop (length c.world.sent) h.world.sent) })
 
@@ -83,16 +83,16 @@ abbrev pub one_more : ClusterRun → ClusterRun
 one_more r = record r { turns = 1 + r.turns }
 
 -- the run ends after a turn where all ops are accepted
-abbrev pub ends_or : Bool → Course × List Node → Option ClusterRun → Option ClusterRun
+abbrev pub ends_or : Bool → Course × List BoxActor → Option ClusterRun → Option ClusterRun
 ends_or true p rest = Some (record { course = p.0; nodes = p.1; turns = 1; done = true })
 ends_or false p rest = option_map one_more rest
 
 module _ {S : Type 0} (m : Meaning S) where
-  unfoldable pub take : Course → Node → Event → Course × Node
+  unfoldable pub take : Course → BoxActor → Event → Course × BoxActor
   take c n e = kept_if c n e (step m c.world e)
 
   -- a client that takes an op is given its next one; of C clients each has every C-th op
-  unfoldable pub submit_next : Bool → ℕ → Option (List ℕ) → Course → Node → Course × Node
+  unfoldable pub submit_next : Bool → ℕ → Option (List ℕ) → Course → BoxActor → Course × BoxActor
   submit_next true client (Some op) c n = take c (record n { next_op = n.next_op + c.world.config.clients }) (events.Submit client op)
   submit_next true client None c n = (c, n)
   submit_next false client op c n = (c, n)
@@ -100,43 +100,43 @@ module _ {S : Type 0} (m : Meaning S) where
   -- ---- the poll
 
   -- a datagram that equals one that was sent is delivered; another is dropped
-  unfoldable pub deliver : Option ℕ → Course → Node → Course × Node
+  unfoldable pub deliver : Option ℕ → Course → BoxActor → Course × BoxActor
   deliver (Some index) c n = take c n (events.Deliver index n.at.own)
   deliver None c n = (record c { stray = next_count c.stray }, n)
 
   -- None where the poll failed
-  unfoldable pub polled : PollAnswer → Course → Node → Option (Course × Node)
+  unfoldable pub polled : PollAnswer → Course → BoxActor → Option (Course × BoxActor)
   polled (Received datagram) c n = Some (deliver (first_index datagram c.world.sent) c n)
   polled Nothing c n = Some (c, n)
   polled Failure c n = None
 
   -- the timers that were due are due again a period later; the link was polled
-  abbrev pub after_poll : ℕ → Node → Node
+  abbrev pub after_poll : ℕ → BoxActor → BoxActor
   after_poll now n =
       record n { timers = map (rearmed now) n.timers; answers = drop 1 n.answers; trace = n.trace ++ Polled ∷ [] }
 
-  unfoldable pub poll : ℕ → Course → Node → Option (Course × Node)
+  unfoldable pub poll : ℕ → Course → BoxActor → Option (Course × BoxActor)
   poll now c n = polled (next_poll n.answers) c (after_poll now n)
 
 module _ {S : Type 0} (m : Meaning S) (ops : List (List ℕ)) where
   -- ---- timers
 
-  unfoldable pub next_of : Actor → Course → Node → Course × Node
+  unfoldable pub next_of : Actor → Course → BoxActor → Course × BoxActor
   next_of (actors.Client i) c n = submit_next m (takes_op c.world i) i (slice_get ops n.next_op) c n
   next_of _ c n = (c, n)
 
   -- the tick Next gives a client its next op, Install comes by no timer, and each other tick is an event
-  unfoldable pub on_tick : Course → Node → Tick → Course × Node
+  unfoldable pub on_tick : Course → BoxActor → Tick → Course × BoxActor
   on_tick c n ticks.Next = next_of n.at.own c n
   on_tick c n (ticks.Install j) = (c, n)
   on_tick c n tick = take m c n (events.Tick n.at.own tick)
 
-  unfoldable pub fire_if : Bool → Course → Node → Tick → Course × Node
+  unfoldable pub fire_if : Bool → Course → BoxActor → Tick → Course × BoxActor
   fire_if true c n tick = on_tick c n tick
   fire_if false c n tick = (c, n)
 
   -- the timers that are due, in order
-  unfoldable pub fire_due : ℕ → List Timer → Course → Node → Course × Node
+  unfoldable pub fire_due : ℕ → List Timer → Course → BoxActor → Course × BoxActor
   fire_due now [] c n = (c, n)
   fire_due now (t ∷ ts) c n =
       fire_due now ts (fire_if (nat_le t.due now) c n t.tick).0 (fire_if (nat_le t.due now) c n t.tick).1
@@ -144,23 +144,23 @@ module _ {S : Type 0} (m : Meaning S) (ops : List (List ℕ)) where
   -- ---- turns
 
   -- an actor's timers that are due, and then one poll
-  unfoldable pub node_turn : ℕ → Course → Node → Option (Course × Node)
+  unfoldable pub node_turn : ℕ → Course → BoxActor → Option (Course × BoxActor)
   node_turn now c n = poll m now (fire_due now n.timers c n).0 (fire_due now n.timers c n).1
 
   -- one actor after the other, up to a poll that fails
-  unfoldable pub turn : ℕ → Course → List Node → Option (Course × List Node)
+  unfoldable pub turn : ℕ → Course → List BoxActor → Option (Course × List BoxActor)
   turn now c [] = Some (c, [])
   turn now c (n ∷ ns) =
       option_and_then
-      (λ (p : Course × Node). option_map (λ (q : Course × List Node). (q.0, p.1 ∷ q.1)) (turn now p.0 ns))
+      (λ (p : Course × BoxActor). option_map (λ (q : Course × List BoxActor). (q.0, p.1 ∷ q.1)) (turn now p.0 ns))
       (node_turn now c n)
 
   -- at most this number of turns, of which the first is now; None where a poll failed
-  unfoldable pub turns_from : ℕ → Course → List Node → ℕ → List ℕ → Option ClusterRun
+  unfoldable pub turns_from : ℕ → Course → List BoxActor → ℕ → List ℕ → Option ClusterRun
   turns_from zero c ns now values = Some (record { course = c; nodes = ns; turns = 0; done = all_accepted ops c })
   turns_from (suc k) c ns now values =
       option_and_then
-      (λ (p : Course × List Node). ends_or (all_accepted ops p.0) p
+      (λ (p : Course × List BoxActor). ends_or (all_accepted ops p.0) p
       (turns_from k p.0 p.1 (max now (next_value values)) (later_values values)))
       (turn now c ns)
 
@@ -170,7 +170,7 @@ abbrev pub opening_course : Configuration → Course
 opening_course c = record { world = opening c; events = []; text = []; accepts = 0; stray = 0 }
 
 -- the timers are first due a period after now
-abbrev pub opening_node : ℕ → Configuration → ℕ → Actor → List PollAnswer → Node
+abbrev pub opening_node : ℕ → Configuration → ℕ → Actor → List PollAnswer → BoxActor
 opening_node base c now actor answers = record {
   at = record { base = base; own = actor; config = c };
   timers = map (armed now) (timers_of (opening c) actor);
@@ -180,7 +180,7 @@ opening_node base c now actor answers = record {
 }
 
 -- the links in order, and after the last one links without datagrams
-abbrev pub opening_nodes : ℕ → Configuration → ℕ → List Actor → List (List PollAnswer) → List Node
+abbrev pub opening_nodes : ℕ → Configuration → ℕ → List Actor → List (List PollAnswer) → List BoxActor
 opening_nodes base c now [] polls = []
 opening_nodes base c now (a ∷ rest) polls = opening_node base c now a (next_link polls) ∷ opening_nodes base c now rest (drop 1 polls)
 

@@ -10,7 +10,7 @@ use Rattle.schedule_text.specs.declared.event.Event.TheVariants as events
 use Rattle.udp_node.specs.declared.firing.Timer.{Timer}
 use Rattle.world.specs.Lookups.{takes_op}
 use Rattle.world.specs.WorldSteps.{WorldState}
-use Rattle.one_box.specs.ClusterRun.{Course, Node, take}
+use Rattle.one_box.specs.ClusterRun.{Course, BoxActor, take}
 
 -- a client that takes an op is given its next one, if one is left
 abbrev pub submit_if : Bool → ℕ → Option (List ℕ) → Option Event
@@ -42,6 +42,6 @@ next_after (events.Submit client op) place clients = place + clients
 next_after _ place clients = place
 
 -- the event is taken, if there is one
-abbrev pub take_event : {S : Type 0} → Meaning S → Option Event → Course → Node → Course × Node
+abbrev pub take_event : {S : Type 0} → Meaning S → Option Event → Course → BoxActor → Course × BoxActor
 take_event m None c n = (c, n)
 take_event m (Some e) c n = take m c (record n { next_op = next_after e n.next_op c.world.config.clients }) e

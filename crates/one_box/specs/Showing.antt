@@ -22,8 +22,8 @@ use Rattle.world.specs.WorldSteps.{Happened, Refusal, step, run}
 use Rattle.world.specs.declared.step_error.StepError.{StepError}
 use Rattle.world.specs.declared.step_error.StepError.TheVariants as steps
 use Rattle.one_box.specs.declared.course.Course as code_course
-use Rattle.one_box.specs.declared.node.Node as code_node
-use Rattle.one_box.specs.ClusterRun.{Course, Node, kept}
+use Rattle.one_box.specs.declared.node.BoxActor as code_node
+use Rattle.one_box.specs.ClusterRun.{Course, BoxActor, kept}
 
 abbrev pub course_of : {H U : Type 0} → code_course.Course H U → Course
 course_of c = record {
@@ -95,8 +95,8 @@ abbrev pub links_of : {L : Type 0} → link_trait.Ghosts L → LinkView L
 links_of l = link_view l.answers l.own_port l.trace l.loss_count l.fault_count
 
 module _ {L : Type 0} (v : LinkView L) where
-  -- the link tells its content, and took the calls of the actor, but for the sends that failed
-  pub record Shows (n : Node) (x : code_node.Node L) : Type 0 where
+  -- the link is observable, and took the calls of the actor, but for the sends that failed
+  pub record Shows (n : BoxActor) (x : code_node.BoxActor L) : Type 0 where
     pub at : x.at ≡ n.at
     pub next_op : x.next_op ≡ n.next_op
     pub timers : x.timers.items ≡ n.timers
@@ -104,92 +104,92 @@ module _ {L : Type 0} (v : LinkView L) where
     pub sends : Sends n.trace (side (Some []) 0 0) (side (v.trace x.link) x.lost (v.losses x.link))
 
   -- what was counted as lost, the link counted too
-  abbrev pub LostFits : code_node.Node L → Type 0
+  abbrev pub LostFits : code_node.BoxActor L → Type 0
   LostFits x = min x.lost last_count ≤ v.losses x.link
 
-  abbrev pub AllLostFit : List (code_node.Node L) → Type 0
+  abbrev pub AllLostFit : List (code_node.BoxActor L) → Type 0
   AllLostFit [] = ⊤
   AllLostFit (x ∷ xs) = LostFits x × AllLostFit xs
 
   -- the course and the actor of the definition
-  pub record Reaches (p : Course × Node) (c : Course) (x : code_node.Node L) : Type 0 where
+  pub record Reaches (p : Course × BoxActor) (c : Course) (x : code_node.BoxActor L) : Type 0 where
     pub course : p.0 ≡ c
     pub node : Shows p.1 x
 
-  -- the call did this, where the link tells its content
-  abbrev pub Does : (Course → Node → Course × Node) → Course → code_node.Node L → Course → code_node.Node L → Type 0
-  Does f c x d y = (n : Node) → Shows n x → Reaches (f c n) d y
+  -- the call did this, where the link is observable
+  abbrev pub Does : (Course → BoxActor → Course × BoxActor) → Course → code_node.BoxActor L → Course → code_node.BoxActor L → Type 0
+  Does f c x d y = (n : BoxActor) → Shows n x → Reaches (f c n) d y
 
-  abbrev pub ReachesIf : Option (Course × Node) → Course → code_node.Node L → Type 0
+  abbrev pub ReachesIf : Option (Course × BoxActor) → Course → code_node.BoxActor L → Type 0
   ReachesIf None c x = ⊥
   ReachesIf (Some p) c x = Reaches p c x
 
   -- and what is led to by events still is, and what is lost is counted
-  pub record Acts {S : Type 0} (m : Meaning S) (f : Course → Node → Course × Node) (c : Course) (x : code_node.Node L) (d : Course)
-      (y : code_node.Node L) : Type 0 where
+  pub record Acts {S : Type 0} (m : Meaning S) (f : Course → BoxActor → Course × BoxActor) (c : Course) (x : code_node.BoxActor L) (d : Course)
+      (y : code_node.BoxActor L) : Type 0 where
     pub does : Does f c x d y
     pub goes : GoesOn m c d
     pub lost : LostFits x → LostFits y
 
   -- the same of a call that polls
-  pub record Served {S : Type 0} (m : Meaning S) (f : Course → Node → Option (Course × Node)) (c : Course) (x : code_node.Node L)
-      (d : Course) (y : code_node.Node L) : Type 0 where
-    pub does : (n : Node) → Shows n x → ReachesIf (f c n) d y
+  pub record Served {S : Type 0} (m : Meaning S) (f : Course → BoxActor → Option (Course × BoxActor)) (c : Course) (x : code_node.BoxActor L)
+      (d : Course) (y : code_node.BoxActor L) : Type 0 where
+    pub does : (n : BoxActor) → Shows n x → ReachesIf (f c n) d y
     pub goes : GoesOn m c d
     pub lost : LostFits x → LostFits y
 
   -- the poll failed: there is no run
-  pub record Broken (f : Course → Node → Option (Course × Node)) (c : Course) (x y : code_node.Node L) : Type 0 where
-    pub none : (n : Node) → Shows n x → f c n ≡ None
+  pub record Broken (f : Course → BoxActor → Option (Course × BoxActor)) (c : Course) (x y : code_node.BoxActor L) : Type 0 where
+    pub none : (n : BoxActor) → Shows n x → f c n ≡ None
     pub rose : Rose 0 (v.faults y.link)
 
-  abbrev pub Serves : {S : Type 0} → Meaning S → (Course → Node → Option (Course × Node)) → Result (Unit {0}) DeviceError → Course
-      → code_node.Node L → Course → code_node.Node L → Type 0
+  abbrev pub Serves : {S : Type 0} → Meaning S → (Course → BoxActor → Option (Course × BoxActor)) → Result (Unit {0}) DeviceError → Course
+      → code_node.BoxActor L → Course → code_node.BoxActor L → Type 0
   Serves m f (Ok r) c x d y = Served m f c x d y
   Serves m f (Err Failed) c x d y = Broken f c x y
   Serves m f (Err NoMemory) c x d y = ⊤
 
   -- where an actor is, and the port of its link
-  abbrev pub place_of : code_node.Node L → Address × ℕ
+  abbrev pub place_of : code_node.BoxActor L → Address × ℕ
   place_of x = (x.at, v.port x.link)
 
   -- the actors in order
-  abbrev pub AllShow : List Node → List (code_node.Node L) → Type 0
+  abbrev pub AllShow : List BoxActor → List (code_node.BoxActor L) → Type 0
   AllShow [] [] = ⊤
   AllShow [] (x ∷ xs) = ⊥
   AllShow (n ∷ ns) [] = ⊥
   AllShow (n ∷ ns) (x ∷ xs) = Shows n x × AllShow ns xs
 
-  pub record AllReach (q : Course × List Node) (c : Course) (xs : List (code_node.Node L)) : Type 0 where
+  pub record AllReach (q : Course × List BoxActor) (c : Course) (xs : List (code_node.BoxActor L)) : Type 0 where
     pub course : q.0 ≡ c
     pub nodes : AllShow q.1 xs
 
-  abbrev pub AllReachIf : Option (Course × List Node) → Course → List (code_node.Node L) → Type 0
+  abbrev pub AllReachIf : Option (Course × List BoxActor) → Course → List (code_node.BoxActor L) → Type 0
   AllReachIf None c xs = ⊥
   AllReachIf (Some q) c xs = AllReach q c xs
 
   -- the poll of a link failed
-  pub record HasFault (xs : List (code_node.Node L)) : Type 0 where
+  pub record HasFault (xs : List (code_node.BoxActor L)) : Type 0 where
     pub place : ℕ
-    pub node : code_node.Node L
+    pub node : code_node.BoxActor L
     pub there : slice_get xs place ≡ Some node
     pub rose : Rose 0 (v.faults node.link)
 
-  -- a turn of all actors did this, where each link tells its content
-  pub record AllServed {S : Type 0} (m : Meaning S) (f : Course → List Node → Option (Course × List Node)) (c : Course)
-      (xs : List (code_node.Node L)) (d : Course) (ys : List (code_node.Node L)) : Type 0 where
-    pub does : (ns : List Node) → AllShow ns xs → AllReachIf (f c ns) d ys
+  -- a turn of all actors did this, where each link is observable
+  pub record AllServed {S : Type 0} (m : Meaning S) (f : Course → List BoxActor → Option (Course × List BoxActor)) (c : Course)
+      (xs : List (code_node.BoxActor L)) (d : Course) (ys : List (code_node.BoxActor L)) : Type 0 where
+    pub does : (ns : List BoxActor) → AllShow ns xs → AllReachIf (f c ns) d ys
     pub goes : GoesOn m c d
     pub lost : AllLostFit xs → AllLostFit ys
 
   -- a poll failed: there is no run
-  pub record SomeBroken (f : Course → List Node → Option (Course × List Node)) (c : Course)
-      (xs ys : List (code_node.Node L)) : Type 0 where
-    pub none : (ns : List Node) → AllShow ns xs → f c ns ≡ None
+  pub record SomeBroken (f : Course → List BoxActor → Option (Course × List BoxActor)) (c : Course)
+      (xs ys : List (code_node.BoxActor L)) : Type 0 where
+    pub none : (ns : List BoxActor) → AllShow ns xs → f c ns ≡ None
     pub fault : HasFault ys
 
-  abbrev pub Turns : {S : Type 0} → Meaning S → (Course → List Node → Option (Course × List Node)) → Result (Unit {0}) DeviceError
-      → Course → List (code_node.Node L) → Course → List (code_node.Node L) → Type 0
+  abbrev pub Turns : {S : Type 0} → Meaning S → (Course → List BoxActor → Option (Course × List BoxActor)) → Result (Unit {0}) DeviceError
+      → Course → List (code_node.BoxActor L) → Course → List (code_node.BoxActor L) → Type 0
   Turns m f (Ok r) c xs d ys = AllServed m f c xs d ys
   Turns m f (Err Failed) c xs d ys = SomeBroken f c xs ys
   Turns m f (Err NoMemory) c xs d ys = ⊤

@@ -3,7 +3,7 @@ ghost use Rattle.std.specs.Prelude.{Some, IfOk, OnOk};
 ghost use Rattle.nop_types.specs.declared.output.Actor.TheVariants as kinds;
 ghost use Rattle.outside.specs.Causes.{CountsFor};
 ghost use Rattle.outside.specs.declared.errors.DeviceError.TheVariants as devices;
-ghost use Rattle.outside.specs.Told.{Stays};
+ghost use Rattle.outside.specs.Observed.{Stays};
 ghost use Rattle.udp_node.specs.Timing.{armed};
 ghost use Rattle.world.specs.Lookups.{timers_of};
 ghost use Rattle.world.specs.WorldSteps.{opening};
@@ -18,7 +18,7 @@ ghost use Rattle.one_box.specs.Attaching.{
 };
 ghost use Rattle.one_box.specs.Showing.{links_of};
 
-use crate::node::Node;
+use crate::node::BoxActor;
 use nop_types::{Actor, Config, Host, NoMemory, Tick};
 use outside::{AttachError, Ports};
 use std::alloc::{AllocFailed, Global};
@@ -108,14 +108,14 @@ fn first_timers<H: Host>(
 }
 
 /// Gives a link back.
-fn detach_one<P: Ports>(ports: &mut P, node: Node<P::L>)
+fn detach_one<P: Ports>(ports: &mut P, node: BoxActor<P::L>)
     requires { length (P.detached ports.old) < P.attached ports.old }
     ensures detached { P.detached ports.new ≡ P.detached ports.old ++ node.link ∷ [] }
     ensures attached { P.attached ports.new ≡ P.attached ports.old }
     ensures kept { Stays (P.to_come ports.old) (P.to_come ports.new) }
     ensures faults { P.fault_count ports.new ≡ P.fault_count ports.old }
 {
-    let Node {
+    let BoxActor {
         at: _,
         timers: _,
         next_op: _,
@@ -140,7 +140,7 @@ fn attach_one<P: Ports>(
     ports: &mut P,
     at: Address,
     timers: Vec<Timer>,
-    nodes: &mut Vec<Node<P::L>>,
+    nodes: &mut Vec<BoxActor<P::L>>,
 ) -> Result<(), AttachError>
     ensures attaches { Attaches (links_of P.L.Link) at timers.items result
         (ports_side (P.to_come ports.old) (P.attached ports.old) (P.detached ports.old))
@@ -153,7 +153,7 @@ fn attach_one<P: Ports>(
     match ports.attach(port) {
         Ok(link) => {
             let next_op = first_op(at.own);
-            let node = Node {
+            let node = BoxActor {
                 at,
                 timers,
                 next_op,
@@ -180,7 +180,7 @@ fn attach_actor<H: Host, P: Ports>(
     at: Address,
     now: u64,
     ports: &mut P,
-    nodes: &mut Vec<Node<P::L>>,
+    nodes: &mut Vec<BoxActor<P::L>>,
 ) -> Result<(), AttachError>
     ensures attaches { Attaches (links_of P.L.Link)
         at (map (armed now) (timers_of world.now.state at.own)) result
@@ -212,7 +212,7 @@ pub(crate) fn attach_all<H: Host, P: Ports>(
     actors: &[Actor],
     now: u64,
     ports: &mut P,
-    nodes: &mut Vec<Node<P::L>>,
+    nodes: &mut Vec<BoxActor<P::L>>,
 ) -> Result<(), AttachError>
     requires empty { nodes.old.items ≡ [] }
     requires world { world.now.state ≡ opening config }
@@ -237,7 +237,7 @@ pub(crate) fn attach_all<H: Host, P: Ports>(
 }
 
 /// Gives all links back, in order.
-pub(crate) fn detach_all<P: Ports>(ports: &mut P, nodes: Vec<Node<P::L>>)
+pub(crate) fn detach_all<P: Ports>(ports: &mut P, nodes: Vec<BoxActor<P::L>>)
     requires { HasRoom (P.attached ports.old) (P.detached ports.old) nodes.items }
     ensures detached { P.detached ports.new
         ≡ P.detached ports.old ++ map (λ x. x.link) nodes.items }
@@ -252,7 +252,7 @@ pub(crate) fn detach_all<P: Ports>(ports: &mut P, nodes: Vec<Node<P::L>>)
 }
 
 /// How many sends failed over all links, up to the greatest number of 64 bits.
-pub(crate) fn lost_by<L>(nodes: &[Node<L>]) -> u64
+pub(crate) fn lost_by<L>(nodes: &[BoxActor<L>]) -> u64
     ensures { result ≡ lost_by nodes.now }
 {
     let mut lost = 0u64;

@@ -12,7 +12,7 @@ use crate::attaching::{actors_of, attach_all, detach_all, lost_by};
 use crate::boxed::Boxed;
 use crate::course::Course;
 use crate::errors::ClusterError;
-use crate::node::Node;
+use crate::node::BoxActor;
 use crate::serving::{Taken, take_turns};
 use crate::writing::write_run;
 use nop_types::{Config, Host, NoMemory, Op};
@@ -28,7 +28,7 @@ fn run_turns<H: Host, P: Ports, C: Clock>(
     base: BasePort,
     turns: u64,
     course: &mut Course<H>,
-    nodes: &mut Vec<Node<P::L>>,
+    nodes: &mut Vec<BoxActor<P::L>>,
     ports: &mut P,
     clock: &mut C,
 ) -> Result<Taken, LinkError>

@@ -5,7 +5,7 @@ ghost use Rattle.one_box.specs.Firing.{next_after, next_event, tick_event, timer
 ghost use Rattle.one_box.specs.Showing.{course_of, links_of, Acts, place_of};
 
 use crate::course::Course;
-use crate::node::Node;
+use crate::node::BoxActor;
 use crate::taking::take;
 use nop_types::{Actor, Host, NoMemory, Op, Tick};
 use outside::Link;
@@ -66,7 +66,7 @@ fn tick_event<H: Host>(
     }
 }
 
-/// What a timer brings: nothing where it is not due.
+/// What a timer delivers: nothing where it is not due.
 fn timer_event<H: Host>(
     world: &World<H>,
     own: Actor,
@@ -97,7 +97,7 @@ fn next_after(event: &Event, place: usize, clients: u8) -> Result<usize, NoMemor
     }
 }
 
-fn timer_at<L>(node: &Node<L>, i: usize) -> Timer
+fn timer_at<L>(node: &BoxActor<L>, i: usize) -> Timer
     requires { i < length node.now.timers.items }
     ensures { slice_get node.now.timers.items i ≡ Some result }
 {
@@ -107,7 +107,7 @@ fn timer_at<L>(node: &Node<L>, i: usize) -> Timer
 /// A timer fires where it is due.
 fn fire<H: Host, L: Link>(
     course: &mut Course<H>,
-    node: &mut Node<L>,
+    node: &mut BoxActor<L>,
     ops: &[Op],
     timer: Timer,
     now: u64,
@@ -129,7 +129,7 @@ fn fire<H: Host, L: Link>(
 /// The timers that are due fire, in order.
 pub(crate) fn fire_due<H: Host, L: Link>(
     course: &mut Course<H>,
-    node: &mut Node<L>,
+    node: &mut BoxActor<L>,
     ops: &[Op],
     now: u64,
 ) -> Result<(), NoMemory>

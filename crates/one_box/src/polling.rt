@@ -4,7 +4,7 @@ ghost use Rattle.one_box.specs.Showing.{course_of, links_of, Acts, Serves, place
 ghost use Rattle.network.specs.Finding.{first_index};
 
 use crate::course::Course;
-use crate::node::Node;
+use crate::node::BoxActor;
 use crate::taking::take;
 use nop_types::{Host, NoMemory};
 use outside::{Link, LinkError};
@@ -14,7 +14,7 @@ use udp_node::{poll_link, rearm_due};
 /// A datagram came: where it equals one that was sent it is delivered, else it is dropped and counted.
 fn deliver<H: Host, L: Link>(
     course: &mut Course<H>,
-    node: &mut Node<L>,
+    node: &mut BoxActor<L>,
     datagram: &[u8],
 ) -> Result<(), NoMemory>
     ensures acts { OnOk result (Acts (links_of L.Link) H.meaning
@@ -34,7 +34,7 @@ fn deliver<H: Host, L: Link>(
 /// The timers that were due are due again a period later; then one poll of the link.
 pub(crate) fn poll<H: Host, L: Link>(
     course: &mut Course<H>,
-    node: &mut Node<L>,
+    node: &mut BoxActor<L>,
     now: u64,
 ) -> Result<(), LinkError>
     ensures serves { Serves (links_of L.Link) H.meaning (λ c n. poll H.meaning now c n) result

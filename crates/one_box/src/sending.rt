@@ -1,6 +1,6 @@
 ghost use Rattle.std.specs.Prelude.{◌≡◌, drop, slice_get, OnOk};
 ghost use Rattle.std.specs.Option.{option_to_list};
-ghost use Rattle.outside.specs.Told.{Stays};
+ghost use Rattle.outside.specs.Observed.{Stays};
 ghost use Rattle.udp_node.specs.Sends.{side, Sends};
 ghost use Rattle.one_box.specs.ClusterRun.{posts};
 

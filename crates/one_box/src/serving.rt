@@ -1,10 +1,10 @@
 ghost use Rattle.std.specs.Prelude.{◌≡◌, map};
 ghost use Rattle.one_box.specs.ClusterRun.{all_accepted};
-ghost use Rattle.one_box.specs.Running.{Runs, RunsTold};
+ghost use Rattle.one_box.specs.Running.{Runs, RunsObserved};
 ghost use Rattle.one_box.specs.Showing.{course_of, links_of, place_of};
 
 use crate::course::Course;
-use crate::node::Node;
+use crate::node::BoxActor;
 use crate::turn::turn;
 use nop_types::{Host, Op};
 use outside::{Clock, Link, LinkError};
@@ -25,13 +25,13 @@ fn all_accepted<H: Host>(course: &Course<H>, ops: &[Op]) -> bool
 /// At most `turns` turns, until all ops are accepted.
 pub(crate) fn take_turns<H: Host, L: Link, C: Clock>(
     course: &mut Course<H>,
-    nodes: &mut Vec<Node<L>>,
+    nodes: &mut Vec<BoxActor<L>>,
     ops: &[Op],
     turns: u64,
     now: u64,
     clock: &mut C,
 ) -> Result<Taken, LinkError>
-    ensures told { RunsTold (links_of L.Link)
+    ensures observed { RunsObserved (links_of L.Link)
         H.meaning ops.now turns now (C.values clock.old) result
         (course_of course.old) nodes.old.items (course_of course.new) nodes.new.items }
     ensures runs { Runs (links_of L.Link) H.meaning

@@ -12,7 +12,7 @@ ghost use Rattle.one_box.specs.Showing.{
 };
 
 use crate::course::Course;
-use crate::node::Node;
+use crate::node::BoxActor;
 use crate::sending::send_since;
 use nop_types::{Host, NoMemory};
 use outside::Link;
@@ -46,7 +46,7 @@ fn keep_step<H: Host>(course: &mut Course<H>, event: Event) -> Result<(), NoMemo
 /// One event of an actor: what the actor sent goes over its link.
 pub(crate) fn take<H: Host, L: Link>(
     course: &mut Course<H>,
-    node: &mut Node<L>,
+    node: &mut BoxActor<L>,
     event: Event,
 ) -> Result<(), NoMemory>
     requires { IsNoJunk event }

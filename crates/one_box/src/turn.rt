@@ -4,7 +4,7 @@ ghost use Rattle.one_box.specs.Showing.{course_of, links_of, Serves, Turns, plac
 
 use crate::course::Course;
 use crate::firing::fire_due;
-use crate::node::Node;
+use crate::node::BoxActor;
 use crate::polling::poll;
 use nop_types::{Host, NoMemory, Op};
 use outside::{Link, LinkError};
@@ -12,7 +12,7 @@ use outside::{Link, LinkError};
 /// An actor's part of a turn: its timers that are due, and then one poll.
 fn node_turn<H: Host, L: Link>(
     course: &mut Course<H>,
-    node: &mut Node<L>,
+    node: &mut BoxActor<L>,
     ops: &[Op],
     now: u64,
 ) -> Result<(), LinkError>
@@ -30,7 +30,7 @@ fn node_turn<H: Host, L: Link>(
 /// One turn: each actor has its part, one after the other.
 pub(crate) fn turn<H: Host, L: Link>(
     course: &mut Course<H>,
-    nodes: &mut Vec<Node<L>>,
+    nodes: &mut Vec<BoxActor<L>>,
     ops: &[Op],
     now: u64,
 ) -> Result<(), LinkError>

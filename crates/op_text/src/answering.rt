@@ -5,7 +5,7 @@ ghost use Rattle.std.specs.Option.{unwrap_or};
 ghost use Rattle.hex.specs.Hex.{encode_lower};
 ghost use Rattle.std.specs.Io.KnownBytes.{Appends};
 ghost use Rattle.outside.specs.Causes.{CountsFor};
-ghost use Rattle.outside.specs.Fronts.{AppendsFront};
+ghost use Rattle.outside.specs.Prefixes.{AppendsPrefix};
 ghost use Rattle.op_text.specs.Answers.{op_answer, text_answer, result_answer, by_digits};
 ghost use Rattle.op_text.specs.Answers.{answer_of, status_of};
 ghost use Rattle.outside.specs.declared.errors.DeviceError.TheVariants as devices;
@@ -107,7 +107,7 @@ fn answer<T: OpText>(alloc: Global, arguments: &[Bytes]) -> Result<Option<Bytes>
 #[tactic(auto, using(crate::proofs::LineLemmas::no_line))]
 fn write_line<K: Sink>(alloc: Global, line: &[u8], sink: &mut K) -> Result<(), WriteError>
     ensures ok { OnOk result (Appends (K.held sink.old) (K.held sink.new) (line.now ++ 10 ∷ [])) }
-    ensures err { OnErr result (AppendsFront (K.held sink.old) (K.held sink.new)
+    ensures err { OnErr result (AppendsPrefix (K.held sink.old) (K.held sink.new)
         (line.now ++ 10 ∷ [])) }
     ensures count { CountsFor (K.fault_count sink.old) (K.fault_count sink.new)
         devices.Failed result }
@@ -130,8 +130,8 @@ pub fn run<T: OpText, K: Sink>(
     ensures written { let answer = answer_of T.op_of T.words_of T.result_words arguments.now in
         OnOk result (Appends (K.held sink.old) (K.held sink.new)
         (unwrap_or answer usage.now ++ 10 ∷ [])) }
-    ensures front { let answer = answer_of T.op_of T.words_of T.result_words arguments.now in
-        OnErr result (AppendsFront (K.held sink.old) (K.held sink.new)
+    ensures prefix { let answer = answer_of T.op_of T.words_of T.result_words arguments.now in
+        OnErr result (AppendsPrefix (K.held sink.old) (K.held sink.new)
         (unwrap_or answer usage.now ++ 10 ∷ [])) }
 
     // `Failed` comes exactly where a write failed.

@@ -53,11 +53,11 @@ impl Words {
     }
 
     /// Appends the word for these bytes, after some characters of its own.
-    pub fn put_bytes(&mut self, front: &str, bytes: &[u8]) -> Result<(), NoMemory>
-        ensures { OnOk result (self.new ≡ self.old ++ (front.now ++ word_of bytes.now) ∷ []) }
+    pub fn put_bytes(&mut self, prefix: &str, bytes: &[u8]) -> Result<(), NoMemory>
+        ensures { OnOk result (self.new ≡ self.old ++ (prefix.now ++ word_of bytes.now) ∷ []) }
     {
         let alloc = *self.words.allocator();
-        let mut word = Vec::from_slice(alloc, front.as_bytes())?;
+        let mut word = Vec::from_slice(alloc, prefix.as_bytes())?;
         put_word_of(alloc, bytes, &mut word)?;
         self.words.push(Bytes::from_vec(word))?;
         Ok(())

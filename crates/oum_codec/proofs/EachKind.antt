@@ -138,9 +138,9 @@ reply_made f result =
 reply_whole : (f : ReplyFields) (result : List ℕ) → f.result_len ≡ length result
     → reply_fields_bytes f ++ result ≡ reply_bytes (reply_made f result)
 reply_whole f result len =
-    let front : List ℕ =
+    let prefix : List ℕ =
     f.replica ∷ [] ++ view_bytes f.view ++ be_bytes w32 f.slot ++ be_bytes w32 f.client ++ be_bytes w64 f.id ++ f.tag ∷ [] in
-    append_assoc front (be_bytes w16 f.result_len) result ∙ ap (λ (n : ℕ). front ++ (be_bytes w16 n ++ result)) len
+    append_assoc prefix (be_bytes w16 f.result_len) result ∙ ap (λ (n : ℕ). prefix ++ (be_bytes w16 n ++ result)) len
 
 reply_ranges : (f : ReplyFields) (result : List ℕ) → reply_in_range f ≡ true → ReplyWidths f → f.result_len ≡ length result
     → ReplyFits (reply_made f result)

@@ -74,10 +74,10 @@ number_takes w limit wide bytes x fits e =
     let made : ℕ × List ℕ = (from_be_bytes w (take (byte_len w) bytes), drop (byte_len w) bytes) in
     let g = guard_some (ltb (length bytes) (byte_len w)) (Some made) x e in
     let long : byte_len w ≤ length bytes = ltb-false _ _ g.0 in
-    let front : be_bytes w (from_be_bytes w (take (byte_len w) bytes)) ≡ take (byte_len w) bytes =
+    let prefix : be_bytes w (from_be_bytes w (take (byte_len w) bytes)) ≡ take (byte_len w) bytes =
     wide.back (take (byte_len w) bytes) (omega (arith, length-take (byte_len w) bytes)) (IsBytes-take (byte_len w) bytes fits) in
     subst (λ (y : ℕ × List ℕ). Takes bytes (be_bytes w y.0) y.1 × (y.0 < limit)) (some_is made x g.1) (
-      record { parts = rw front (sym (take-append-drop (byte_len w) bytes)); rest_fits = IsBytes-drop (byte_len w) bytes fits },
+      record { parts = rw prefix (sym (take-append-drop (byte_len w) bytes)); rest_fits = IsBytes-drop (byte_len w) bytes fits },
       wide.below (take (byte_len w) bytes) (IsBytes-take (byte_len w) bytes fits),
     )
 
@@ -124,10 +124,10 @@ bytes_take n bytes x fits e =
     subst (λ (y : List ℕ × List ℕ). Takes bytes y.0 y.1 × (length y.0 ≡ n)) (some_is made x g.1)
     (record { parts = sym (take-append-drop n bytes); rest_fits = IsBytes-drop n bytes fits }, omega (arith, length-take n bytes))
 
-pub bytes_again : (n : ℕ) (front rest : List ℕ) → length front ≡ n → bytes_at n (front ++ rest) ≡ Some (front, rest)
-bytes_again n front rest len =
-    let long : ltb (length (front ++ rest)) n ≡ false = le-ltb _ _ (omega (arith, length-append front rest)) in
-    rw (long, take_at front rest n len, drop_at front rest n len) refl
+pub bytes_again : (n : ℕ) (prefix rest : List ℕ) → length prefix ≡ n → bytes_at n (prefix ++ rest) ≡ Some (prefix, rest)
+bytes_again n prefix rest len =
+    let long : ltb (length (prefix ++ rest)) n ≡ false = le-ltb _ _ (omega (arith, length-append prefix rest)) in
+    rw (long, take_at prefix rest n len, drop_at prefix rest n len) refl
 
 pub view_takes : (bytes : List ℕ) (x : View × List ℕ) → IsBytes bytes → view_at bytes ≡ Some x
     → Takes bytes (view_bytes x.0) x.1 × ViewWidths x.0

@@ -26,11 +26,11 @@ number_found : (w : Width) (limit : ℕ) → IsWide w limit → (at n : ℕ) (by
     → number_in w at bytes ≡ Some n
 number_found w limit wide at n bytes lt s =
     let text : List ℕ = be_bytes w n ++ s.rest in
-    let whole : List ℕ = s.front ++ text in
+    let whole : List ℕ = s.prefix ++ text in
     let long : ltb (length whole) (at + byte_len w) ≡ false =
-    le-ltb _ _ (omega (arith, length-append s.front text, length-append (be_bytes w n) s.rest, wide.len n, s.place)) in
+    le-ltb _ _ (omega (arith, length-append s.prefix text, length-append (be_bytes w n) s.rest, wide.len n, s.place)) in
     let here : number_in w at whole ≡ Some n =
-    rw (long, drop_at s.front text at s.place, take_at (be_bytes w n) s.rest (byte_len w) (wide.len n), wide.again n lt) refl in
+    rw (long, drop_at s.prefix text at s.place, take_at (be_bytes w n) s.rest (byte_len w) (wide.len n), wide.again n lt) refl in
     ap (number_in w at) s.parts ∙ here
 
 pub u16_found : (at n : ℕ) (bytes : List ℕ) → n < 2 ^ 16 → StandsAt at (be_bytes w16 n) bytes → number_in w16 at bytes ≡ Some n
@@ -46,19 +46,19 @@ u64_found = number_found w64 (2 ^ 64) wide64
 first_stands : (at : ℕ) (a b bytes : List ℕ) → StandsAt at (a ++ b) bytes → StandsAt at a bytes
 first_stands at a b bytes s =
     record {
-      front = s.front;
+      prefix = s.prefix;
       rest = b ++ s.rest;
       place = s.place;
       parts = s.parts
-          ∙ ap (λ (x : List ℕ). s.front ++ x) (append_assoc a b s.rest);
+          ∙ ap (λ (x : List ℕ). s.prefix ++ x) (append_assoc a b s.rest);
     }
 
 second_stands : (at : ℕ) (a b bytes : List ℕ) → StandsAt at (a ++ b) bytes → StandsAt (at + length a) b bytes
 second_stands at a b bytes s = record {
-  front = s.front ++ a;
+  prefix = s.prefix ++ a;
   rest = s.rest;
-  place = omega (arith, length-append s.front a, s.place);
-  parts = s.parts ∙ ap (λ (x : List ℕ). s.front ++ x) (append_assoc a b s.rest) ∙ sym (append_assoc s.front a (b ++ s.rest));
+  place = omega (arith, length-append s.prefix a, s.place);
+  parts = s.parts ∙ ap (λ (x : List ℕ). s.prefix ++ x) (append_assoc a b s.rest) ∙ sym (append_assoc s.prefix a (b ++ s.rest));
 }
 
 pub view_found : (at : ℕ) (v : View) (bytes : List ℕ) → ViewWidths v → StandsAt at (view_bytes v) bytes → view_in at bytes ≡ Some v
@@ -86,9 +86,9 @@ pub request_found : (at : ℕ) (r : Request) (bytes : List ℕ) → RequestFits 
     → request_in at bytes ≡ Some r
 request_found at r bytes fits s =
     let text : List ℕ = request_bytes r ++ s.rest in
-    let whole : List ℕ = s.front ++ text in
-    let long : ltb (length whole) at ≡ false = le-ltb _ _ (omega (arith, length-append s.front text, s.place)) in
-    let here : request_in at whole ≡ Some r = rw (long, drop_at s.front text at s.place, request_again r s.rest fits) refl in
+    let whole : List ℕ = s.prefix ++ text in
+    let long : ltb (length whole) at ≡ false = le-ltb _ _ (omega (arith, length-append s.prefix text, s.place)) in
+    let here : request_in at whole ≡ Some r = rw (long, drop_at s.prefix text at s.place, request_again r s.rest fits) refl in
     ap (request_in at) s.parts ∙ here
 
 -- ---- what is read stands there
@@ -96,7 +96,7 @@ request_found at r bytes fits s =
 stands : (at : ℕ) (text rest bytes : List ℕ) → at ≤ length bytes → drop at bytes ≡ text ++ rest → StandsAt at text bytes
 stands at text rest bytes long e =
     record {
-      front = take at bytes;
+      prefix = take at bytes;
       rest = rest;
       place = omega (arith, length-take at bytes);
       parts = sym (take-append-drop at bytes)
@@ -131,20 +131,20 @@ u64_stands = number_stands w64 (2 ^ 64) wide64
 -- a text stands where its first part does, if its second one stands after it
 both_stand : (at : ℕ) (a b bytes : List ℕ) → StandsAt at a bytes → StandsAt (at + length a) b bytes → StandsAt at (a ++ b) bytes
 both_stand at a b bytes first second =
-    let front : List ℕ = first.front ++ a in
-    let len : length front ≡ at + length a = omega (arith, length-append first.front a, first.place) in
-    let regrouped : bytes ≡ front ++ first.rest = first.parts ∙ sym (append_assoc first.front a first.rest) in
+    let prefix : List ℕ = first.prefix ++ a in
+    let len : length prefix ≡ at + length a = omega (arith, length-append first.prefix a, first.place) in
+    let regrouped : bytes ≡ prefix ++ first.rest = first.parts ∙ sym (append_assoc first.prefix a first.rest) in
     let one : drop (at + length a) bytes ≡ first.rest =
-    ap (drop (at + length a)) regrouped ∙ drop_at front first.rest (at + length a) len in
+    ap (drop (at + length a)) regrouped ∙ drop_at prefix first.rest (at + length a) len in
     let two : drop (at + length a) bytes ≡ b ++ second.rest =
-    ap (drop (at + length a)) second.parts ∙ drop_at second.front (b ++ second.rest) (at + length a) second.place in
+    ap (drop (at + length a)) second.parts ∙ drop_at second.prefix (b ++ second.rest) (at + length a) second.place in
     record {
-      front = first.front;
+      prefix = first.prefix;
       rest = second.rest;
       place = first.place;
       parts = first.parts
-          ∙ ap (λ (x : List ℕ). first.front ++ (a ++ x)) (sym one ∙ two)
-          ∙ ap (λ (x : List ℕ). first.front ++ x) (sym (append_assoc a b second.rest));
+          ∙ ap (λ (x : List ℕ). first.prefix ++ (a ++ x)) (sym one ∙ two)
+          ∙ ap (λ (x : List ℕ). first.prefix ++ x) (sym (append_assoc a b second.rest));
     }
 
 pub view_stands : (at : ℕ) (v : View) (bytes : List ℕ) → IsBytes bytes → view_in at bytes ≡ Some v

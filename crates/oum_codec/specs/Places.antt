@@ -6,12 +6,12 @@ use Rattle.nop_types.specs.declared.request.Request.{Request}
 use Rattle.oum_codec.specs.Numbers.{◌>>=◌, bytes_at}
 use Rattle.oum_codec.specs.Fixed.{request_fields_at, request_in_range}
 
--- the text stands in the bytes from a place on
+-- the text is in the bytes from a place on
 pub record StandsAt (at : ℕ) (text bytes : List ℕ) : Type 0 where
-  pub front : List ℕ
+  pub prefix : List ℕ
   pub rest : List ℕ
-  pub place : length front ≡ at
-  pub parts : bytes ≡ front ++ (text ++ rest)
+  pub place : length prefix ≡ at
+  pub parts : bytes ≡ prefix ++ (text ++ rest)
 
 -- the number from a place on, the highest byte first, where all its bytes are there
 abbrev pub number_in : Width → ℕ → List ℕ → Option ℕ

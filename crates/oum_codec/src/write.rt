@@ -40,7 +40,7 @@ pub fn put_u64(to: &mut Vec<u8>, n: u64) -> Result<(), NoMemory>
 }
 
 #[tactic(auto, unfolding(crate::specs::Numbers::be_bytes))]
-fn view_front(view: View) -> [u8; 12]
+fn view_header(view: View) -> [u8; 12]
     ensures { result ≡ view_bytes view }
 {
     let [l0, l1, l2, l3] = view.leader.to_be_bytes();
@@ -53,19 +53,19 @@ pub fn put_view(to: &mut Vec<u8>, view: View) -> Result<(), NoMemory>
     ensures ok { OnOk result (to.new.items ≡ to.old.items ++ view_bytes view) }
     ensures err { OnErr result (to.new.items ≡ to.old.items) }
 {
-    to.extend_from_slice(&view_front(view))?;
+    to.extend_from_slice(&view_header(view))?;
     Ok(())
 }
 
 /// Appends both pieces, or none of them.
 // In place, since most callers have a front of a fixed length.
 #[inline(always)]
-fn put_both(to: &mut Vec<u8>, front: &[u8], back: &[u8]) -> Result<(), NoMemory>
-    ensures ok { OnOk result (to.new.items ≡ to.old.items ++ (front.now ++ back.now)) }
+fn put_both(to: &mut Vec<u8>, prefix: &[u8], back: &[u8]) -> Result<(), NoMemory>
+    ensures ok { OnOk result (to.new.items ≡ to.old.items ++ (prefix.now ++ back.now)) }
     ensures err { OnErr result (to.new.items ≡ to.old.items) }
 {
     let len = to.len();
-    to.extend_from_slice(front)?;
+    to.extend_from_slice(prefix)?;
     if to.extend_from_slice(back).is_err() {
         to.truncate(len);
         return Err(NoMemory);
@@ -75,7 +75,7 @@ fn put_both(to: &mut Vec<u8>, front: &[u8], back: &[u8]) -> Result<(), NoMemory>
 
 /// All of a request but its op: the client, the id and the length of the op.
 #[tactic(auto, unfolding(crate::specs::Numbers::be_bytes))]
-fn request_front(client: u32, id: u64, op_len: u16) -> [u8; 14]
+fn request_header(client: u32, id: u64, op_len: u16) -> [u8; 14]
     ensures { result ≡ be_bytes w32 client ++ be_bytes w64 id ++ be_bytes w16 op_len }
 {
     let [c0, c1, c2, c3] = client.to_be_bytes();
@@ -92,7 +92,7 @@ pub fn put_request(to: &mut Vec<u8>, request: &Request) -> Result<(), NoMemory>
     let op = request.op.as_slice();
     put_both(
         to,
-        &request_front(request.client, request.id, op.len() as u16),
+        &request_header(request.client, request.id, op.len() as u16),
         op,
     )
 }
@@ -107,7 +107,7 @@ fn put_stamped(to: &mut Vec<u8>, stamped: &Stamped) -> Result<(), NoMemory>
 
 /// All of a reply but its result: the header, who replies for which slot, to which request, the tag and the length of the result.
 #[tactic(auto, unfolding(crate::specs::Numbers::be_bytes))]
-fn reply_front(reply: &Reply, result_len: u16) -> [u8; 36]
+fn reply_header(reply: &Reply, result_len: u16) -> [u8; 36]
     ensures { result ≡ header 3 ++ (reply.now.replica ∷ [] ++ view_bytes reply.now.view
         ++ be_bytes w32 reply.now.slot ++ be_bytes w32 reply.now.client
         ++ be_bytes w64 reply.now.id ++ reply.now.tag ∷ [] ++ be_bytes w16 result_len) }
@@ -164,7 +164,7 @@ fn put_reply(to: &mut Vec<u8>, reply: &Reply) -> Result<(), NoMemory>
     ensures { OnOk result (to.new.items ≡ to.old.items ++ (header 3 ++ reply_bytes reply.now)) }
 {
     let result = reply.result.as_slice();
-    put_both(to, &reply_front(reply, result.len() as u16), result)
+    put_both(to, &reply_header(reply, result.len() as u16), result)
 }
 
 fn put_header(to: &mut Vec<u8>, kind: u8) -> Result<(), NoMemory>
@@ -213,7 +213,7 @@ fn put_ping(
 
 /// All of a fragment but its payload.
 #[tactic(auto, unfolding(crate::specs::Numbers::be_bytes))]
-fn fragment_front(replica: u8, message: u64, index: u16, count: u16) -> [u8; FRAGMENT_HEADER_BYTES]
+fn fragment_header(replica: u8, message: u64, index: u16, count: u16) -> [u8; FRAGMENT_HEADER_BYTES]
     ensures { result ≡ header 8 ++ (replica ∷ [] ++ be_bytes w64 message
         ++ be_bytes w16 index ++ be_bytes w16 count) }
 {
@@ -260,7 +260,11 @@ pub fn put_fragment(
         }))) }
     ensures err { OnErr result (to.new.items ≡ to.old.items) }
 {
-    put_both(to, &fragment_front(replica, message, index, count), payload)
+    put_both(
+        to,
+        &fragment_header(replica, message, index, count),
+        payload,
+    )
 }
 
 fn put(to: &mut Vec<u8>, datagram: &Datagram) -> Result<(), NoMemory>

@@ -1,4 +1,4 @@
--- What stands in front of a receiver.
+-- What is in front of a receiver.
 use Rattle.std.specs.Prelude.{Option, Some, None, Bool, true, false}
 use Rattle.nop_types.specs.declared.request.Request.{Request}
 use Rattle.oum_receiver.specs.declared.upcall.Upcall.{Upcall}

@@ -59,7 +59,7 @@ judged _ r packet = r
 abbrev pub offered : Receiving → Stamped → Receiving
 offered r packet = judged (verdict_of r packet) r packet
 
--- what stands in front: nothing where the queue is empty, else the request at the next number, or a drop where none is there
+-- what is in front: nothing where the queue is empty, else the request at the next number, or a drop where none is there
 abbrev pub front_of : Receiving → Front
 front_of r = front_at (finite.len r.queued == 0) (finite.get r.queued r.next)
 

@@ -12,9 +12,9 @@ ok_counts_nothing (Err e) n is = cc
 
 -- a call on a device tells its fault
 pub counts_after : {T : Type 0} (a b : ℕ) (r : Result T DeviceError) → a ≤ b → b ≡ count_after r a → CountsFor a b errors.Failed r
-counts_after a b (Ok t) later is = record { later = later; failed = λ told. absurd cc; others = λ never. is }
-counts_after a b (Err errors.Failed) later is = record { later = later; failed = λ told. is; others = λ never. absurd (never refl) }
-counts_after a b (Err errors.NoMemory) later is = record { later = later; failed = λ told. absurd cc; others = λ never. is }
+counts_after a b (Ok t) later is = record { later = later; failed = λ observed. absurd cc; others = λ never. is }
+counts_after a b (Err errors.Failed) later is = record { later = later; failed = λ observed. is; others = λ never. absurd (never refl) }
+counts_after a b (Err errors.NoMemory) later is = record { later = later; failed = λ observed. absurd cc; others = λ never. is }
 
 -- nothing failed, and no fault is told
 pub counts_none : (a b : ℕ) (P : Type 0) → b ≡ a → ¬ P → CountsWhere a b P
@@ -35,11 +35,11 @@ counts_as a b P Q to from one = record {
 -- an error is that of the result that has it
 pub counts_error : {T E : Type 0} (a b : ℕ) (e x : E) → CountsFor {T = T} a b x (Err e) → CountsWhere a b (e ≡ x)
 counts_error {T} {E} a b e x one =
-    record { later = one.later; failed = λ is. one.failed (ap Err is); others = λ never. one.others (λ told. never (cc)) }
+    record { later = one.later; failed = λ is. one.failed (ap Err is); others = λ never. one.others (λ observed. never (cc)) }
 
 pub counts_result : {T E : Type 0} (a b : ℕ) (e x : E) → CountsWhere a b (e ≡ x) → CountsFor {T = T} a b x (Err e)
 counts_result {T} {E} a b e x one =
-    record { later = one.later; failed = λ told. one.failed (cc); others = λ never. one.others (λ is. never (ap Err is)) }
+    record { later = one.later; failed = λ observed. one.failed (cc); others = λ never. one.others (λ is. never (ap Err is)) }
 
 -- the same error of a result of another type
 pub counts_alike : {T U E : Type 0} (a b : ℕ) (e x : E) → CountsFor {T = T} a b x (Err e) → CountsFor {T = U} a b x (Err e)

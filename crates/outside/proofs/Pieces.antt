@@ -17,8 +17,8 @@ Appends_more old mid new xs at count before now =
 pub left_split : (xs piece others : List ℕ) (at count : ℕ) → at + count ≤ length xs → piece ≡ take (at + count - at) (drop at xs)
     → drop at xs ≡ take count (piece ++ others) ++ drop (at + count) xs
 left_split xs piece others at count within is =
-    let front : drop at xs ≡ take count (drop at xs) ++ drop (at + count) xs = rw (← drop-drop count at xs)
+    let prefix : drop at xs ≡ take count (drop at xs) ++ drop (at + count) xs = rw (← drop-drop count at xs)
     (sym (take-append-drop count (drop at xs))) in
     let same : piece ≡ take count (drop at xs) = grind (arith, is) in
     let len : length piece ≡ count = rw same (grind (arith, common_steps)) in
-    rw (take_at piece others count len, same) front
+    rw (take_at piece others count len, same) prefix

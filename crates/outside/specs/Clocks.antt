@@ -12,7 +12,7 @@ later_values [] = []
 later_values (v ∷ []) = v ∷ []
 later_values (v ∷ w ∷ values) = w ∷ values
 
--- a clock gives the next value, where its values are told
-abbrev pub TellsTime : Option (List ℕ) → Option (List ℕ) → ℕ → Type 0
-TellsTime None new time = ⊤
-TellsTime (Some values) new time = (time ≡ next_value values) × (new ≡ Some (later_values values))
+-- a clock gives the next value, where it is observable
+abbrev pub ReadsTime : Option (List ℕ) → Option (List ℕ) → ℕ → Type 0
+ReadsTime None new time = ⊤
+ReadsTime (Some values) new time = (time ≡ next_value values) × (new ≡ Some (later_values values))

@@ -1,8 +1,8 @@
 pub mod Causes
 pub mod Clocks
-pub mod Fronts
+pub mod Prefixes
 pub mod Links
 pub mod Memory
 pub mod Plans
 pub mod Ports
-pub mod Told
+pub mod Observed

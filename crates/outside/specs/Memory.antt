@@ -34,9 +34,9 @@ MayAnswer may_fail Nothing = ⊤
 MayAnswer may_fail Failure = may_fail ≡ true
 
 -- a count of faults, which is 0 by definition where no call may fail
-abbrev pub counted : Bool → ℕ → ℕ
-counted true faults = faults
-counted false faults = 0
+abbrev pub count_if : Bool → ℕ → ℕ
+count_if true faults = faults
+count_if false faults = 0
 
 -- no call was made on the link
 pub record IsFresh {P : Type 0} (fault_count : P → ℕ) (l : LinkMemory P) : Type 0 where

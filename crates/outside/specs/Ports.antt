@@ -8,7 +8,7 @@ abbrev pub next_link : List (List PollAnswer) → List PollAnswer
 next_link [] = []
 next_link (answers ∷ links) = answers
 
--- the link that was given is the next one, where the ports tell which, and no call was made on it
+-- the link that was given is the next one, where the ports are observable, and no call was made on it
 abbrev pub GivesNext : Option (List (List PollAnswer)) → Option (List (List PollAnswer)) → Option (List PollAnswer)
     → Option (List LinkCall) → Type 0
 GivesNext None new answers trace = ⊤

@@ -17,7 +17,7 @@
 //! `commands::run_in_memory` and tests.
 //!
 //! Files: `source`, `sink`, `link`, `ports`, `clock`; `plan`, then the forms in memory; `errors`.
-//! Definitions: `specs/Causes` (`count_after`, `CountsWhere`, `Rose`), `Told` (`Stays`, `Adds`),
+//! Definitions: `specs/Causes` (`count_after`, `CountsWhere`, `Rose`), `Observed` (`Stays`, `Adds`),
 //! `Links`, `Plans`.
 #![tactic(auto)]
 

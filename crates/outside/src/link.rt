@@ -2,7 +2,7 @@ ghost use Rattle.std.specs.Prelude.{◌≡◌, ◌≤◌, List, ℕ, Option, len
 ghost use Rattle.nop_types.specs.declared.limits.TheConstants.{MAX_DATAGRAM_BYTES};
 ghost use Rattle.outside.specs.Causes.{count_after};
 ghost use Rattle.outside.specs.Links.{Polls, TracesPoll};
-ghost use Rattle.outside.specs.Told.{Stays, Adds, StaysIfTold};
+ghost use Rattle.outside.specs.Observed.{Stays, Adds, StaysIfObserved};
 ghost use Rattle.outside.specs.declared.link.PollAnswer.{PollAnswer};
 ghost use Rattle.outside.specs.declared.link.LinkCall.{LinkCall};
 ghost use Rattle.outside.specs.declared.link.LinkCall.TheVariants as calls;
@@ -27,10 +27,10 @@ pub enum LinkCall {
 
 /// A node's connection to the network: it sends datagrams to ports, and receives those that were sent to its own port.
 pub trait Link {
-    /// What the polls to come answer, where the link tells it. After the last answer there is no datagram.
+    /// What the polls to come answer, where the link is observable. After the last answer there is no datagram.
     ghost answers: { Self → Option (List PollAnswer) };
 
-    /// The polls that were made and the datagrams that were sent, in order, where the link tells them.
+    /// The polls that were made and the datagrams that were sent, in order, where the link is observable.
     ghost trace: { Self → Option (List LinkCall) };
 
     /// Its own port, which no call changes.
@@ -44,7 +44,7 @@ pub trait Link {
 
     /// The next datagram, of at most `MAX_DATAGRAM_BYTES` bytes. None where this poll has none. `Failed` where the link failed:
     /// the count of faults rises. `NoMemory` where no memory is left for the datagram, which may be lost then. A link that
-    /// doesn't tell its content may find at a poll that datagrams given to it before could not be sent: it counts them then.
+    /// is not observable may find at a poll that datagrams given to it before could not be sent: it counts them then.
     fn poll(&mut self) -> Result<Option<Bytes>, LinkError>
         ensures short { IfOk result (λ r. IfSome r (λ datagram. length datagram
             ≤ MAX_DATAGRAM_BYTES)) }
@@ -53,7 +53,7 @@ pub trait Link {
         ensures later { fault_count self.old ≤ fault_count self.new }
         ensures count { fault_count self.new ≡ count_after result (fault_count self.old) }
         ensures losses { loss_count self.old ≤ loss_count self.new }
-        ensures told { StaysIfTold (trace self.old) (loss_count self.old) (loss_count self.new) }
+        ensures observed { StaysIfObserved (trace self.old) (loss_count self.old) (loss_count self.new) }
         ensures port { own_port self.new ≡ own_port self.old };
 
     /// Sends the bytes to a port. `Failed` where they could not be sent: the count of losses rises by one, and not that of

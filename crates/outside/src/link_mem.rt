@@ -2,8 +2,8 @@ ghost use Rattle.std.specs.Prelude.{◌≡◌, ◌≤◌, ◌++◌, ◌∷◌, [
 ghost use Rattle.std.specs.Prelude.{Some, Ok, true, false};
 ghost use Rattle.outside.specs.Causes.{count_after};
 ghost use Rattle.outside.specs.Links.{Polls, TracesPoll, next_poll, poll_result};
-ghost use Rattle.outside.specs.Told.{Adds, Stays, StaysIfTold};
-ghost use Rattle.outside.specs.Memory.{MayAnswer, counted};
+ghost use Rattle.outside.specs.Observed.{Adds, Stays, StaysIfObserved};
+ghost use Rattle.outside.specs.Memory.{MayAnswer, count_if};
 ghost use Rattle.outside.specs.Plans.{new_plan, IsPlannedCall, plan_after_call};
 ghost use Rattle.outside.specs.declared.errors.DeviceError.TheVariants as errors;
 ghost use Rattle.outside.specs.declared.link.LinkCall.TheVariants as calls;
@@ -29,7 +29,7 @@ pub struct LinkMem<P: CallPlan = Unfailing> {
 
 impl<P: CallPlan> Model for LinkMem<P> {
     ghost use Rattle.std.specs.Prelude.{◌≡◌, drop, length, ◌≤◌, All};
-    ghost use Rattle.outside.specs.Memory.{LinkMemory, MayAnswer, counted};
+    ghost use Rattle.outside.specs.Memory.{LinkMemory, MayAnswer, count_if};
 
     ghost Value = { LinkMemory P };
 
@@ -43,7 +43,7 @@ impl<P: CallPlan> Model for LinkMem<P> {
 
     ghost invariant = { λ s. (s.at ≤ length s.answers.items)
         × All (MayAnswer P.may_fail) s.answers.items
-        × (counted P.may_fail s.faults ≡ s.faults) };
+        × (count_if P.may_fail s.faults ≡ s.faults) };
 }
 
 impl LinkMem<Unfailing> {
@@ -203,7 +203,7 @@ impl<P: CallPlan> LinkMem<P> {
 
 impl<P: CallPlan> Link for LinkMem<P> {
     ghost use Rattle.std.specs.Prelude.{Some};
-    ghost use Rattle.outside.specs.Memory.{counted};
+    ghost use Rattle.outside.specs.Memory.{count_if};
 
     ghost answers = { λ s. Some s.answers };
 
@@ -211,7 +211,7 @@ impl<P: CallPlan> Link for LinkMem<P> {
 
     ghost own_port = { λ s. s.port };
 
-    ghost fault_count = { λ s. counted P.may_fail s.faults };
+    ghost fault_count = { λ s. count_if P.may_fail s.faults };
 
     ghost loss_count = { λ s. P.fault_count s.sends };
 
@@ -220,11 +220,11 @@ impl<P: CallPlan> Link for LinkMem<P> {
             ≤ MAX_DATAGRAM_BYTES)) }
         ensures answer { Polls (Some self.old.answers) (Some self.new.answers) result }
         ensures trace { TracesPoll (Some self.old.trace) (Some self.new.trace) result }
-        ensures later { counted P.may_fail self.old.faults ≤ counted P.may_fail self.new.faults }
-        ensures count { counted P.may_fail self.new.faults
-            ≡ count_after result (counted P.may_fail self.old.faults) }
+        ensures later { count_if P.may_fail self.old.faults ≤ count_if P.may_fail self.new.faults }
+        ensures count { count_if P.may_fail self.new.faults
+            ≡ count_after result (count_if P.may_fail self.old.faults) }
         ensures losses { P.fault_count self.old.sends ≤ P.fault_count self.new.sends }
-        ensures told { StaysIfTold (Some self.old.trace) (P.fault_count self.old.sends)
+        ensures observed { StaysIfObserved (Some self.old.trace) (P.fault_count self.old.sends)
             (P.fault_count self.new.sends) }
         ensures port { self.new.port ≡ self.old.port }
 
@@ -254,7 +254,7 @@ impl<P: CallPlan> Link for LinkMem<P> {
         ensures later { P.fault_count self.old.sends ≤ P.fault_count self.new.sends }
         ensures count { P.fault_count self.new.sends
             ≡ count_after result (P.fault_count self.old.sends) }
-        ensures faults { counted P.may_fail self.new.faults ≡ counted P.may_fail self.old.faults }
+        ensures faults { count_if P.may_fail self.new.faults ≡ count_if P.may_fail self.old.faults }
         ensures answers { Stays (Some self.old.answers) (Some self.new.answers) }
         ensures port { self.new.port ≡ self.old.port }
 

@@ -1,7 +1,7 @@
 ghost use Rattle.std.specs.Prelude.{◌≡◌, ◌+◌, ◌++◌, ◌∷◌, ◌<◌, ◌≤◌, [], List, ℕ, Option, length, IfOk, OnOk, OnErr};
 ghost use Rattle.outside.specs.Causes.{count_after};
 ghost use Rattle.outside.specs.Ports.{GivesNext};
-ghost use Rattle.outside.specs.Told.{Stays};
+ghost use Rattle.outside.specs.Observed.{Stays};
 ghost use Rattle.outside.specs.declared.link.PollAnswer.{PollAnswer};
 
 use crate::{AttachError, Link};
@@ -10,7 +10,7 @@ use crate::{AttachError, Link};
 pub trait Ports {
     type L: Link;
 
-    /// What the polls of the links to come answer, for each link in order, where the ports tell it. A link after the last
+    /// What the polls of the links to come answer, for each link in order, where the ports are observable. A link after the last
     /// one has no datagrams.
     ghost to_come: { Self → Option (List (List PollAnswer)) };
 

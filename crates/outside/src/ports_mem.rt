@@ -1,8 +1,8 @@
 ghost use Rattle.std.specs.Prelude.{◌≡◌, ◌+◌, ◌++◌, ◌∷◌, ◌<◌, ◌≤◌, [], length, drop, All, IfOk, IsOk, OnOk, OnErr, Some};
 ghost use Rattle.outside.specs.Causes.{count_after};
-ghost use Rattle.outside.specs.Told.{Stays};
+ghost use Rattle.outside.specs.Observed.{Stays};
 ghost use Rattle.outside.specs.Ports.{GivesNext};
-ghost use Rattle.outside.specs.Memory.{IsFresh, answers_of, counted, link_at};
+ghost use Rattle.outside.specs.Memory.{IsFresh, answers_of, count_if, link_at};
 ghost use Rattle.outside.specs.Plans.{new_plan, IsPlannedCall, plan_after_call};
 
 use crate::{AttachError, CallPlan, Failing, LinkMem, Ports, Unfailing};
@@ -148,7 +148,7 @@ impl<P: CallPlan> Ports for PortsMem<P> {
 
     fn attach(&mut self, port: u16) -> Result<LinkMem<P>, AttachError>
         ensures port { IfOk result (λ link. link.port ≡ port) }
-        ensures faults { IfOk result (λ link. counted P.may_fail link.faults ≡ 0) }
+        ensures faults { IfOk result (λ link. count_if P.may_fail link.faults ≡ 0) }
         ensures losses { IfOk result (λ link. P.fault_count link.sends ≡ 0) }
         ensures content { IfOk result (λ link.
             GivesNext (Some (answers_of self.old.links)) (Some (answers_of self.new.links))

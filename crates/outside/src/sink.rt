@@ -1,14 +1,14 @@
 ghost use Rattle.std.specs.Prelude.{◌≡◌, ◌≤◌, ◌<◌, List, ℕ, Option, length, IfOk, OnOk, OnErr, IsOkUnless};
 ghost use Rattle.std.specs.Io.KnownBytes.{WriteAppends, Appends};
 ghost use Rattle.outside.specs.Causes.{Rose, CountsFor, count_after};
-ghost use Rattle.outside.specs.Fronts.{AppendsFront};
+ghost use Rattle.outside.specs.Prefixes.{AppendsPrefix};
 ghost use Rattle.outside.specs.declared.errors.DeviceError.TheVariants as errors;
 
 use crate::WriteError;
 
 /// Where bytes go.
 pub trait Sink {
-    /// The bytes that it holds, where it tells them.
+    /// The bytes that it holds, where it is observable.
     ghost held: { Self → Option (List ℕ) };
 
     /// How often it failed.
@@ -32,7 +32,7 @@ pub trait Sink {
 #[tactic(auto, using(crate::proofs::Pieces::Appends_more))]
 pub fn write_all<K: Sink>(sink: &mut K, bytes: &[u8]) -> Result<(), WriteError>
     ensures ok { OnOk result (Appends (K.held sink.old) (K.held sink.new) bytes.now) }
-    ensures err { OnErr result (AppendsFront (K.held sink.old) (K.held sink.new) bytes.now) }
+    ensures err { OnErr result (AppendsPrefix (K.held sink.old) (K.held sink.new) bytes.now) }
     ensures count { CountsFor (K.fault_count sink.old) (K.fault_count sink.new)
         errors.Failed result }
     ensures succeeds { ¬ Rose (K.fault_count sink.old) (K.fault_count sink.new)

@@ -6,7 +6,7 @@ use crate::Failed;
 
 /// Where bytes come from.
 pub trait Source {
-    /// The bytes that are left, where the source tells them.
+    /// The bytes that are left, where the source is observable.
     ghost left: { Self → Option (List ℕ) };
 
     /// How often it failed.

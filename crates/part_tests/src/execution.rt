@@ -4,7 +4,7 @@ ghost use Rattle.executor.specs.Running.{reached};
 ghost use Rattle.executor.specs.Undoing.{HasExecuted};
 
 use crate::logs::full_log;
-use crate::requests::{is_told, request};
+use crate::requests::{is_expected, request};
 use executor::{Executor, checkpoint_loads};
 use kv_host::KvHost;
 use nop_types::{Bytes, Checkpoint, Entry, Host, MAX_SLOTS};
@@ -73,9 +73,9 @@ fn executed_again<H: Host>(rt: &impl Abort, alloc: Global, log: &ReplicaLog) -> 
 }
 
 fn check_answers<H: Host>(rt: &impl Abort, executor: &Executor<H>) {
-    for (row, (client, id, told)) in RESULTS.iter().enumerate() {
+    for (row, (client, id, expected)) in RESULTS.iter().enumerate() {
         let answer = executor.result(*client, *id);
-        assert!(rt; is_told(answer, *told), "row {row}");
+        assert!(rt; is_expected(answer, *expected), "row {row}");
     }
 }
 
@@ -96,7 +96,7 @@ fn check_full<H: Host>(rt: &impl Abort, alloc: Global) {
     let executor: Executor<H> = executed_again(rt, alloc, &log);
     assert!(rt; executor.reached() == log.len());
     let answer = executor.result(7, MAX_SLOTS as u64);
-    assert!(rt; is_told(answer, Some(b"bad")));
+    assert!(rt; is_expected(answer, Some(b"bad")));
 }
 
 #[test]
@@ -148,11 +148,11 @@ fn log_of_many_clients(rt: &impl Abort, alloc: Global) -> ReplicaLog
 }
 
 fn check_after_the_first<H: Host>(rt: &impl Abort, executor: &Executor<H>) {
-    for (row, (client, id, _op, told)) in AFTER_THE_FIRST.iter().enumerate() {
+    for (row, (client, id, _op, expected)) in AFTER_THE_FIRST.iter().enumerate() {
         let answer = executor.result(*client, *id);
-        assert!(rt; is_told(answer, *told), "row {row}");
+        assert!(rt; is_expected(answer, *expected), "row {row}");
     }
-    assert!(rt; is_told(executor.result(2, 1), Some(b"none")));
+    assert!(rt; is_expected(executor.result(2, 1), Some(b"none")));
 }
 
 /// A request of the 257th client is not executed, nor is its next one; a served client's next one is. So it is from a checkpoint on that
@@ -192,10 +192,10 @@ fn check_checkpoint<H: Host>(rt: &impl Abort, alloc: Global) {
     let executor: Executor<H> = executed_again(rt, alloc, &log);
     let checkpoint = executor.checkpoint().expect(rt, "memory");
     assert!(rt; checkpoint.clients().len() == IN_THE_CHECKPOINT.len());
-    for (saved, told) in checkpoint.clients().iter().zip(&IN_THE_CHECKPOINT) {
-        assert!(rt; saved.client == told.0 && saved.id == told.1);
+    for (saved, expected) in checkpoint.clients().iter().zip(&IN_THE_CHECKPOINT) {
+        assert!(rt; saved.client == expected.0 && saved.id == expected.1);
         assert!(rt;
-            saved.result.as_slice() == told.2,
+            saved.result.as_slice() == expected.2,
             "client {}",
             saved.client
         );
@@ -207,7 +207,7 @@ fn an_execution_has_a_checkpoint(rt: HostRuntime) {
     check_checkpoint::<KvHost>(&rt, rt.alloc());
 }
 
-/// The log up to slot 5 is executed, and a checkpoint stands in place of its entries. The rest is executed, undone and executed
+/// The log up to slot 5 is executed, and a checkpoint is in place of its entries. The rest is executed, undone and executed
 /// again.
 fn check_trimmed<H: Host>(rt: &impl Abort, alloc: Global) -> (ReplicaLog, Executor<H>)
     ensures { HasExecuted H.state H.meaning H.undo_of result.0 result.1 }
@@ -222,7 +222,7 @@ fn check_trimmed<H: Host>(rt: &impl Abort, alloc: Global) -> (ReplicaLog, Execut
     check_answers(rt, &executor);
     executor.rewind(&log, 5);
     assert!(rt; executor.reached() == 5 && executor.result(2, 1).is_none());
-    assert!(rt; is_told(executor.result(1, 2), Some(b"none")));
+    assert!(rt; is_expected(executor.result(1, 2), Some(b"none")));
     executor.run_to(&log, 9).expect(rt, "memory");
     check_answers(rt, &executor);
     (log, executor)
@@ -235,7 +235,7 @@ fn check_restarted<H: Host>(rt: &impl Abort, alloc: Global) {
     assert!(rt; loads && log.checkpoint().is_some() && log.len() == 9);
     executor.restart(&log).expect(rt, "memory");
     assert!(rt; executor.reached() == 5 && executor.result(2, 1).is_none());
-    assert!(rt; is_told(executor.result(1, 2), Some(b"none")));
+    assert!(rt; is_expected(executor.result(1, 2), Some(b"none")));
     executor.run_to(&log, 9).expect(rt, "memory");
     check_answers(rt, &executor);
     executor.rewind(&log, 5);
@@ -251,11 +251,11 @@ fn begun_with_a_checkpoint(rt: HostRuntime) {
 fn check_what_loads<H: Host>(rt: &impl Abort, alloc: Global) {
     assert!(rt; checkpoint_loads::<H>(alloc, None).expect(rt, "memory"));
     let rows: [(&[u8], bool); 2] = [(b"\0\0\0\0", true), (b"", false)];
-    for (row, (bytes, told)) in rows.iter().enumerate() {
+    for (row, (bytes, expected)) in rows.iter().enumerate() {
         let host = Bytes::new(alloc, bytes).expect(rt, "memory");
         let checkpoint = Checkpoint::new(host, Vec::new(alloc)).expect(rt, "a checkpoint");
         let loads = checkpoint_loads::<H>(alloc, Some(&checkpoint)).expect(rt, "memory");
-        assert!(rt; loads == *told, "row {row}");
+        assert!(rt; loads == *expected, "row {row}");
     }
 }
 

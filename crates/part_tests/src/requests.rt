@@ -20,9 +20,9 @@ pub fn request(rt: &impl Abort, alloc: Global, client: u32, id: u64, op: &[u8]) 
 }
 
 /// The answer is the one that is told.
-pub fn is_told(answer: Option<&Bytes>, told: Option<&[u8]>) -> bool {
-    match (answer, told) {
-        (Some(answer), Some(told)) => answer.as_slice() == told,
+pub fn is_expected(answer: Option<&Bytes>, expected: Option<&[u8]>) -> bool {
+    match (answer, expected) {
+        (Some(answer), Some(expected)) => answer.as_slice() == expected,
         (None, None) => true,
         _ => false,
     }

@@ -2,7 +2,7 @@ ghost use Rattle.std.specs.Prelude.{◌≡◌, ◌&&◌, IsSome};
 ghost use Rattle.nop_types.specs.declared.limits.TheConstants.{WINDOW};
 ghost use Rattle.nop_types.specs.Tables.{is_new_to, kept_for, serves};
 
-use crate::requests::{is_told, request};
+use crate::requests::{is_expected, request};
 use client_table::{ClientTable, Judged, Kept};
 use nop_types::{Bytes, Checkpoint, SavedClient};
 use std::alloc::Global;
@@ -37,7 +37,7 @@ fn last_answers(rt: HostRuntime) {
     let Judged::Same(answer) = table.judge(7, 5) else {
         panic!(rt; "not the same")
     };
-    assert!(rt; is_told(Some(answer), Some(b"=v")));
+    assert!(rt; is_expected(Some(answer), Some(b"=v")));
     assert!(rt; is_fresh(&table, 7, 6));
     assert!(rt; is_fresh(&table, 6, 5));
     assert!(rt; is_fresh(&table, u32::MAX, u64::MAX));
@@ -82,11 +82,11 @@ const KEPT: [(u32, u64); 4] = [(9, 3), (u32::MAX, u64::MAX), (0, 1), (9, 4)];
 
 const SAVED: [(u32, u64); 3] = [(0, 1), (9, 4), (u32::MAX, u64::MAX)];
 
-fn are_saved(clients: &[SavedClient], told: &[(u32, u64)]) -> bool {
-    if clients.len() != told.len() {
+fn are_saved(clients: &[SavedClient], expected: &[(u32, u64)]) -> bool {
+    if clients.len() != expected.len() {
         return false;
     }
-    for (saved, (client, id)) in clients.iter().zip(told) {
+    for (saved, (client, id)) in clients.iter().zip(expected) {
         let result = client.to_be_bytes();
         if saved.client != *client
             || saved.id != *id
@@ -127,7 +127,7 @@ fn what_is_no_checkpoint(rt: HostRuntime) {
         (0, &[3, 2], false),
         (0, &[0], true),
     ];
-    for (row, (len, numbers, told)) in rows.iter().enumerate() {
+    for (row, (len, numbers, expected)) in rows.iter().enumerate() {
         let bytes = vec![in rt.alloc(); 7u8; *len].expect(&rt, "memory");
         let mut clients = Vec::new(rt.alloc());
         for number in *numbers {
@@ -140,6 +140,6 @@ fn what_is_no_checkpoint(rt: HostRuntime) {
             clients.push(saved).expect(&rt, "memory");
         }
         let made = Checkpoint::new(Bytes::from_vec(bytes), clients);
-        assert!(rt; made.is_some() == *told, "row {row}");
+        assert!(rt; made.is_some() == *expected, "row {row}");
     }
 }

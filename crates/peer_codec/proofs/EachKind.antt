@@ -101,7 +101,7 @@ view_change_takes bytes x fits e =
     let e2 = Takes-then bytes _ _ _ _ e1 t2.0 in
     let made : Body × List ℕ = (ViewChange a.0.0 b.0.0 c.0.0, c.0.1) in
     subst (TakesBody 21 bytes) (ok_is made x c.2)
-    (record { is_kind = refl; takes = e2; fits = record { view = t0.1; number = t1.1; told = t2.1 } })
+    (record { is_kind = refl; takes = e2; fits = record { view = t0.1; number = t1.1; log_fits = t2.1 } })
 
 start_view_takes : (bytes : List ℕ) (x : Body × List ℕ) → IsBytes bytes → start_view_at bytes ≡ Ok x → TakesBody 22 bytes x
 unfolding start_view_at
@@ -112,7 +112,7 @@ start_view_takes bytes x fits e =
     let t1 = log_takes a.0.1 b.0 t0.0.rest_fits b.1 in
     let both = Takes-then bytes _ _ _ _ t0.0 t1.0 in
     let made : Body × List ℕ = (StartView a.0.0 b.0.0, b.0.1) in
-    subst (TakesBody 22 bytes) (ok_is made x b.2) (record { is_kind = refl; takes = both; fits = record { number = t0.1; told = t1.1 } })
+    subst (TakesBody 22 bytes) (ok_is made x b.2) (record { is_kind = refl; takes = both; fits = record { number = t0.1; log_fits = t1.1 } })
 
 sync_prepare_takes : (bytes : List ℕ) (x : Body × List ℕ) → IsBytes bytes → sync_prepare_at bytes ≡ Ok x → TakesBody 23 bytes x
 unfolding sync_prepare_at
@@ -182,7 +182,7 @@ unfolding start_view_at
 start_view_again next log rest fits =
     let regrouped : be_bytes w64 next ++ log_bytes log ++ rest ≡ be_bytes w64 next ++ (log_bytes log ++ rest) =
     append_assoc (be_bytes w64 next) (log_bytes log) rest in
-    rw (regrouped, next_again next (log_bytes log ++ rest) fits.number, log_again log rest fits.told) refl
+    rw (regrouped, next_again next (log_bytes log ++ rest) fits.number, log_again log rest fits.log_fits) refl
 
 view_change_again : (v : View) (next : ℕ) (log : Log) (rest : List ℕ) → LogChangeIsIn Trimmed v next log
     → view_change_at (view_bytes v ++ be_bytes w64 next ++ log_bytes log ++ rest) ≡ Ok (ViewChange v next log, rest)
@@ -193,7 +193,7 @@ view_change_again v next log rest fits =
     append_assoc (view_bytes v ++ be_bytes w64 next) (log_bytes log) rest
     ∙ append_assoc (view_bytes v) (be_bytes w64 next) (log_bytes log ++ rest) in
     ap view_change_at regrouped
-    ∙ rw (started_again v more fits.view, next_again next (log_bytes log ++ rest) fits.number, log_again log rest fits.told) refl
+    ∙ rw (started_again v more fits.view, next_again next (log_bytes log ++ rest) fits.number, log_again log rest fits.log_fits) refl
 
 sync_prepare_again : (log : Log) (rest : List ℕ) → LogFits log → sync_prepare_at (log_bytes log ++ rest) ≡ Ok (SyncPrepare log, rest)
 unfolding sync_prepare_at

@@ -17,7 +17,7 @@ use Rattle.nop_types.specs.declared.request.Entry.{Entry}
 use Rattle.nop_types.specs.declared.request.Entry.TheVariants.{NoOp, Req}
 use Rattle.oum_codec.specs.Numbers.{be_bytes}
 use Rattle.oum_codec.proofs.Numbers.{wide32}
-use Rattle.peer_codec.specs.Spelling.{entry_bytes, entries_bytes, account_bytes, accounts_bytes, checkpoint_bytes, told_bytes, log_bytes}
+use Rattle.peer_codec.specs.Spelling.{entry_bytes, entries_bytes, account_bytes, accounts_bytes, checkpoint_bytes, optional_bytes, log_bytes}
 use Rattle.peer_codec.specs.Spelling.{body_bytes, spelling}
 use Rattle.peer_codec.proofs.Accounts.{AccountFits, result_short, first_fits, within_limits}
 use Rattle.peer_codec.proofs.SpelledLengths.{request_len, entries_len, account_len, checkpoint_len, log_len, number_len, found_len}
@@ -71,9 +71,9 @@ checkpoint_most c fits =
     ) in
     omega (arith, checkpoint_len c, clients, within.host)
 
-told_most : (o : Option Checkpoint) → IfSome o CheckpointFits → length (told_bytes o) ≤ 1469384
-told_most None fits = omega arith
-told_most (Some c) fits = checkpoint_most c fits
+optional_most : (o : Option Checkpoint) → IfSome o CheckpointFits → length (optional_bytes o) ≤ 1469384
+optional_most None fits = omega arith
+optional_most (Some c) fits = checkpoint_most c fits
 
 -- ---- messages
 
@@ -82,7 +82,7 @@ log_most log fits =
     let few : length log.entries ≤ MAX_SLOTS = omega (arith, fits.room) in
     let sum = sum_most log.entries fits.entries in
     let entries : length (entries_bytes log.entries) ≤ 2682884 = omega (arith, entries_len log.entries, sum, few) in
-    omega (arith, log_len log, told_most log.checkpoint fits.checkpoint.1, entries)
+    omega (arith, log_len log, optional_most log.checkpoint fits.checkpoint.1, entries)
 
 number_most : (n : ℕ) → length (be_bytes w32 n) ≤ 4152292
 number_most n = omega (arith, number_len n)
@@ -94,8 +94,8 @@ body_most (bodies.GapCommit slot) fits = number_most slot
 body_most (bodies.GapRep slot) fits = number_most slot
 body_most bodies.ViewChangeReq fits = omega arith
 body_most (bodies.ViewChange last_normal next log) fits =
-    omega (arith, view_change_len last_normal next log, log_most log fits.told)
-body_most (bodies.StartView next log) fits = omega (arith, start_view_len next log, log_most log fits.told)
+    omega (arith, view_change_len last_normal next log, log_most log fits.log_fits)
+body_most (bodies.StartView next log) fits = omega (arith, start_view_len next log, log_most log fits.log_fits)
 body_most (bodies.SyncPrepare log) fits = omega (arith, log_most log fits)
 body_most (bodies.SyncRep len) fits = number_most len
 body_most (bodies.SyncCommit len) fits = number_most len

@@ -15,7 +15,7 @@ use Rattle.nop_types.specs.declared.peer.Body.TheVariants.{Found, ViewChange, St
 use Rattle.oum_codec.specs.Numbers.{be_bytes}
 use Rattle.oum_codec.specs.Spelling.{view_bytes, counted_bytes, request_bytes}
 use Rattle.oum_codec.proofs.Numbers.{wide16, wide32, wide64}
-use Rattle.peer_codec.specs.Spelling.{entry_bytes, entries_bytes, account_bytes, accounts_bytes, checkpoint_bytes, told_bytes, log_bytes}
+use Rattle.peer_codec.specs.Spelling.{entry_bytes, entries_bytes, account_bytes, accounts_bytes, checkpoint_bytes, optional_bytes, log_bytes}
 use Rattle.peer_codec.specs.Spelling.{body_bytes, head_bytes, kind_of, spelling}
 use Rattle.peer_codec.proofs.Accounts.{saved_bytes, accounts_saved}
 
@@ -29,9 +29,9 @@ counted_len bytes = omega (arith, length-append (be_bytes w16 (length bytes)) by
 
 pub request_len : (r : Request) → length (request_bytes r) ≡ 14 + length r.op
 request_len r =
-    let front : length (be_bytes w32 r.client ++ be_bytes w64 r.id) ≡ 12 =
+    let prefix : length (be_bytes w32 r.client ++ be_bytes w64 r.id) ≡ 12 =
     omega (arith, length-append (be_bytes w32 r.client) (be_bytes w64 r.id), wide32.len r.client, wide64.len r.id) in
-    omega (arith, length-append (be_bytes w32 r.client ++ be_bytes w64 r.id) (counted_bytes r.op), counted_len r.op, front)
+    omega (arith, length-append (be_bytes w32 r.client ++ be_bytes w64 r.id) (counted_bytes r.op), counted_len r.op, prefix)
 
 pub entries_len : (entries : List Entry) → length (entries_bytes entries) ≡ 4 + sum_by (λ e. length (entry_bytes e)) entries
 entries_len entries =
@@ -46,10 +46,10 @@ entries_len entries =
 
 pub account_len : (c : SavedClient) → length (account_bytes (saved_account c)) ≡ 14 + length c.result
 account_len c =
-    let front : length (be_bytes w32 c.client ++ be_bytes w64 c.id) ≡ 12 =
+    let prefix : length (be_bytes w32 c.client ++ be_bytes w64 c.id) ≡ 12 =
     omega (arith, length-append (be_bytes w32 c.client) (be_bytes w64 c.id), wide32.len c.client, wide64.len c.id) in
     let parts : length (be_bytes w32 c.client ++ be_bytes w64 c.id ++ counted_bytes c.result) ≡ 14 + length c.result =
-    omega (arith, length-append (be_bytes w32 c.client ++ be_bytes w64 c.id) (counted_bytes c.result), counted_len c.result, front) in
+    omega (arith, length-append (be_bytes w32 c.client ++ be_bytes w64 c.id) (counted_bytes c.result), counted_len c.result, prefix) in
     ap length (saved_bytes c) ∙ parts
 
 pub accounts_len : (clients : List SavedClient)
@@ -66,17 +66,17 @@ accounts_len clients =
 
 pub checkpoint_len : (c : Checkpoint) → length (checkpoint_bytes c) ≡ 4 + length c.host + length (accounts_bytes c.clients)
 checkpoint_len c =
-    let front : length (be_bytes w32 (length c.host) ++ c.host) ≡ 4 + length c.host =
+    let prefix : length (be_bytes w32 (length c.host) ++ c.host) ≡ 4 + length c.host =
     omega (arith, length-append (be_bytes w32 (length c.host)) c.host, wide32.len (length c.host)) in
-    omega (arith, length-append (be_bytes w32 (length c.host) ++ c.host) (accounts_bytes c.clients), front)
+    omega (arith, length-append (be_bytes w32 (length c.host) ++ c.host) (accounts_bytes c.clients), prefix)
 
 -- ---- messages
 
-pub log_len : (log : Log) → length (log_bytes log) ≡ 4 + length (told_bytes log.checkpoint) + length (entries_bytes log.entries)
+pub log_len : (log : Log) → length (log_bytes log) ≡ 4 + length (optional_bytes log.checkpoint) + length (entries_bytes log.entries)
 log_len log =
     let z : List ℕ = be_bytes w32 log.sync_point in
-    let told : List ℕ = told_bytes log.checkpoint in
-    omega (arith, length-append (z ++ told) (entries_bytes log.entries), length-append z told, wide32.len log.sync_point)
+    let optional : List ℕ = optional_bytes log.checkpoint in
+    omega (arith, length-append (z ++ optional) (entries_bytes log.entries), length-append z optional, wide32.len log.sync_point)
 
 pub number_len : (n : ℕ) → length (be_bytes w32 n) ≡ 4
 number_len n = wide32.len n
@@ -89,9 +89,9 @@ start_view_len next log = omega (arith, length-append (be_bytes w64 next) (log_b
 
 pub view_change_len : (v : View) (next : ℕ) (log : Log) → length (body_bytes (ViewChange v next log)) ≡ 20 + length (log_bytes log)
 view_change_len v next log =
-    let front : length (view_bytes v ++ be_bytes w64 next) ≡ 20 =
+    let prefix : length (view_bytes v ++ be_bytes w64 next) ≡ 20 =
     omega (arith, length-append (view_bytes v) (be_bytes w64 next), view_len v, wide64.len next) in
-    omega (arith, length-append (view_bytes v ++ be_bytes w64 next) (log_bytes log), front)
+    omega (arith, length-append (view_bytes v ++ be_bytes w64 next) (log_bytes log), prefix)
 
 pub spelling_len : (p : Peer) → length (spelling p) ≡ 14 + length (body_bytes p.body)
 spelling_len p =

@@ -50,14 +50,14 @@ checkpoint_at bytes = do
   Ok (record { host = host.0; clients = clients.0 }, clients.1)
 
 -- a checkpoint, where the sync point is above 0
-unfoldable pub told_at : ℕ → List ℕ → Result (Option Checkpoint × List ℕ) BadPeer
-told_at sync_point bytes = if nat_lt 0 sync_point then (checkpoint_at bytes >>= λ c. Ok (Some c.0, c.1)) else Ok (None, bytes)
+unfoldable pub optional_at : ℕ → List ℕ → Result (Option Checkpoint × List ℕ) BadPeer
+optional_at sync_point bytes = if nat_lt 0 sync_point then (checkpoint_at bytes >>= λ c. Ok (Some c.0, c.1)) else Ok (None, bytes)
 
 -- a log's sync point, its checkpoint, the number of its entries, then the entries: what follows them stands at the end
 unfoldable pub log_at : List ℕ → Result (Log × List ℕ) BadPeer
 log_at bytes = do
   sync_point ← length_at bytes
-  checkpoint ← told_at sync_point.0 sync_point.1
+  checkpoint ← optional_at sync_point.0 sync_point.1
   count ← count_at sync_point.0 checkpoint.1
   entries ← entries_at count.0 count.1
   Ok (record { sync_point = sync_point.0; checkpoint = checkpoint.0; entries = entries.0 }, entries.1)

@@ -39,13 +39,13 @@ abbrev pub checkpoint_bytes : Checkpoint → List ℕ
 checkpoint_bytes c = be_bytes w32 (length c.host) ++ c.host ++ accounts_bytes c.clients
 
 -- nothing stands for no checkpoint
-abbrev pub told_bytes : Option Checkpoint → List ℕ
-told_bytes None = []
-told_bytes (Some c) = checkpoint_bytes c
+abbrev pub optional_bytes : Option Checkpoint → List ℕ
+optional_bytes None = []
+optional_bytes (Some c) = checkpoint_bytes c
 
 -- the sync point, the checkpoint, and the entries
 abbrev pub log_bytes : Log → List ℕ
-log_bytes log = be_bytes w32 log.sync_point ++ told_bytes log.checkpoint ++ entries_bytes log.entries
+log_bytes log = be_bytes w32 log.sync_point ++ optional_bytes log.checkpoint ++ entries_bytes log.entries
 
 abbrev pub kind_of : Body → ℕ
 kind_of (bodies.SlotLookup slot) = kinds.SLOT_LOOKUP

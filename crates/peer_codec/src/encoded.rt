@@ -8,7 +8,7 @@ use nop_types::{NoMemory, Peer, View};
 use std::alloc::Global;
 use std::marker::Model;
 
-/// Where the sender stands in a spelling.
+/// Where the sender is in a spelling.
 const SENDER_AT: usize = 1;
 
 /// A message that is kept by its spelling.

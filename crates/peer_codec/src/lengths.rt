@@ -9,7 +9,7 @@ ghost use Rattle.nop_types.specs.Checkpoints.{saved_account};
 ghost use Rattle.oum_codec.specs.Spelling.{request_bytes};
 ghost use Rattle.peer_codec.specs.LogBodies.{log_in, with_log};
 ghost use Rattle.peer_codec.specs.Spelling.{entry_bytes, entries_bytes, account_bytes, accounts_bytes, checkpoint_bytes};
-ghost use Rattle.peer_codec.specs.Spelling.{told_bytes, log_bytes, body_bytes, spelling};
+ghost use Rattle.peer_codec.specs.Spelling.{optional_bytes, log_bytes, body_bytes, spelling};
 
 use crate::LogBody;
 use nop_types::{Body, Checkpoint, Entry, LogRef, Peer, Request, SavedClient};
@@ -76,8 +76,8 @@ fn checkpoint_len(checkpoint: &Checkpoint) -> usize
     4 + checkpoint.host().as_slice().len() + accounts_len(checkpoint.clients())
 }
 
-fn told_len(checkpoint: Option<&Checkpoint>) -> usize
-    ensures exact { result ≡ length (told_bytes (option_copied checkpoint.entry)) }
+fn optional_len(checkpoint: Option<&Checkpoint>) -> usize
+    ensures exact { result ≡ length (optional_bytes (option_copied checkpoint.entry)) }
     ensures small { result ≤ 8 + MAX_HOST_BYTES + MAX_SERVED * (14 + MAX_RESULT_BYTES) }
 {
     match checkpoint {
@@ -93,7 +93,7 @@ fn log_len(log: LogRef<'_>) -> usize
     ensures small { result ≤ 16 + MAX_HOST_BYTES + MAX_SERVED * (14 + MAX_RESULT_BYTES)
         + MAX_SLOTS * (15 + MAX_OP_BYTES) }
 {
-    4 + told_len(log.checkpoint) + entries_len(log.entries)
+    4 + optional_len(log.checkpoint) + entries_len(log.entries)
 }
 
 #[tactic(auto, using(crate::proofs::SpelledLengths::body_lens))]

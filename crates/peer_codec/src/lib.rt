@@ -1,5 +1,5 @@
-//! The ten kinds of messages between replicas as bytes. A log is told with its sync point, where
-//! that is above 0 with the checkpoint that stands in place of the entries up to it, and with the
+//! The ten kinds of messages between replicas as bytes. A log is sent with its sync point, where
+//! that is above 0 with the checkpoint that is in place of the entries up to it, and with the
 //! entries above it.
 //!
 //! `decode_peer` answers the message that the bytes spell, with each field in its range, and for

@@ -4,7 +4,7 @@ ghost use Rattle.std.specs.Prelude.{◌≡◌, ◌≤◌, length, map, IsTrue, I
 ghost use Rattle.nop_types.specs.declared.limits.TheConstants.{MAX_SERVED, MAX_SLOTS};
 ghost use Rattle.nop_types.specs.Checkpoints.{saved_account, are_saved};
 ghost use Rattle.peer_codec.specs.Answers.{GivesBy};
-ghost use Rattle.peer_codec.specs.Logs.{entry_at, entries_at, account_at, accounts_at, checkpoint_at, told_at, log_at};
+ghost use Rattle.peer_codec.specs.Logs.{entry_at, entries_at, account_at, accounts_at, checkpoint_at, optional_at, log_at};
 
 use crate::BadPeer;
 use crate::fields::{
@@ -97,13 +97,13 @@ fn split_checkpoint(alloc: Global, bytes: &[u8]) -> Result<(Checkpoint, &[u8]), 
 }
 
 /// A checkpoint, where the sync point is above 0.
-#[tactic(auto, unfolding(crate::specs::Logs::told_at))]
-fn split_told(
+#[tactic(auto, unfolding(crate::specs::Logs::optional_at))]
+fn split_optional(
     alloc: Global,
     sync_point: u32,
     bytes: &[u8],
 ) -> Result<(Option<Checkpoint>, &[u8]), BadPeer>
-    ensures { GivesBy (λ x. (x.0, x.1.now)) result (told_at sync_point bytes.now) }
+    ensures { GivesBy (λ x. (x.0, x.1.now)) result (optional_at sync_point bytes.now) }
 {
     if sync_point == 0 {
         return Ok((None, bytes));
@@ -118,7 +118,7 @@ pub fn split_log(alloc: Global, bytes: &[u8]) -> Result<(Log, &[u8]), BadPeer>
     ensures { GivesBy (λ x. (x.0, x.1.now)) result (log_at bytes.now) }
 {
     let (sync_point, rest) = split_length(bytes)?;
-    let (checkpoint, rest) = split_told(alloc, sync_point, rest)?;
+    let (checkpoint, rest) = split_optional(alloc, sync_point, rest)?;
     let (count, rest) = split_count(sync_point, rest)?;
     let (entries, rest) = split_entries(alloc, count, rest)?;
     Ok((Log::new(sync_point, checkpoint, entries), rest))

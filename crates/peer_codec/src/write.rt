@@ -9,7 +9,7 @@ ghost use Rattle.oum_codec.specs.Numbers.{be_bytes};
 ghost use Rattle.oum_codec.specs.Spelling.{view_bytes};
 ghost use Rattle.peer_codec.specs.LogBodies.{log_in, with_log, log_message};
 ghost use Rattle.peer_codec.specs.Spelling.{entry_bytes, entries_bytes, account_bytes, accounts_bytes, checkpoint_bytes};
-ghost use Rattle.peer_codec.specs.Spelling.{told_bytes, log_bytes, kind_of, head_bytes, body_bytes, spelling};
+ghost use Rattle.peer_codec.specs.Spelling.{optional_bytes, log_bytes, kind_of, head_bytes, body_bytes, spelling};
 
 use crate::LogBody;
 use crate::lengths::{HEAD_BYTES, log_body_len, spelled_len};
@@ -19,7 +19,7 @@ use std::alloc::Global;
 
 /// The fields of a request's entry before its op: tag, client, id and the length of the op.
 #[tactic(auto, unfolding(oum_codec::specs::Numbers::be_bytes))]
-fn entry_front(client: u32, id: u64, op_len: u16) -> [u8; 15]
+fn entry_header(client: u32, id: u64, op_len: u16) -> [u8; 15]
     ensures { result ≡ 1 ∷ [] ++ be_bytes w32 client ++ be_bytes w64 id ++ be_bytes w16 op_len }
 {
     let [c0, c1, c2, c3] = client.to_be_bytes();
@@ -36,8 +36,8 @@ fn put_entry(to: &mut Vec<u8>, entry: &Entry) -> Result<(), NoMemory>
         Entry::NoOp => to.push(0)?,
         Entry::Req(request) => {
             let op = request.op.as_slice();
-            let front = entry_front(request.client, request.id, op.len() as u16);
-            to.extend_from_slice(&front)?;
+            let prefix = entry_header(request.client, request.id, op.len() as u16);
+            to.extend_from_slice(&prefix)?;
             to.extend_from_slice(op)?;
         }
     }
@@ -57,7 +57,7 @@ fn put_entries(to: &mut Vec<u8>, entries: &[Entry]) -> Result<(), NoMemory>
 
 /// The fields of a client before its result: its number, its greatest id and the length of the result.
 #[tactic(auto, unfolding(oum_codec::specs::Numbers::be_bytes))]
-fn account_front(client: u32, id: u64, result_len: u16) -> [u8; 14]
+fn account_header(client: u32, id: u64, result_len: u16) -> [u8; 14]
     ensures { result ≡ be_bytes w32 client ++ be_bytes w64 id ++ be_bytes w16 result_len }
 {
     let [c0, c1, c2, c3] = client.to_be_bytes();
@@ -72,8 +72,8 @@ fn put_account(to: &mut Vec<u8>, saved: &SavedClient) -> Result<(), NoMemory>
         ≡ to.old.items ++ account_bytes (saved_account saved.now)) }
 {
     let result = saved.result.as_slice();
-    let front = account_front(saved.client, saved.id, result.len() as u16);
-    to.extend_from_slice(&front)?;
+    let prefix = account_header(saved.client, saved.id, result.len() as u16);
+    to.extend_from_slice(&prefix)?;
     to.extend_from_slice(result)?;
     Ok(())
 }
@@ -100,9 +100,9 @@ fn put_checkpoint(to: &mut Vec<u8>, checkpoint: &Checkpoint) -> Result<(), NoMem
     put_accounts(to, checkpoint.clients())
 }
 
-fn put_told(to: &mut Vec<u8>, checkpoint: Option<&Checkpoint>) -> Result<(), NoMemory>
+fn put_optional(to: &mut Vec<u8>, checkpoint: Option<&Checkpoint>) -> Result<(), NoMemory>
     ensures { OnOk result (to.new.items
-        ≡ to.old.items ++ told_bytes (option_copied checkpoint.entry)) }
+        ≡ to.old.items ++ optional_bytes (option_copied checkpoint.entry)) }
 {
     match checkpoint {
         Some(checkpoint) => put_checkpoint(to, checkpoint),
@@ -115,7 +115,7 @@ fn put_log(to: &mut Vec<u8>, log: LogRef<'_>) -> Result<(), NoMemory>
     ensures { OnOk result (to.new.items ≡ to.old.items ++ log_bytes (log_of log.entry)) }
 {
     put_u32(to, log.sync_point)?;
-    put_told(to, log.checkpoint)?;
+    put_optional(to, log.checkpoint)?;
     put_entries(to, log.entries)
 }
 

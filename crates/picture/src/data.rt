@@ -13,9 +13,9 @@ pub enum Mark {
     Stamped,
     /// A controller orders a session, or a sequencer confirms one.
     Session,
-    /// A request stands in a slot of a replica's log.
+    /// A request is in a slot of a replica's log.
     Logged,
-    /// A NO-OP stands in a slot of a replica's log.
+    /// A NO-OP is in a slot of a replica's log.
     NoOp,
     /// A replica entered a view and waits for its start.
     Entered,

@@ -251,7 +251,7 @@ fn put_back(layout: &Layout, picture: &Picture, to: &mut Text) {
     }
 }
 
-fn put_front(layout: &Layout, picture: &Picture, to: &mut Text) {
+fn put_prefix(layout: &Layout, picture: &Picture, to: &mut Text) {
     for loss in &picture.losses {
         put_loss_label(layout, loss, to);
     }
@@ -274,7 +274,7 @@ pub fn draw(alloc: Global, picture: &Picture) -> Result<String, NoMemory>
     put_begin(&layout, &mut text);
     put_legend(&layout, &signs, &mut text);
     put_back(&layout, picture, &mut text);
-    put_front(&layout, picture, &mut text);
+    put_prefix(&layout, picture, &mut text);
     text.put("</svg>\n");
     text.finish()
 }

@@ -8,13 +8,13 @@ use Rattle.picture.specs.Actors.{same}
 use Rattle.picture.specs.declared.data.Row.{Row}
 use Rattle.picture.specs.declared.data.Loss.{Loss}
 
-abbrev pub counted : (ℕ → Actor) → ℕ → List Actor
-counted make zero = []
-counted make (suc n) = counted make n ++ make n ∷ []
+abbrev pub numbered : (ℕ → Actor) → ℕ → List Actor
+numbered make zero = []
+numbered make (suc n) = numbered make n ++ make n ∷ []
 
 abbrev pub actors_of : Configuration → List Actor
 actors_of c =
-    ((counted Controller c.controllers ++ counted Client c.clients) ++ counted Sequencer c.sequencers) ++ counted Replica c.replicas
+    ((numbered Controller c.controllers ++ numbered Client c.clients) ++ numbered Sequencer c.sequencers) ++ numbered Replica c.replicas
 
 abbrev pub has : List Actor → Actor → Bool
 has actors a = list_any (λ b. same b a) actors

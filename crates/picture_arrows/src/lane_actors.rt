@@ -5,7 +5,7 @@ ghost use Rattle.std.specs.List.{list_any};
 ghost use Rattle.nop_types.specs.declared.output.Actor.TheVariants as kinds;
 ghost use Rattle.picture_arrows.specs.Actors.{
   actors_of,
-  counted,
+  numbered,
   has,
   has_lane,
   is_replica,
@@ -44,7 +44,7 @@ pub fn is_sequencer(actor: Actor) -> bool
 
 fn put_controllers(count: u8, actors: &mut Vec<Actor>) -> Result<(), NoMemory>
     ensures { OnOk result (actors.new.items
-        ≡ actors.old.items ++ counted kinds.Controller count) }
+        ≡ actors.old.items ++ numbered kinds.Controller count) }
 {
     for i in 0..count {
         actors.push(Actor::Controller(i))?;
@@ -53,7 +53,7 @@ fn put_controllers(count: u8, actors: &mut Vec<Actor>) -> Result<(), NoMemory>
 }
 
 fn put_clients(count: u8, actors: &mut Vec<Actor>) -> Result<(), NoMemory>
-    ensures { OnOk result (actors.new.items ≡ actors.old.items ++ counted kinds.Client count) }
+    ensures { OnOk result (actors.new.items ≡ actors.old.items ++ numbered kinds.Client count) }
 {
     for i in 0..count {
         actors.push(Actor::Client(u32::from(i)))?;
@@ -62,7 +62,7 @@ fn put_clients(count: u8, actors: &mut Vec<Actor>) -> Result<(), NoMemory>
 }
 
 fn put_sequencers(count: u8, actors: &mut Vec<Actor>) -> Result<(), NoMemory>
-    ensures { OnOk result (actors.new.items ≡ actors.old.items ++ counted kinds.Sequencer count) }
+    ensures { OnOk result (actors.new.items ≡ actors.old.items ++ numbered kinds.Sequencer count) }
 {
     for i in 0..count {
         actors.push(Actor::Sequencer(i))?;
@@ -71,7 +71,7 @@ fn put_sequencers(count: u8, actors: &mut Vec<Actor>) -> Result<(), NoMemory>
 }
 
 fn put_replicas(count: u8, actors: &mut Vec<Actor>) -> Result<(), NoMemory>
-    ensures { OnOk result (actors.new.items ≡ actors.old.items ++ counted kinds.Replica count) }
+    ensures { OnOk result (actors.new.items ≡ actors.old.items ++ numbered kinds.Replica count) }
 {
     for i in 0..count {
         actors.push(Actor::Replica(i))?;

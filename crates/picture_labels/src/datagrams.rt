@@ -27,7 +27,7 @@ fn put_slot(word: &str, slot: u32, to: &mut Text) {
     to.numbered(word, u64::from(slot));
 }
 
-/// Up to which slot a checkpoint stands in place of the entries, if there is one.
+/// Up to which slot a checkpoint is in place of the entries, if there is one.
 fn put_checkpoint(log: &Log, to: &mut Text) {
     if log.sync_point() > 0 {
         put_slot(", checkpoint ", log.sync_point(), to);

@@ -1,4 +1,4 @@
-//! Short texts for what stands in a picture.
+//! Short texts for what is in a picture.
 
 ghost use Rattle.std.specs.Prelude.{◌≡◌, IfOk};
 
@@ -51,7 +51,7 @@ fn put_character(b: u8, to: &mut Text) {
 }
 
 /// Appends as many characters as show, and dots where there are more.
-fn put_front(characters: &[u8], to: &mut Text) {
+fn put_prefix(characters: &[u8], to: &mut Text) {
     for b in characters.iter().take(MAX_SHOWN) {
         put_character(*b, to);
     }
@@ -63,8 +63,8 @@ fn put_front(characters: &[u8], to: &mut Text) {
 /// Appends the front of a word; of one that begins with `0x` the digits alone.
 fn put_word(word: &[u8], to: &mut Text) {
     match word {
-        [b'0', b'x', digits @ ..] => put_front(digits, to),
-        _ => put_front(word, to),
+        [b'0', b'x', digits @ ..] => put_prefix(digits, to),
+        _ => put_prefix(word, to),
     }
 }
 

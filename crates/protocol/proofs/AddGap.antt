@@ -10,7 +10,7 @@ use Rattle.started_views.specs.Past.{LeaderHad}
 use Rattle.lemmas.proofs.Members.{Has-none}
 use Rattle.protocol.specs.Conf.{Conf, after}
 use Rattle.protocol.specs.Invariant.{Own, Inv}
-use Rattle.protocol.specs.Member.{Member, leader}
+use Rattle.protocol.specs.LocalState.{LocalState, leader}
 use Rattle.protocol.specs.Moves.{say, add_gap, MayAddGap}
 use Rattle.protocol.specs.Said.{GapCommit, GapRep, says}
 use Rattle.protocol.specs.Truth.{LeaderHas}
@@ -22,7 +22,7 @@ use Rattle.protocol.proofs.Facts.{next_slot}
 use Rattle.protocol.proofs.Spoken.{one_spoken}
 
 module _ {S : Type 0} (m : Meaning S) (f : ℕ) (c : Conf) (r : ℕ) (inv : Inv m f c) (within : r < 2 * f + 1) where
-  abbrev p : Member
+  abbrev p : LocalState
   p = c.replicas r
 
   own : Own f c r p

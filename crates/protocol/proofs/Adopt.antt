@@ -13,7 +13,7 @@ use Rattle.lemmas.proofs.Members.{Has-none}
 use Rattle.lemmas.proofs.Slots.{slot_of-prefix}
 use Rattle.protocol.specs.Conf.{Conf, after}
 use Rattle.protocol.specs.Invariant.{Own, Inv}
-use Rattle.protocol.specs.Member.{Member}
+use Rattle.protocol.specs.LocalState.{LocalState}
 use Rattle.protocol.specs.Moves.{adopt, MayAdopt}
 use Rattle.protocol.specs.Said.{StartView, says}
 use Rattle.protocol.specs.Truth.{Begun}
@@ -25,7 +25,7 @@ use Rattle.protocol.proofs.Adopting.{adopted_keeps}
 use Rattle.protocol.proofs.Spoken.{none_spoken}
 
 module _ {S : Type 0} (m : Meaning S) (f : ℕ) (c : Conf) (r : ℕ) (inv : Inv m f c) (within : r < 2 * f + 1) where
-  abbrev p : Member
+  abbrev p : LocalState
   p = c.replicas r
 
   own : Own f c r p

@@ -19,7 +19,7 @@ use Rattle.oum_receiver.specs.Receiving as receiving
 use Rattle.protocol.specs.Conf.{Conf, after, HasOwner}
 use Rattle.protocol.specs.Evolves.{Evolves}
 use Rattle.protocol.specs.Invariant.{GoodLog, GoodStart, GoodQueue, Own, Inv}
-use Rattle.protocol.specs.Member.{Member, standing}
+use Rattle.protocol.specs.LocalState.{LocalState, standing}
 use Rattle.protocol.specs.Moves.{adopted, adopt_saying}
 use Rattle.protocol.specs.Said.{Said}
 use Rattle.protocol.specs.Truth.{TrueWord}
@@ -29,7 +29,7 @@ use Rattle.protocol.proofs.Stays.{own_lasts}
 use Rattle.protocol.proofs.Spoken.{IsSpokenIn}
 
 module _ {S : Type 0} (m : Meaning S) (f : ℕ) (c : Conf) (r : ℕ) (inv : Inv m f c) (within : r < 2 * f + 1) where
-  abbrev p : Member
+  abbrev p : LocalState
   p = c.replicas r
 
   own : Own f c r p
@@ -46,7 +46,7 @@ module _ {S : Type 0} (m : Meaning S) (f : ℕ) (c : Conf) (r : ℕ) (inv : Inv 
     pub words : (y : Said) → Has said y → TrueWord f d y.sender y.view y.word
 
   module _ (v : View) (x z : ℕ) (l : List Entry) (said : List Said) (up : AtMost p.view v) (below : Below p.last_normal v) where
-    abbrev s : Member
+    abbrev s : LocalState
     s = adopted p v x z l
 
     abbrev d : Conf

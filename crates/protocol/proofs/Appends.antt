@@ -27,7 +27,7 @@ use Rattle.lemmas.proofs.Prefixes.{IsPrefixOf-trans}
 use Rattle.protocol.specs.Conf.{Conf, Effect, DidSay, WasSubmitted, after}
 use Rattle.protocol.specs.Evolves.{Evolves}
 use Rattle.protocol.specs.Invariant.{GoodLog, TrueReply, Waits, Own, Inv}
-use Rattle.protocol.specs.Member.{Member}
+use Rattle.protocol.specs.LocalState.{LocalState}
 use Rattle.protocol.specs.Said.{Said, GapCommit, says}
 use Rattle.protocol.specs.Truth.{TrueWord}
 use Rattle.protocol.proofs.Growing.{Kept}
@@ -40,13 +40,13 @@ use Rattle.protocol.proofs.Spoken.{IsSpokenIn}
 
 module _ {S : Type 0} (m : Meaning S) (f : ℕ) (c : Conf) (r : ℕ) (inv : Inv m f c) (within : r < 2 * f + 1) (x : Entry) (rest : Receiving)
     (gap : Option Agreement) (said : List Said) (replies : List Reply) where
-  abbrev p : Member
+  abbrev p : LocalState
   p = c.replicas r
 
   abbrev l : List Entry
   l = p.log ++ x ∷ []
 
-  abbrev s : Member
+  abbrev s : LocalState
   s = record p { log = l; next = p.next + 1; receiver = rest; gap = gap }
 
   abbrev e : Effect

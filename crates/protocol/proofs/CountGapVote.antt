@@ -4,13 +4,13 @@ use Rattle.std.specs.Prelude.{nat_le}
 use Rattle.nop_types.specs.declared.replica_state.Vote.{Vote}
 use Rattle.nop_types.specs.declared.replica_state.Vote.TheVariants.{Settled, Waiting}
 use Rattle.nop_types.specs.Meaning.{Meaning}
-use Rattle.gap_agree.specs.Agreement.{Agreement, counted}
+use Rattle.gap_agree.specs.Agreement.{Agreement, gap_vote_counted}
 use Rattle.gap_agree.specs.Votes.{vote_of, with_vote}
 use Rattle.lemmas.proofs.Members.{Has-none}
 use Rattle.protocol.specs.Conf.{Conf, DidSay, after}
 use Rattle.protocol.specs.Evolves.{Evolves}
 use Rattle.protocol.specs.Invariant.{GoodLog, Waits, Own, Inv}
-use Rattle.protocol.specs.Member.{Member}
+use Rattle.protocol.specs.LocalState.{LocalState}
 use Rattle.protocol.specs.Moves.{count_gap_vote, MayCountGapVote, unless_settled}
 use Rattle.protocol.specs.Said.{GapRep}
 use Rattle.protocol.proofs.Growing.{Kept}
@@ -21,7 +21,7 @@ use Rattle.protocol.specs.Conf as conf
 use Rattle.protocol.proofs.Spoken.{none_spoken}
 
 module _ {S : Type 0} (m : Meaning S) (f : ℕ) (c : Conf) (r : ℕ) (inv : Inv m f c) (within : r < 2 * f + 1) where
-  abbrev p : Member
+  abbrev p : LocalState
   p = c.replicas r
 
   own : Own f c r p
@@ -34,7 +34,7 @@ module _ {S : Type 0} (m : Meaning S) (f : ℕ) (c : Conf) (r : ℕ) (inv : Inv 
     old : Waits f c.said r p.view p.status p.log g
     old = own.gap.waits g may.waits
 
-    voted : Waits f c.said r p.view p.status p.log (counted g q)
+    voted : Waits f c.said r p.view p.status p.log (gap_vote_counted g q)
     voted = record {
       count = old.count;
       normal = old.normal;
@@ -47,11 +47,11 @@ module _ {S : Type 0} (m : Meaning S) (f : ℕ) (c : Conf) (r : ℕ) (inv : Inv 
       voted = vote_holds (λ k. DidSay c.said k p.view (GapRep g.slot)) g.votes q may.vote.said old.voted;
     }
 
-    waits : (v : Vote) (h : Agreement) → unless_settled (counted g q) v ≡ Some h → Waits f c.said r p.view p.status p.log h
+    waits : (v : Vote) (h : Agreement) → unless_settled (gap_vote_counted g q) v ≡ Some h → Waits f c.said r p.view p.status p.log h
     waits Settled h e = absurd cc
-    waits Waiting h e = let same : counted g q ≡ h = cc in subst (Waits f c.said r p.view p.status p.log) same voted
+    waits Waiting h e = let same : gap_vote_counted g q ≡ h = cc in subst (Waits f c.said r p.view p.status p.log) same voted
 
-    settled : (v : Vote) → vote_of g.f (with_vote g.votes q) ≡ v → unless_settled (counted g q) v ≡ None
+    settled : (v : Vote) → vote_of g.f (with_vote g.votes q) ≡ v → unless_settled (gap_vote_counted g q) v ≡ None
         → conf.Settled f c.said p.view (length p.log)
     settled Waiting is none = absurd cc
     settled Settled is none =

@@ -21,7 +21,7 @@ use Rattle.oum_receiver.specs.Receiving as receiving
 use Rattle.view_change.specs.Gathering as gathering
 use Rattle.protocol.specs.Conf.{Conf, Effect, after}
 use Rattle.protocol.specs.Invariant.{GoodQueue, Gathers, GoodChanges, Own, Inv}
-use Rattle.protocol.specs.Member.{Member, PlainGathering, standing, leads, leader, others}
+use Rattle.protocol.specs.LocalState.{LocalState, PlainGathering, standing, leads, leader, max_faults}
 use Rattle.protocol.specs.Moves.{say_all, own_change, entered, enter_as, enter, MayEnter, say}
 use Rattle.protocol.specs.Said.{Said, Plain, ViewChange, says}
 use Rattle.protocol.specs.Truth.{TrueWord}
@@ -39,10 +39,10 @@ not_self w b e = not-both (is_view w w) (and_parts (not (is_view w w)) b e).0 (i
 
 module _ {S : Type 0} (m : Meaning S) (f : ℕ) (c : Conf) (r : ℕ) (inv : Inv m f c) (within : r < 2 * f + 1) (v : View)
     (may : MayEnter c (c.replicas r) v) where
-  abbrev p : Member
+  abbrev p : LocalState
   p = c.replicas r
 
-  abbrev t : Member
+  abbrev t : LocalState
   t = entered p v
 
   up : Below p.view v
@@ -61,7 +61,7 @@ module _ {S : Type 0} (m : Meaning S) (f : ℕ) (c : Conf) (r : ℕ) (inv : Inv 
   mine : leads t ≡ true → r ≡ leader_of v (2 * f + 1)
   mine e = sym own.number ∙ sym (eqb-true (leader t) p.number e) ∙ ap (leader_of v) own.replicas
 
-  others_are : others t ≡ f
+  others_are : max_faults t ≡ f
   others_are = half_of f p.replicas own.replicas
 
   abbrev starts : Bool
@@ -90,7 +90,7 @@ module _ {S : Type 0} (m : Meaning S) (f : ℕ) (c : Conf) (r : ℕ) (inv : Inv 
 
   -- the changes of its leader, and of another
   own_gathers : (past : Past) → past.entry r v ≡ Some (entered_with (standing p)) → leads t ≡ true
-      → Gathers f past r v Change (gathering.entered v (others t) (own_change t))
+      → Gathers f past r v Change (gathering.entered v (max_faults t) (own_change t))
   own_gathers past here is = record {
     view = refl;
     count = others_are;
@@ -109,9 +109,9 @@ module _ {S : Type 0} (m : Meaning S) (f : ℕ) (c : Conf) (r : ℕ) (inv : Inv 
       → GoodChanges f past r v Change (entered_with (standing p)) (enter_as b t).state.changes
   changes_good past here true is = record {
     entered = λ n. here;
-    gathers = λ g h. let same : gathering.entered v (others t) (own_change t) ≡ g = cc in
+    gathers = λ g h. let same : gathering.entered v (max_faults t) (own_change t) ≡ g = cc in
         subst (Gathers f past r v Change) same (own_gathers past here is);
-    leads = λ n a. (gathering.entered v (others t) (own_change t), refl);
+    leads = λ n a. (gathering.entered v (max_faults t) (own_change t), refl);
   }
   changes_good past here false is = record {
     entered = λ n. here;
@@ -121,18 +121,18 @@ module _ {S : Type 0} (m : Meaning S) (f : ℕ) (c : Conf) (r : ℕ) (inv : Inv 
 
   words : (d : Conf) → d.past.entry r v ≡ Some (entered_with (standing p)) → (b : Bool) (y : Said) → Has (enter_as b t).said y
       → TrueWord f d y.sender y.view y.word
-  words d here true y i = said_unless f d t Plain tt (others t == 0) y i
+  words d here true y i = said_unless f d t Plain tt (max_faults t == 0) y i
   words d here false y i = elim (Has-append_cases (say_all t Plain)
       (says p.number v (ViewChange p.last_normal p.next p.sync.sync_point p.log) ∷ []) y i) [
-        | inl g ↦ said_unless f d t Plain tt (others t == 0) y g
+        | inl g ↦ said_unless f d t Plain tt (max_faults t == 0) y g
         | inr g ↦ said_unless f d t (ViewChange p.last_normal p.next p.sync.sync_point p.log)
             (subst (λ (j : ℕ). d.past.entry j v ≡ Some (entered_with (standing p))) (sym own.number) here) false y g
       ]
 
   spoken : (b : Bool) → IsSpokenIn v (enter_as b t).said
-  spoken true = unless_spoken (others t == 0) t Plain
+  spoken true = unless_spoken (max_faults t == 0) t Plain
   spoken false = both_spoken v (say_all t Plain) (say t (ViewChange p.last_normal p.next p.sync.sync_point p.log))
-      (unless_spoken (others t == 0) t Plain) (one_spoken t (ViewChange p.last_normal p.next p.sync.sync_point p.log))
+      (unless_spoken (max_faults t == 0) t Plain) (one_spoken t (ViewChange p.last_normal p.next p.sync.sync_point p.log))
 
   -- with these changes, saying this
   module _ (g : Option PlainGathering) (said : List Said) where

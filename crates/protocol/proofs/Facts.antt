@@ -34,7 +34,7 @@ drop_get zero l i = let e : i ≡ zero + i = omega arith in ap (slice_get l) e
 drop_get (suc s) [] i = refl
 drop_get (suc s) (x ∷ l) i = let e : suc (s + i) ≡ suc s + i = omega arith in drop_get s l i ∙ ap (slice_get (x ∷ l)) e
 
--- ---- how often a number stands in a list
+-- ---- how often a number is in a list
 
 pub counts_has : (xs : List ℕ) (k : ℕ) → 1 ≤ counts k xs → Has xs k
 counts_has [] k h = absurd (omega (arith, h))

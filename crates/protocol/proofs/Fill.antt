@@ -14,7 +14,7 @@ use Rattle.lemmas.proofs.Members.{Has-none}
 use Rattle.lemmas.proofs.Prefixes.{length-prefix}
 use Rattle.protocol.specs.Conf.{Conf, after}
 use Rattle.protocol.specs.Invariant.{Own, Inv}
-use Rattle.protocol.specs.Member.{Member, leads, leader}
+use Rattle.protocol.specs.LocalState.{LocalState, leads, leader}
 use Rattle.protocol.specs.Moves.{appended, fill, MayFill}
 use Rattle.protocol.specs.Replies.{reply_to}
 use Rattle.protocol.specs.Said.{Found, says}
@@ -28,7 +28,7 @@ use Rattle.protocol.proofs.Facts.{next_slot}
 use Rattle.protocol.proofs.Spoken.{none_spoken}
 
 module _ {S : Type 0} (m : Meaning S) (f : ℕ) (c : Conf) (r : ℕ) (inv : Inv m f c) (within : r < 2 * f + 1) where
-  abbrev p : Member
+  abbrev p : LocalState
   p = c.replicas r
 
   own : Own f c r p

@@ -14,7 +14,7 @@ use Rattle.view_change.specs.Gathering as gathering
 use Rattle.protocol.specs.Conf.{Conf, after}
 use Rattle.protocol.specs.Evolves.{Evolves}
 use Rattle.protocol.specs.Invariant.{GoodLog, Gathers, Own, Inv}
-use Rattle.protocol.specs.Member.{Member, PlainGathering}
+use Rattle.protocol.specs.LocalState.{LocalState, PlainGathering}
 use Rattle.protocol.specs.Moves.{keep_change, MayKeepChange}
 use Rattle.protocol.specs.Said.{ViewChange, says}
 use Rattle.protocol.proofs.Growing.{Kept}
@@ -24,7 +24,7 @@ use Rattle.protocol.proofs.Facts.{counts_member, counts_push, zero_unless}
 use Rattle.protocol.proofs.Spoken.{none_spoken}
 
 module _ {S : Type 0} (m : Meaning S) (f : ℕ) (c : Conf) (r : ℕ) (inv : Inv m f c) (within : r < 2 * f + 1) where
-  abbrev p : Member
+  abbrev p : LocalState
   p = c.replicas r
 
   own : Own f c r p
@@ -87,7 +87,7 @@ module _ {S : Type 0} (m : Meaning S) (f : ℕ) (c : Conf) (r : ℕ) (inv : Inv 
     pub keep_change_keeps : Kept m f c (after f c r (keep_change p g x))
     keep_change_keeps = local_keeps m f c r (keep_change p g x) inv within refl refl (turns_same f c r) (λ d ev had.
         let o : Own f d r p = own_lasts m f c d ev r p own in
-        let more : Gathers f d.past r p.view p.status (gathering.counted plain.sender_of g x) =
+        let more : Gathers f d.past r p.view p.status (gathering.change_added plain.sender_of g x) =
         with_it d.past (ev.entries x.sender p.view e is_entry)
         (o.changes.gathers g may.gathers) (has_sender plain.sender_of g.changes x.sender) refl in
         record {
@@ -104,9 +104,9 @@ module _ {S : Type 0} (m : Meaning S) (f : ℕ) (c : Conf) (r : ℕ) (inv : Inv 
             changes = record {
               entered = o.changes.entered;
               gathers = λ h e.
-                  let same : gathering.counted plain.sender_of g x ≡ h = cc in
+                  let same : gathering.change_added plain.sender_of g x ≡ h = cc in
                   subst (Gathers f d.past r p.view p.status) same more;
-              leads = λ n a. (gathering.counted plain.sender_of g x, refl);
+              leads = λ n a. (gathering.change_added plain.sender_of g x, refl);
             };
           };
         })

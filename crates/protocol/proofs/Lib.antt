@@ -36,7 +36,7 @@ pub mod Stamp
 pub mod Stays
 pub mod Submit
 pub mod TakeFront
-pub mod Tell
+pub mod AddLines
 pub mod Turning
 pub mod Votes
 pub mod Worked

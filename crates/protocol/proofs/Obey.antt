@@ -5,14 +5,14 @@ use Rattle.nop_types.specs.Meaning.{Meaning}
 use Rattle.lemmas.proofs.Members.{Has-none}
 use Rattle.protocol.specs.Conf.{Conf, after}
 use Rattle.protocol.specs.Invariant.{Own, Inv}
-use Rattle.protocol.specs.Member.{Member}
+use Rattle.protocol.specs.LocalState.{LocalState}
 use Rattle.protocol.specs.Moves.{obey}
 use Rattle.protocol.proofs.Growing.{Kept}
 use Rattle.protocol.proofs.Saying.{speaks, not_both}
 use Rattle.protocol.proofs.Spoken.{none_spoken}
 
 module _ {S : Type 0} (m : Meaning S) (f : ℕ) (c : Conf) (r : ℕ) (inv : Inv m f c) (within : r < 2 * f + 1) where
-  abbrev p : Member
+  abbrev p : LocalState
   p = c.replicas r
 
   own : Own f c r p

@@ -9,7 +9,7 @@ use Rattle.lemmas.proofs.Prefixes.{IsPrefixOf-refl}
 use Rattle.protocol.specs.Conf.{Conf, after}
 use Rattle.protocol.specs.Evolves.{Evolves}
 use Rattle.protocol.specs.Invariant.{Own, Inv}
-use Rattle.protocol.specs.Member.{Member, others}
+use Rattle.protocol.specs.LocalState.{LocalState, max_faults}
 use Rattle.protocol.specs.Moves.{open_sync, MayOpenSync}
 use Rattle.protocol.specs.Said.{SyncPrepare}
 use Rattle.protocol.specs.Truth.{Prepared}
@@ -20,7 +20,7 @@ use Rattle.protocol.proofs.Saying.{said_unless, speaks, not_both}
 use Rattle.protocol.proofs.Spoken.{unless_spoken}
 
 module _ {S : Type 0} (m : Meaning S) (f : ℕ) (c : Conf) (r : ℕ) (inv : Inv m f c) (within : r < 2 * f + 1) where
-  abbrev p : Member
+  abbrev p : LocalState
   p = c.replicas r
 
   own : Own f c r p
@@ -28,8 +28,8 @@ module _ {S : Type 0} (m : Meaning S) (f : ℕ) (c : Conf) (r : ℕ) (inv : Inv 
 
   pub open_sync_keeps : MayOpenSync p → Kept m f c (after f c r (open_sync p))
   open_sync_keeps may = speaks m f c r inv within (open_sync p).state.sync (open_sync p).said
-      (λ n. absurd (not_both may.may_lead.normal n)) (unless_spoken (others p == 0) p (SyncPrepare p.sync.sync_point p.log))
-      (λ d ev had. said_unless f d p (SyncPrepare p.sync.sync_point p.log) (prepared d ev had) (others p == 0))
+      (λ n. absurd (not_both may.may_lead.normal n)) (unless_spoken (max_faults p == 0) p (SyncPrepare p.sync.sync_point p.log))
+      (λ d ev had. said_unless f d p (SyncPrepare p.sync.sync_point p.log) (prepared d ev had) (max_faults p == 0))
     where
       view : p.last_normal ≡ p.view
       view = own.place.normal may.may_lead.normal

@@ -21,7 +21,7 @@ use Rattle.view_change.specs.Gathering.{IsOfSender}
 use Rattle.nop_types.specs.PlainChanges as plain
 use Rattle.protocol.specs.Conf.{Conf, WasSubmitted, after}
 use Rattle.protocol.specs.Invariant.{Gathers, Own, Inv}
-use Rattle.protocol.specs.Member.{Member, PlainGathering, standing, others}
+use Rattle.protocol.specs.LocalState.{LocalState, PlainGathering, standing, max_faults}
 use Rattle.protocol.specs.Moves.{say_all, adopted, open_view, MayOpenView}
 use Rattle.protocol.specs.Said.{StartView}
 use Rattle.protocol.proofs.Growing.{Kept}
@@ -39,10 +39,10 @@ merge_from cs k x e = at (winner cs k)
     at (Nobody none nobody) = absurd cc
     at (Somebody w slot has wins) =
         let same : w.entry ≡ x = cc in
-        (has.told.change, has.told.member, ap (λ (l : List Entry). slot_of l k) has.told.log ∙ has.entry ∙ ap (λ (y : Entry). Some y) same)
+        (has.source.change, has.source.member, ap (λ (l : List Entry). slot_of l k) has.source.log ∙ has.entry ∙ ap (λ (y : Entry). Some y) same)
 
 module _ {S : Type 0} (m : Meaning S) (f : ℕ) (c : Conf) (r : ℕ) (inv : Inv m f c) (within : r < 2 * f + 1) where
-  abbrev p : Member
+  abbrev p : LocalState
   p = c.replicas r
 
   own : Own f c r p
@@ -124,7 +124,7 @@ module _ {S : Type 0} (m : Meaning S) (f : ℕ) (c : Conf) (r : ℕ) (inv : Inv 
             };
           };
           session = inv.views r;
-          spoken = unless_spoken (others p == 0) p (StartView s.next z s.log);
+          spoken = unless_spoken (max_faults p == 0) p (StartView s.next z s.log);
           words = said_unless f d p (StartView s.next z s.log) (record {
             sender = own.number ∙ t.leads;
             start = s;
@@ -134,5 +134,5 @@ module _ {S : Type 0} (m : Meaning S) (f : ℕ) (c : Conf) (r : ℕ) (inv : Inv 
             within = omega arith;
             begins = IsPrefixOf-refl s.log;
             counted = refl;
-          }) (others p == 0);
+          }) (max_faults p == 0);
         })

@@ -25,7 +25,7 @@ use Rattle.client_quorum.proofs.OpenRequests.{opening_keeps_none, opening_opens_
 use Rattle.started_views.specs.Quorums.{counts}
 use Rattle.protocol.specs.Invariant.{GoodSequencer, GoodLog, Own, Inv}
 use Rattle.protocol.specs.Laws.{OpeningMeets}
-use Rattle.protocol.specs.Member.{fresh}
+use Rattle.protocol.specs.LocalState.{fresh}
 
 none_there : (x : Entry) (k : ℕ) → slot_of [] k ≡ Some x → ⊥
 none_there x k e = let h = slot_of-within [] k x e in omega (arith, h.0, h.1)

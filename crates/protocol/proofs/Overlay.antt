@@ -14,7 +14,7 @@ use Rattle.lemmas.proofs.Slots.{slot_of-prefix, length-laid, slot_of-laid_cases}
 use Rattle.sync_points.specs.Synchronisation.{raised, taken}
 use Rattle.protocol.specs.Conf.{Conf, after}
 use Rattle.protocol.specs.Invariant.{Own, Inv}
-use Rattle.protocol.specs.Member.{Member, leader}
+use Rattle.protocol.specs.LocalState.{LocalState, leader}
 use Rattle.protocol.specs.Moves.{say, overlaid, overlay, MayOverlay}
 use Rattle.protocol.specs.Replies.{replies_above}
 use Rattle.protocol.specs.Said.{SyncPrepare, SyncRep, says}
@@ -27,7 +27,7 @@ use Rattle.protocol.proofs.Saying.{said_unless}
 use Rattle.protocol.proofs.Spoken.{one_spoken}
 
 module _ {S : Type 0} (m : Meaning S) (f : ℕ) (c : Conf) (r : ℕ) (inv : Inv m f c) (within : r < 2 * f + 1) where
-  abbrev p : Member
+  abbrev p : LocalState
   p = c.replicas r
 
   own : Own f c r p

@@ -11,13 +11,13 @@ use Rattle.nop_types.specs.declared.replica_state.Phase.TheVariants.{Normal, Cha
 use Rattle.lemmas.proofs.Views.{AtMost-refl, AtMost-trans, AtMost-antisym}
 use Rattle.protocol.specs.Conf.{Conf}
 use Rattle.protocol.specs.Invariant.{Own, Inv}
-use Rattle.protocol.specs.Member.{Member, leads, leader}
+use Rattle.protocol.specs.LocalState.{LocalState, leads, leader}
 use Rattle.protocol.specs.Moves.{MayFollow}
 use Rattle.protocol.specs.Said.{Word}
 use Rattle.protocol.proofs.Replying.{leads_from}
 
 module _ {S : Type 0} (m : Meaning S) (f : ℕ) (c : Conf) (r : ℕ) (inv : Inv m f c) (within : r < 2 * f + 1) where
-  abbrev p : Member
+  abbrev p : LocalState
   p = c.replicas r
 
   own : Own f c r p

@@ -11,7 +11,7 @@ use Rattle.lemmas.proofs.Members.{Has-none}
 use Rattle.protocol.specs.Conf.{Conf, after}
 use Rattle.protocol.specs.Evolves.{Evolves}
 use Rattle.protocol.specs.Invariant.{GoodLog, Own, Inv}
-use Rattle.protocol.specs.Member.{Member}
+use Rattle.protocol.specs.LocalState.{LocalState}
 use Rattle.protocol.specs.Moves.{queue}
 use Rattle.protocol.proofs.Growing.{Kept}
 use Rattle.protocol.proofs.Local.{turns_same, local_keeps}
@@ -24,7 +24,7 @@ offered_same x Queued p = (refl, refl)
 offered_same x _ p = (refl, refl)
 
 module _ {S : Type 0} (m : Meaning S) (f : ℕ) (c : Conf) (r : ℕ) (inv : Inv m f c) (within : r < 2 * f + 1) where
-  abbrev p : Member
+  abbrev p : LocalState
   p = c.replicas r
 
   own : Own f c r p

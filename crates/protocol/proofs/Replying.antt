@@ -16,15 +16,15 @@ use Rattle.std.proofs.lemmas.Bool.{eq-eqb}
 use Rattle.lemmas.proofs.Slots.{slot_of-within}
 use Rattle.protocol.specs.Conf.{Conf}
 use Rattle.protocol.specs.Invariant.{TrueReply}
-use Rattle.protocol.specs.Member.{Member, leads}
+use Rattle.protocol.specs.LocalState.{LocalState, leads}
 use Rattle.protocol.specs.Replies.{reply_with, leader_reply, reply_if, reply_for, replies_to, replies_above}
 use Rattle.protocol.proofs.Facts.{drop_get}
 
 -- who leads by its own number does
-pub leads_from : (f : ℕ) (p : Member) → p.replicas ≡ 2 * f + 1 → p.number ≡ leader_of p.view (2 * f + 1) → leads p ≡ true
+pub leads_from : (f : ℕ) (p : LocalState) → p.replicas ≡ 2 * f + 1 → p.number ≡ leader_of p.view (2 * f + 1) → leads p ≡ true
 leads_from f p n s = eq-eqb (leader_of p.view p.replicas) p.number (ap (λ (n : ℕ). leader_of p.view n) n ∙ sym s)
 
-module _ {S : Type 0} (m : Meaning S) (f : ℕ) (d : Conf) (p : Member) (count : p.replicas ≡ 2 * f + 1)
+module _ {S : Type 0} (m : Meaning S) (f : ℕ) (d : Conf) (p : LocalState) (count : p.replicas ≡ 2 * f + 1)
     (had : HadLog d.past p.number p.view p.log) where
   one_true : (k : ℕ) (q : Request) (tag : ℕ) (result : List ℕ) → slot_of p.log k ≡ Some (Req q)
       → (p.number ≡ leader_of p.view (2 * f + 1) → tag ≡ 1)

@@ -6,7 +6,7 @@ use Rattle.protocol.specs.Invariant.{Inv}
 use Rattle.protocol.specs.Laws.{MovesKeep, ViewsNeverFall}
 use Rattle.protocol.specs.Runs.{Act, Queue, TakeFront, Fill, OpenGap, CountGapVote, WriteGap, AddGap, Enter, KeepChange, OpenView, Adopt}
 use Rattle.protocol.specs.Runs.{Say, Overlay, Obey, OpenSync, CountSyncVote, RepeatCommit, Move, Acts, MoveTo, Installed, Install, Stamp}
-use Rattle.protocol.specs.Runs.{Submit, Keep, Accept, Tell, happens, May, run, MayAll}
+use Rattle.protocol.specs.Runs.{Submit, Keep, Accept, AddLines, happens, May, run, MayAll}
 use Rattle.protocol.proofs.Accept.{accept_keeps}
 use Rattle.protocol.proofs.Adopt.{adopt_keeps}
 use Rattle.protocol.proofs.OpenView.{open_view_keeps}
@@ -31,7 +31,7 @@ use Rattle.protocol.proofs.AddGap.{add_gap_keeps}
 use Rattle.protocol.proofs.Stamp.{stamp_keeps}
 use Rattle.protocol.proofs.Stays.{evolves_refl, evolves_trans}
 use Rattle.protocol.proofs.Submit.{submit_keeps}
-use Rattle.protocol.proofs.Tell.{tell_keeps}
+use Rattle.protocol.proofs.AddLines.{add_lines_keeps}
 use Rattle.protocol.proofs.CountGapVote.{count_gap_vote_keeps}
 use Rattle.protocol.proofs.KeepChange.{keep_change_keeps}
 
@@ -64,7 +64,7 @@ module _ {S : Type 0} (m : Meaning S) (f : ℕ) where
   happens_keeps c (Submit k op waiting) inv may = submit_keeps m f c inv k op waiting may
   happens_keeps c (Keep k p) inv may = keep_keeps m f c inv k p may
   happens_keeps c (Accept k p leaders) inv may = accept_keeps m f c inv k p leaders may
-  happens_keeps c (Tell more) inv may = tell_keeps m f c inv more may
+  happens_keeps c (AddLines more) inv may = add_lines_keeps m f c inv more may
 
   pub run_keeps : (c : Conf) (xs : List Move) → Inv m f c → MayAll m f c xs → Kept m f c (run m f c xs)
   run_keeps c [] inv may = (inv, evolves_refl m f c inv)

@@ -3,7 +3,7 @@ use Rattle.std.proofs.Common.{refl, ℕ, ◌+◌, ◌*◌, ◌<◌, false}
 use Rattle.nop_types.specs.Meaning.{Meaning}
 use Rattle.protocol.specs.Conf.{Conf, after}
 use Rattle.protocol.specs.Invariant.{Own, Inv}
-use Rattle.protocol.specs.Member.{Member}
+use Rattle.protocol.specs.LocalState.{LocalState}
 use Rattle.protocol.specs.Moves.{say, say_again, MaySay}
 use Rattle.protocol.specs.Said.{Word}
 use Rattle.protocol.proofs.Growing.{Kept}
@@ -12,7 +12,7 @@ use Rattle.protocol.proofs.Saying.{said_unless, true_again, speaks}
 use Rattle.protocol.proofs.Spoken.{one_spoken}
 
 module _ {S : Type 0} (m : Meaning S) (f : ℕ) (c : Conf) (r : ℕ) (inv : Inv m f c) (within : r < 2 * f + 1) where
-  abbrev p : Member
+  abbrev p : LocalState
   p = c.replicas r
 
   own : Own f c r p

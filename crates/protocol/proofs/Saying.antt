@@ -12,7 +12,7 @@ use Rattle.sync_points.specs.Synchronisation.{Synchronisation}
 use Rattle.protocol.specs.Conf.{Conf, after}
 use Rattle.protocol.specs.Evolves.{Evolves}
 use Rattle.protocol.specs.Invariant.{Own, Inv, GoodLog}
-use Rattle.protocol.specs.Member.{Member, leader}
+use Rattle.protocol.specs.LocalState.{LocalState, leader}
 use Rattle.protocol.specs.Moves.{say_unless, MayFollow}
 use Rattle.protocol.specs.Said.{Word, Found, GapCommit, GapRep, says, Said, Plain, ViewChange, StartView, SyncPrepare, SyncRep, SyncCommit}
 use Rattle.protocol.specs.Truth.{LeaderHas, Answered, MayRepeat, TrueWord}
@@ -25,7 +25,7 @@ use Rattle.nop_types.specs.declared.replica_state.Phase.TheVariants.{Normal, Cha
 use Rattle.protocol.proofs.Spoken.{IsSpokenIn}
 
 -- what is said unless the replica is alone
-pub said_unless : (f : ℕ) (d : Conf) (p : Member) (x : Word) → TrueWord f d p.number p.view x → (b : Bool) (y : Said)
+pub said_unless : (f : ℕ) (d : Conf) (p : LocalState) (x : Word) → TrueWord f d p.number p.view x → (b : Bool) (y : Said)
     → Has (say_unless b p x) y → TrueWord f d y.sender y.view y.word
 said_unless f d p x t true y i = absurd (Has-none y i)
 said_unless f d p x t false y i = subst (λ (z : Said). TrueWord f d z.sender z.view z.word) (sym (Has-one y (says p.number p.view x) i)) t
@@ -47,7 +47,7 @@ pub not_both : {a : Phase} → a ≡ Normal → a ≡ Change → ⊥
 not_both e g = let both : Normal ≡ Change = sym e ∙ g in cc
 
 module _ {S : Type 0} (m : Meaning S) (f : ℕ) (c : Conf) (r : ℕ) (inv : Inv m f c) (within : r < 2 * f + 1) where
-  abbrev p : Member
+  abbrev p : LocalState
   p = c.replicas r
 
   own : Own f c r p
@@ -93,7 +93,7 @@ module _ {S : Type 0} (m : Meaning S) (f : ℕ) (c : Conf) (r : ℕ) (inv : Inv 
         };
       })
 
-  -- the answer, once the NO-OP stands in the log
+  -- the answer, once the NO-OP is in the log
   pub answered : (d : Conf) → Evolves f c d → (l : List Entry) (k : ℕ) → MayFollow c p (GapCommit k) → HadLog d.past r p.last_normal l
       → slot_of l k ≡ Some NoOp → Answered f d p.number p.view k
   answered d ev l k may had e =

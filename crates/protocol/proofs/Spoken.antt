@@ -4,7 +4,7 @@ use Rattle.nop_types.specs.declared.view.View.{View}
 use Rattle.nop_types.specs.Lists.{Has}
 use Rattle.lemmas.proofs.Members.{Has-none, Has-one, Has-append_cases}
 use Rattle.protocol.specs.Conf.{Conf, HasOwner}
-use Rattle.protocol.specs.Member.{Member}
+use Rattle.protocol.specs.LocalState.{LocalState}
 use Rattle.protocol.specs.Moves.{say, say_unless}
 use Rattle.protocol.specs.Said.{Said, Word, says}
 
@@ -14,10 +14,10 @@ IsSpokenIn v said = (y : Said) → Has said y → y.view ≡ v
 pub none_spoken : (v : View) → IsSpokenIn v []
 none_spoken v y i = absurd (Has-none y i)
 
-pub one_spoken : (p : Member) (x : Word) → IsSpokenIn p.view (say p x)
+pub one_spoken : (p : LocalState) (x : Word) → IsSpokenIn p.view (say p x)
 one_spoken p x y i = ap (λ (z : Said). z.view) (Has-one y (says p.number p.view x) i)
 
-pub unless_spoken : (b : Bool) (p : Member) (x : Word) → IsSpokenIn p.view (say_unless b p x)
+pub unless_spoken : (b : Bool) (p : LocalState) (x : Word) → IsSpokenIn p.view (say_unless b p x)
 unless_spoken true p x = none_spoken p.view
 unless_spoken false p x = one_spoken p x
 

@@ -10,7 +10,7 @@ use Rattle.oum_receiver.proofs.Stamps.{front_stamped, taken_stamped}
 use Rattle.lemmas.proofs.Members.{Has-none}
 use Rattle.protocol.specs.Conf.{Conf, after}
 use Rattle.protocol.specs.Invariant.{Own, Inv}
-use Rattle.protocol.specs.Member.{Member, leads}
+use Rattle.protocol.specs.LocalState.{LocalState, leads}
 use Rattle.protocol.specs.Moves.{logged, take_front, MayTakeFront}
 use Rattle.protocol.specs.Replies.{reply_to}
 use Rattle.protocol.proofs.Appends.{append_keeps}
@@ -21,7 +21,7 @@ use Rattle.protocol.proofs.Facts.{next_slot}
 use Rattle.protocol.proofs.Spoken.{none_spoken}
 
 module _ {S : Type 0} (m : Meaning S) (f : ℕ) (c : Conf) (r : ℕ) (inv : Inv m f c) (within : r < 2 * f + 1) where
-  abbrev p : Member
+  abbrev p : LocalState
   p = c.replicas r
 
   own : Own f c r p

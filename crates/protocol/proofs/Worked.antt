@@ -11,7 +11,7 @@ use Rattle.execution_laws.proofs.Accounts.{kept_for-insert}
 use Rattle.protocol.specs.Conf.{opening, last_normals}
 use Rattle.protocol.specs.Runs.{run, MayAll}
 use Rattle.protocol.specs.Worked.{three, view, put_request, get_request, gap_run, GapRun, GapRunEnds, session_run, SessionRun}
-use Rattle.protocol.specs.Worked.{SessionRunEnds, sync_run, SyncRun, SyncRunEnds, told_run, ToldRun, ToldRunEnds}
+use Rattle.protocol.specs.Worked.{SessionRunEnds, sync_run, SyncRun, SyncRunEnds, log_sent_run, LogSentRun, LogSentRunEnds}
 use Rattle.oum_receiver.proofs.Lone.{front_first, front_second, front_passed, front_early, front_late}
 
 -- the replicas
@@ -190,9 +190,9 @@ module _ {S : Type 0} (m : Meaning S) where
   pub sync_run_ends : SyncRunEnds m
   sync_run_ends = (sync_allowed, sync_ends)
 
-  told_allowed : MayAll m 1 (run m 1 (opening (three 1 1)) (sync_run m)) (told_run m)
+  log_sent_allowed : MayAll m 1 (run m 1 (opening (three 1 1)) (sync_run m)) (log_sent_run m)
   unfolding with_vote
-  told_allowed =
+  log_sent_allowed =
       also (
         zero_of,
         record {
@@ -211,12 +211,12 @@ module _ {S : Type 0} (m : Meaning S) where
       (also (one_of, record { normal = refl; follows = refl; said = (0, refl) })
       tt)
 
-  told_ends : ToldRun m (run m 1 (run m 1 (opening (three 1 1)) (sync_run m)) (told_run m))
+  log_sent_ends : LogSentRun m (run m 1 (run m 1 (opening (three 1 1)) (sync_run m)) (log_sent_run m))
   unfolding with_vote
-  told_ends = record {
+  log_sent_ends = record {
     second = record { status = refl; view = refl; last_normal = refl; log = refl; sync_point = refl };
     replies = refl;
   }
 
-  pub told_run_ends : ToldRunEnds m
-  told_run_ends = (told_allowed, told_ends)
+  pub log_sent_run_ends : LogSentRunEnds m
+  log_sent_run_ends = (log_sent_allowed, log_sent_ends)

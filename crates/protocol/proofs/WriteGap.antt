@@ -12,7 +12,7 @@ use Rattle.started_views.proofs.Logs.{toward_write}
 use Rattle.lemmas.proofs.Slots.{slot_of-within, length-set_slot, slot_of-set_here, slot_of-set_cases}
 use Rattle.protocol.specs.Conf.{Conf, after}
 use Rattle.protocol.specs.Invariant.{Own, Inv}
-use Rattle.protocol.specs.Member.{Member, leader}
+use Rattle.protocol.specs.LocalState.{LocalState, leader}
 use Rattle.protocol.specs.Moves.{say, write_gap, MayWriteGap}
 use Rattle.protocol.specs.Said.{GapCommit, GapRep, says}
 use Rattle.protocol.specs.Truth.{LeaderHas}
@@ -23,7 +23,7 @@ use Rattle.protocol.proofs.Saying.{said_unless, answered}
 use Rattle.protocol.proofs.Spoken.{one_spoken}
 
 module _ {S : Type 0} (m : Meaning S) (f : ℕ) (c : Conf) (r : ℕ) (inv : Inv m f c) (within : r < 2 * f + 1) where
-  abbrev p : Member
+  abbrev p : LocalState
   p = c.replicas r
 
   own : Own f c r p

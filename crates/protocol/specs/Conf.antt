@@ -16,7 +16,7 @@ use Rattle.sequencer.specs.declared.state.SequencerState.{SequencerState}
 use Rattle.sequencer.specs.SequencerSteps as sequencer
 use Rattle.started_views.specs.Past.{Past, first_past, note}
 use Rattle.started_views.specs.Quorums.{Others}
-use Rattle.protocol.specs.Member.{Member, fresh, standing}
+use Rattle.protocol.specs.LocalState.{LocalState, fresh, standing}
 use Rattle.protocol.specs.Said.{Said, Word, GapRep, says}
 
 -- a controller: the last session that it gave out, to which sequencer, and whether that confirmed it
@@ -32,7 +32,7 @@ pub record Install : Type 0 where
 
 -- each list has all that was ever sent, the newest first; the lines have the oldest first
 pub record Conf : Type 0 where
-  pub replicas : ℕ → Member
+  pub replicas : ℕ → LocalState
   pub sequencers : ℕ → SequencerState
   pub clients : ℕ → ClientState
   pub controllers : ℕ → Control
@@ -69,7 +69,7 @@ opening config =
 
 -- what a move makes of a replica, and what it sends
 pub record Effect : Type 0 where
-  pub state : Member
+  pub state : LocalState
   pub said : List Said
   pub replies : List Reply
 

@@ -31,7 +31,7 @@ use Rattle.started_views.specs.Quorums.{counts, Quorum}
 use Rattle.started_views.specs.Settled.{Certificate}
 use Rattle.view_change.specs.Gathering.{IsOfSender}
 use Rattle.protocol.specs.Conf.{Conf, Control, Install, DidSay, Settled, WasSubmitted, Owns, HasOwner}
-use Rattle.protocol.specs.Member.{Member, PlainGathering, standing}
+use Rattle.protocol.specs.LocalState.{LocalState, PlainGathering, standing}
 use Rattle.protocol.specs.Said.{Said, GapCommit, GapRep}
 use Rattle.protocol.specs.Truth.{TrueWord}
 
@@ -182,7 +182,7 @@ pub record GoodChanges (f : ℕ) (past : Past) (r : ℕ) (view : View) (status :
   pub gathers : (g : PlainGathering) → changes ≡ Some g → Gathers f past r view status g
   pub leads : status ≡ Change → r ≡ leader_of view (2 * f + 1) → (g : PlainGathering) × (changes ≡ Some g)
 
-pub record Own (f : ℕ) (c : Conf) (r : ℕ) (p : Member) : Type 0 where
+pub record Own (f : ℕ) (c : Conf) (r : ℕ) (p : LocalState) : Type 0 where
   pub number : p.number ≡ r
   pub replicas : p.replicas ≡ 2 * f + 1
   pub place : GoodPlace f c.past r p.status (standing p)

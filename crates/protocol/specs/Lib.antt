@@ -1,4 +1,4 @@
-pub mod Member
+pub mod LocalState
 pub mod Said
 pub mod Conf
 pub mod Replies

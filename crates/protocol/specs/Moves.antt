@@ -21,7 +21,7 @@ use Rattle.execution_laws.specs.Legality.{IsOtherLine}
 use Rattle.client_quorum.specs.ClientSteps.{request_of, submitted, is_expected, kept, accepts}
 use Rattle.client_quorum.specs.KeptReplies.{quorum_of}
 use Rattle.client_quorum.specs.OpenRequests.{has_room, kept_for}
-use Rattle.gap_agree.specs.Agreement.{Agreement, begun, counted}
+use Rattle.gap_agree.specs.Agreement.{Agreement, begun, gap_vote_counted}
 use Rattle.gap_agree.specs.Votes.{vote_of}
 use Rattle.log_merge.specs.Starting.{start_of, start_point}
 use Rattle.oum_receiver.specs.Front.{Message}
@@ -34,37 +34,37 @@ use Rattle.sync_points.specs.Synchronisation as synchronisation
 use Rattle.view_change.specs.Gathering as gathering
 use Rattle.protocol.specs.Conf.{Conf, Effect, DidSay, HasOwner}
 use Rattle.lemmas.specs.Functions.{put}
-use Rattle.protocol.specs.Member.{Member, PlainGathering, leads, leader, others}
+use Rattle.protocol.specs.LocalState.{LocalState, PlainGathering, leads, leader, max_faults}
 use Rattle.protocol.specs.Replies.{reply_to, replies_above}
 use Rattle.protocol.specs.Said.{Said, Word, Plain, Found, GapCommit, GapRep, ViewChange, StartView, SyncPrepare, SyncRep, SyncCommit, says}
 use Rattle.protocol.specs.Truth.{MayRepeat}
 
 -- ---- what a replica says
 
-abbrev pub say : Member → Word → List Said
+abbrev pub say : LocalState → Word → List Said
 say p x = says p.number p.view x ∷ []
 
-abbrev pub say_unless : Bool → Member → Word → List Said
+abbrev pub say_unless : Bool → LocalState → Word → List Said
 say_unless true p x = []
 say_unless false p x = say p x
 
 -- a replica that is alone says nothing
-abbrev pub say_all : Member → Word → List Said
-say_all p x = say_unless (others p == 0) p x
+abbrev pub say_all : LocalState → Word → List Said
+say_all p x = say_unless (max_faults p == 0) p x
 
 -- who leads in Normal
-pub record MayLead (p : Member) : Type 0 where
+pub record MayLead (p : LocalState) : Type 0 where
   pub normal : p.status ≡ Normal
   pub leads : leads p ≡ true
 
 -- who follows in Normal, and what its leader said
-pub record MayFollow (c : Conf) (p : Member) (x : Word) : Type 0 where
+pub record MayFollow (c : Conf) (p : LocalState) (x : Word) : Type 0 where
   pub normal : p.status ≡ Normal
   pub follows : leads p ≡ false
   pub said : DidSay c.said (leader p) p.view x
 
 -- another replica said it in this view
-pub record DidAnother (f : ℕ) (c : Conf) (p : Member) (q : ℕ) (x : Word) : Type 0 where
+pub record DidAnother (f : ℕ) (c : Conf) (p : LocalState) (q : ℕ) (x : Word) : Type 0 where
   pub said : DidSay c.said q p.view x
   pub within : q < 2 * f + 1
   pub apart : q ≡ p.number → ⊥
@@ -72,32 +72,32 @@ pub record DidAnother (f : ℕ) (c : Conf) (p : Member) (q : ℕ) (x : Word) : T
 -- ---- the receiver
 
 -- a packet is offered
-abbrev pub queue : Member → Stamped → Effect
+abbrev pub queue : LocalState → Stamped → Effect
 queue p x = record { state = record p { receiver = offered p.receiver x }; said = []; replies = [] }
 
 -- ---- the next slot
 
 -- the request in front is logged
-abbrev pub logged : Member → Request → Member
+abbrev pub logged : LocalState → Request → LocalState
 logged p r = record p { log = p.log ++ Req r ∷ []; next = p.next + 1; receiver = front_taken p.receiver }
 
-abbrev pub take_front : {S : Type 0} → Meaning S → Member → Request → Effect
+abbrev pub take_front : {S : Type 0} → Meaning S → LocalState → Request → Effect
 take_front m p r = record { state = logged p r; said = []; replies = reply_to m (logged p r) (length p.log + 1) r }
 
-pub record MayTakeFront (p : Member) (r : Request) : Type 0 where
+pub record MayTakeFront (p : LocalState) (r : Request) : Type 0 where
   pub normal : p.status ≡ Normal
   pub no_gap : p.gap ≡ None
   pub front : front_of p.receiver ≡ Message r
 
 -- an entry that did not come through the receiver
-abbrev pub appended : Member → Entry → Member
+abbrev pub appended : LocalState → Entry → LocalState
 appended p e = record p { log = p.log ++ e ∷ []; next = p.next + 1; receiver = advanced p.receiver (p.next + 1) }
 
 -- a follower logs a request that it missed
-abbrev pub fill : {S : Type 0} → Meaning S → Member → Request → Effect
+abbrev pub fill : {S : Type 0} → Meaning S → LocalState → Request → Effect
 fill m p r = record { state = appended p (Req r); said = []; replies = reply_to m (appended p (Req r)) (length p.log + 1) r }
 
-abbrev pub MayFill : Conf → Member → Request → Type 0
+abbrev pub MayFill : Conf → LocalState → Request → Type 0
 MayFill c p r = MayFollow c p (Found (length p.log + 1) r)
 
 -- ---- gaps
@@ -111,61 +111,61 @@ abbrev pub waiting : Agreement → Option Agreement
 waiting g = unless_settled g (vote_of g.f g.votes)
 
 -- a leader puts a NO-OP into the next slot, and tells all
-abbrev pub open_gap : Member → Effect
+abbrev pub open_gap : LocalState → Effect
 open_gap p =
     record {
-      state = record (appended p NoOp) { gap = waiting (begun (length p.log + 1) (others p)) };
+      state = record (appended p NoOp) { gap = waiting (begun (length p.log + 1) (max_faults p)) };
       said = say_all p (GapCommit (length p.log + 1));
       replies = [];
     }
 
-pub record MayOpenGap (p : Member) : Type 0 where
+pub record MayOpenGap (p : LocalState) : Type 0 where
   pub may_lead : MayLead p
   pub none_waits : p.gap ≡ None
 
 -- it counts the vote of the replica q; the gap is closed at enough of them
-abbrev pub count_gap_vote : Member → Agreement → ℕ → Effect
-count_gap_vote p g q = record { state = record p { gap = waiting (counted g q) }; said = []; replies = [] }
+abbrev pub count_gap_vote : LocalState → Agreement → ℕ → Effect
+count_gap_vote p g q = record { state = record p { gap = waiting (gap_vote_counted g q) }; said = []; replies = [] }
 
-pub record MayCountGapVote (f : ℕ) (c : Conf) (p : Member) (g : Agreement) (q : ℕ) : Type 0 where
+pub record MayCountGapVote (f : ℕ) (c : Conf) (p : LocalState) (g : Agreement) (q : ℕ) : Type 0 where
   pub waits : p.gap ≡ Some g
   pub vote : DidAnother f c p q (GapRep g.slot)
 
 -- a follower puts a NO-OP into a slot that it has
-abbrev pub write_gap : Member → ℕ → Effect
+abbrev pub write_gap : LocalState → ℕ → Effect
 write_gap p k = record { state = record p { log = set_slot p.log k NoOp }; said = say p (GapRep k); replies = [] }
 
-pub record MayWriteGap (c : Conf) (p : Member) (k : ℕ) : Type 0 where
+pub record MayWriteGap (c : Conf) (p : LocalState) (k : ℕ) : Type 0 where
   pub may_follow : MayFollow c p (GapCommit k)
   pub within : k ≤ length p.log
 
 -- or into the next one
-abbrev pub add_gap : Member → Effect
+abbrev pub add_gap : LocalState → Effect
 add_gap p = record { state = appended p NoOp; said = say p (GapRep (length p.log + 1)); replies = [] }
 
-abbrev pub MayAddGap : Conf → Member → Type 0
+abbrev pub MayAddGap : Conf → LocalState → Type 0
 MayAddGap c p = MayFollow c p (GapCommit (length p.log + 1))
 
 -- ---- a greater view is entered
 
 -- a session that the receiver is not in yet begins there
-abbrev pub listening : Member → View → Receiving
+abbrev pub listening : LocalState → View → Receiving
 listening p v = cond (nat_lt p.view.session v.session && not (p.receiver.session == v.session)) (receiving.opened v.session 1) p.receiver
 
 -- nothing of the view that is left stays
-abbrev pub left : Member → Member
+abbrev pub left : LocalState → LocalState
 left p = record p { gap = None; sync = cleared p.sync; changes = None }
 
-abbrev pub entered : Member → View → Member
+abbrev pub entered : LocalState → View → LocalState
 entered p v = record (left p) { view = v; status = Change; receiver = listening p v }
 
-abbrev pub own_change : Member → plain.Change
+abbrev pub own_change : LocalState → plain.Change
 own_change p = record { sender = p.number; last_normal = p.last_normal; next = p.next; sync_point = p.sync.sync_point; log = p.log }
 
 -- the leader keeps its own change, another sends it
-abbrev pub enter_as : Bool → Member → Effect
+abbrev pub enter_as : Bool → LocalState → Effect
 enter_as true p = record {
-  state = record p { changes = Some (gathering.entered p.view (others p) (own_change p)) };
+  state = record p { changes = Some (gathering.entered p.view (max_faults p) (own_change p)) };
   said = say_all p Plain;
   replies = [];
 }
@@ -175,29 +175,29 @@ enter_as false p = record {
   replies = [];
 }
 
-abbrev pub enter : Member → View → Effect
+abbrev pub enter : LocalState → View → Effect
 enter p v = enter_as (leads (entered p v)) (entered p v)
 
 -- its session was given to a sequencer
-pub record MayEnter (c : Conf) (p : Member) (v : View) : Type 0 where
+pub record MayEnter (c : Conf) (p : LocalState) (v : View) : Type 0 where
   pub greater : Below p.view v
   pub given : HasOwner c.installs v.session
 
 -- the leader keeps the change of another
-abbrev pub keep_change : Member → PlainGathering → plain.Change → Effect
-keep_change p g x = record { state = record p { changes = Some (gathering.counted plain.sender_of g x) }; said = []; replies = [] }
+abbrev pub keep_change : LocalState → PlainGathering → plain.Change → Effect
+keep_change p g x = record { state = record p { changes = Some (gathering.change_added plain.sender_of g x) }; said = []; replies = [] }
 
-pub record MayKeepChange (f : ℕ) (c : Conf) (p : Member) (g : PlainGathering) (x : plain.Change) : Type 0 where
+pub record MayKeepChange (f : ℕ) (c : Conf) (p : LocalState) (g : PlainGathering) (x : plain.Change) : Type 0 where
   pub gathers : p.changes ≡ Some g
   pub change : DidAnother f c p x.sender (ViewChange x.last_normal x.next x.sync_point x.log)
 
 -- ---- a view starts
 
 -- the receiver goes to the number, in the session of the view
-abbrev pub listening_from : Member → View → ℕ → Receiving
+abbrev pub listening_from : LocalState → View → ℕ → Receiving
 listening_from p v x = cond (nat_lt p.receiver.session v.session) (receiving.opened v.session x) (advanced p.receiver x)
 
-abbrev pub adopted : Member → View → ℕ → ℕ → List Entry → Member
+abbrev pub adopted : LocalState → View → ℕ → ℕ → List Entry → LocalState
 adopted p v x z l = record (left p) {
   view = v;
   status = Normal;
@@ -210,49 +210,49 @@ adopted p v x z l = record (left p) {
 }
 
 -- a log is adopted, and each request above the sync point is answered once more
-abbrev pub adopt_saying : {S : Type 0} → Meaning S → List Said → Member → View → ℕ → ℕ → List Entry → Effect
+abbrev pub adopt_saying : {S : Type 0} → Meaning S → List Said → LocalState → View → ℕ → ℕ → List Entry → Effect
 adopt_saying m said p v x z l =
     record { state = adopted p v x z l; said = said; replies = replies_above m (adopted p v x z l) (adopted p v x z l).sync.sync_point }
 
-abbrev pub adopt : {S : Type 0} → Meaning S → Member → View → ℕ → ℕ → List Entry → Effect
+abbrev pub adopt : {S : Type 0} → Meaning S → LocalState → View → ℕ → ℕ → List Entry → Effect
 adopt m p v x z l = adopt_saying m [] p v x z l
 
-pub record MayAdopt (c : Conf) (p : Member) (v : View) (x z : ℕ) (l : List Entry) : Type 0 where
+pub record MayAdopt (c : Conf) (p : LocalState) (v : View) (x z : ℕ) (l : List Entry) : Type 0 where
   pub said : DidSay c.said (leader_of v p.replicas) v (StartView x z l)
   pub follows : p.number ≡ leader_of v p.replicas → ⊥
   pub at_most : AtMost p.view v
   pub change : p.view ≡ v → p.status ≡ Change
 
 -- the leader tells all what its view starts with, and adopts it
-abbrev pub open_view : {S : Type 0} → Meaning S → Member → PlainGathering → Effect
+abbrev pub open_view : {S : Type 0} → Meaning S → LocalState → PlainGathering → Effect
 open_view m p g =
     let s = start_of g.view g.changes in
     let z = start_point g.changes in
     adopt_saying m (say_all p (StartView s.next z s.log)) p p.view s.next z s.log
 
-pub record MayOpenView (p : Member) (g : PlainGathering) : Type 0 where
+pub record MayOpenView (p : LocalState) (g : PlainGathering) : Type 0 where
   pub gathers : p.changes ≡ Some g
   pub enough : g.f < length g.changes
 
 -- ---- a true word is said again
 
-abbrev pub say_again : Member → Word → Effect
+abbrev pub say_again : LocalState → Word → Effect
 say_again p x = record { state = p; said = say p x; replies = [] }
 
--- a log that is told again is told with the own sync point, which it reaches
-abbrev pub TellsPoint : Member → Word → Type 0
-TellsPoint p (StartView x z l) = (z ≡ p.sync.sync_point) × (z ≤ length l)
-TellsPoint p (SyncPrepare z l) = (z ≡ p.sync.sync_point) × (z ≤ length l)
-TellsPoint p _ = ⊤
+-- a log that is sent again is sent with the own sync point, which it reaches
+abbrev pub SaysOwnPoint : LocalState → Word → Type 0
+SaysOwnPoint p (StartView x z l) = (z ≡ p.sync.sync_point) × (z ≤ length l)
+SaysOwnPoint p (SyncPrepare z l) = (z ≡ p.sync.sync_point) × (z ≤ length l)
+SaysOwnPoint p _ = ⊤
 
-pub record MaySay (f : ℕ) (c : Conf) (p : Member) (x : Word) : Type 0 where
+pub record MaySay (f : ℕ) (c : Conf) (p : LocalState) (x : Word) : Type 0 where
   pub true : MayRepeat f c p.number p.view x
-  pub point : TellsPoint p x
+  pub point : SaysOwnPoint p x
 
 -- ---- sync points
 
 -- a follower takes the entries of its leader's log
-abbrev pub overlaid : Member → ℕ → List Entry → Member
+abbrev pub overlaid : LocalState → ℕ → List Entry → LocalState
 overlaid p z l = record p {
   log = laid l p.log;
   next = p.next + (length l - length p.log);
@@ -260,55 +260,55 @@ overlaid p z l = record p {
   sync = raised (taken p.sync (length l)) z;
 }
 
-abbrev pub overlay : {S : Type 0} → Meaning S → Member → ℕ → List Entry → Effect
+abbrev pub overlay : {S : Type 0} → Meaning S → LocalState → ℕ → List Entry → Effect
 overlay m p z l = record {
   state = overlaid p z l;
   said = say p (SyncRep (length l));
   replies = replies_above m (overlaid p z l) (max (length p.log) (overlaid p z l).sync.sync_point);
 }
 
-abbrev pub MayOverlay : Conf → Member → ℕ → List Entry → Type 0
+abbrev pub MayOverlay : Conf → LocalState → ℕ → List Entry → Type 0
 MayOverlay c p z l = MayFollow c p (SyncPrepare z l)
 
 -- a follower's sync point rises to what its leader says
-abbrev pub obey : Member → ℕ → Effect
+abbrev pub obey : LocalState → ℕ → Effect
 obey p k = record { state = record p { sync = committed p.sync k }; said = []; replies = [] }
 
-pub record MayObey (c : Conf) (p : Member) (k : ℕ) : Type 0 where
+pub record MayObey (c : Conf) (p : LocalState) (k : ℕ) : Type 0 where
   pub may_follow : MayFollow c p (SyncCommit k)
   pub within : k ≤ p.sync.prepared
 
--- a leader tells its log, and waits for votes
-abbrev pub open_sync : Member → Effect
+-- a leader sends its log, and waits for votes
+abbrev pub open_sync : LocalState → Effect
 open_sync p = record {
   state = record p { sync = with_round p.sync (length p.log) };
   said = say_all p (SyncPrepare p.sync.sync_point p.log);
   replies = [];
 }
 
-pub record MayOpenSync (p : Member) : Type 0 where
+pub record MayOpenSync (p : LocalState) : Type 0 where
   pub may_lead : MayLead p
   pub no_gap : p.gap ≡ None
   pub longer : p.sync.sync_point < length p.log
 
-abbrev pub commit_if : Member → ℕ → Vote → List Said
+abbrev pub commit_if : LocalState → ℕ → Vote → List Said
 commit_if p k Settled = say_all p (SyncCommit k)
 commit_if p k Waiting = []
 
 -- it counts the vote of the replica q; at enough of them its sync point rises, and it tells all
-abbrev pub count_sync_vote : Member → ℕ → ℕ → Effect
+abbrev pub count_sync_vote : LocalState → ℕ → ℕ → Effect
 count_sync_vote p q k = record {
-  state = record p { sync = synchronisation.counted p.sync q k };
+  state = record p { sync = synchronisation.sync_vote_counted p.sync q k };
   said = commit_if p k (vote_for p.sync q k);
   replies = [];
 }
 
-pub record MayCountSyncVote (f : ℕ) (c : Conf) (p : Member) (q k : ℕ) : Type 0 where
+pub record MayCountSyncVote (f : ℕ) (c : Conf) (p : LocalState) (q k : ℕ) : Type 0 where
   pub may_lead : MayLead p
   pub vote : DidAnother f c p q (SyncRep k)
 
 -- a leader says again what is synchronised
-abbrev pub repeat_commit : Member → Effect
+abbrev pub repeat_commit : LocalState → Effect
 repeat_commit p = record { state = p; said = say_all p (SyncCommit p.sync.sync_point); replies = [] }
 
 -- ---- sessions
@@ -385,8 +385,8 @@ pub record MayAccept (c : Conf) (k : ℕ) (p leaders : Reply) : Type 0 where
 
 -- ---- lines that neither submit nor accept
 
-abbrev pub tell : Conf → List Line → Conf
-tell c more = record c { lines = c.lines ++ more }
+abbrev pub add_lines : Conf → List Line → Conf
+add_lines c more = record c { lines = c.lines ++ more }
 
-abbrev pub MayTell : List Line → Type 0
-MayTell more = (line : Line) → Has more line → IsOtherLine line
+abbrev pub MayAddLines : List Line → Type 0
+MayAddLines more = (line : Line) → Has more line → IsOtherLine line

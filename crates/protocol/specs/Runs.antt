@@ -12,7 +12,7 @@ use Rattle.nop_types.specs.Meaning.{Meaning}
 use Rattle.gap_agree.specs.Agreement.{Agreement}
 use Rattle.protocol.specs.Conf.{Conf, Effect, after}
 use Rattle.protocol.specs.Said.{Word}
-use Rattle.protocol.specs.Member.{Member, PlainGathering}
+use Rattle.protocol.specs.LocalState.{LocalState, PlainGathering}
 use Rattle.protocol.specs.Moves as moves
 
 -- what a replica does
@@ -45,9 +45,9 @@ pub data Move : Type 0 where
   Submit : (client : ℕ) → (op : List ℕ) → (waiting : List (List ℕ)) → Move
   Keep : (client : ℕ) → Reply → Move
   Accept : (client : ℕ) → (last leaders : Reply) → Move
-  Tell : List Line → Move
+  AddLines : List Line → Move
 
-abbrev pub effect : {S : Type 0} → Meaning S → Member → Act → Effect
+abbrev pub effect : {S : Type 0} → Meaning S → LocalState → Act → Effect
 effect m p (Queue x) = moves.queue p x
 effect m p (TakeFront r) = moves.take_front m p r
 effect m p (Fill r) = moves.fill m p r
@@ -66,7 +66,7 @@ effect m p OpenSync = moves.open_sync p
 effect m p (CountSyncVote q k) = moves.count_sync_vote p q k
 effect m p RepeatCommit = moves.repeat_commit p
 
-abbrev pub MayAct : ℕ → Conf → Member → Act → Type 0
+abbrev pub MayAct : ℕ → Conf → LocalState → Act → Type 0
 MayAct f c p (Queue x) = Has c.stamps x
 MayAct f c p (TakeFront r) = moves.MayTakeFront p r
 MayAct f c p (Fill r) = moves.MayFill c p r
@@ -94,7 +94,7 @@ happens m f c (Stamp j r) = moves.stamp c j r
 happens m f c (Submit k op waiting) = moves.submit c k op waiting
 happens m f c (Keep k p) = moves.keep c k p
 happens m f c (Accept k p leaders) = moves.accept c k p leaders
-happens m f c (Tell more) = moves.tell c more
+happens m f c (AddLines more) = moves.add_lines c more
 
 abbrev pub May : ℕ → Conf → Move → Type 0
 May f c (Acts r a) = (r < 2 * f + 1) × MayAct f c (c.replicas r) a
@@ -105,7 +105,7 @@ May f c (Stamp j r) = moves.MayStamp c j r
 May f c (Submit k op waiting) = moves.MaySubmit c k
 May f c (Keep k p) = moves.MayKeep c k p
 May f c (Accept k p leaders) = moves.MayAccept c k p leaders
-May f c (Tell more) = moves.MayTell more
+May f c (AddLines more) = moves.MayAddLines more
 
 module _ {S : Type 0} (m : Meaning S) (f : ℕ) where
   abbrev pub run : Conf → List Move → Conf

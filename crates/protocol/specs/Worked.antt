@@ -17,7 +17,7 @@ use Rattle.nop_types.specs.Sessions.{opening_session}
 use Rattle.nop_types.specs.Views.{first_view}
 use Rattle.started_views.specs.Settled.{MainLog}
 use Rattle.protocol.specs.Conf.{Conf, opening, last_normals}
-use Rattle.protocol.specs.Member.{Member, PlainGathering}
+use Rattle.protocol.specs.LocalState.{LocalState, PlainGathering}
 use Rattle.protocol.specs.Runs.{Queue, TakeFront, OpenGap, CountGapVote, AddGap, Enter, KeepChange, OpenView, Adopt, Overlay, Obey}
 use Rattle.protocol.specs.Runs.{Say, OpenSync, CountSyncVote, Move, Acts, MoveTo, Install, Stamp, Submit, Keep, Accept, run, MayAll}
 use Rattle.protocol.specs.Said.{SyncPrepare}
@@ -60,7 +60,7 @@ abbrev pub logs : ℕ → Stamped → List Move
 logs r p = Acts r (Queue p) ∷ Acts r (TakeFront p.request) ∷ []
 
 -- a replica in Normal
-pub record StandsAt (p : Member) (v : View) (l : List Entry) (s : ℕ) : Type 0 where
+pub record StandsAt (p : LocalState) (v : View) (l : List Entry) (s : ℕ) : Type 0 where
   pub status : p.status ≡ Normal
   pub view : p.view ≡ v
   pub last_normal : p.last_normal ≡ v
@@ -170,14 +170,14 @@ module _ {S : Type 0} (m : Meaning S) where
   abbrev pub SyncRunEnds : Type 0
   SyncRunEnds = MayAll m 1 (opening (three 1 1)) sync_run × SyncRun (run m 1 (opening (three 1 1)) sync_run)
 
-  -- Then the leader tells its log again, now with its sync point, and the one that answered first takes it from there.
-  abbrev pub told_run : List Move
-  told_run = Acts 0 (Say (SyncPrepare 1 (Req put_request ∷ []))) ∷ Acts 1 (Overlay 1 (Req put_request ∷ [])) ∷ []
+  -- Then the leader sends its log again, now with its sync point, and the one that answered first takes it from there.
+  abbrev pub log_sent_run : List Move
+  log_sent_run = Acts 0 (Say (SyncPrepare 1 (Req put_request ∷ []))) ∷ Acts 1 (Overlay 1 (Req put_request ∷ [])) ∷ []
 
-  pub record ToldRun (c : Conf) : Type 0 where
+  pub record LogSentRun (c : Conf) : Type 0 where
     pub second : StandsAt (c.replicas 1) first_view (Req put_request ∷ []) 1
     pub replies : c.replies ≡ (run m 1 (opening (three 1 1)) sync_run).replies
 
-  abbrev pub ToldRunEnds : Type 0
-  ToldRunEnds = MayAll m 1 (run m 1 (opening (three 1 1)) sync_run) told_run
-      × ToldRun (run m 1 (run m 1 (opening (three 1 1)) sync_run) told_run)
+  abbrev pub LogSentRunEnds : Type 0
+  LogSentRunEnds = MayAll m 1 (run m 1 (opening (three 1 1)) sync_run) log_sent_run
+      × LogSentRun (run m 1 (run m 1 (opening (three 1 1)) sync_run) log_sent_run)

@@ -1,5 +1,5 @@
 ghost use Rattle.nop_types.specs.Meaning.{Meaning};
-ghost use Rattle.protocol.specs.Worked.{GapRunEnds, SessionRunEnds, SyncRunEnds, ToldRunEnds};
+ghost use Rattle.protocol.specs.Worked.{GapRunEnds, SessionRunEnds, SyncRunEnds, LogSentRunEnds};
 
 /// Moves that may be made, and where they end: a gap is agreed on, a reply is accepted, and the
 /// view changes.
@@ -14,8 +14,8 @@ pub fn session_run<S>()
 {}
 
 /// A prefix is synchronised, and a follower obeys the commit once it has taken the log. The other one
-/// takes the sync point with a log that is told again.
+/// takes the sync point with a log that is sent again.
 pub fn sync_run<S>()
     ensures synced { (m : Meaning S) → SyncRunEnds m }
-    ensures told { (m : Meaning S) → ToldRunEnds m }
+    ensures sent { (m : Meaning S) → LogSentRunEnds m }
 {}

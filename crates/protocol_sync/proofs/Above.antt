@@ -23,7 +23,7 @@ use Rattle.sync_points.specs.Synchronisation.{Round, Synchronisation, closed, co
 use Rattle.protocol.specs.Conf as conf
 use Rattle.protocol.specs.Conf.{Conf}
 use Rattle.protocol.specs.Invariant.{Inv, GoodLog, Own}
-use Rattle.protocol.specs.Member.{Member, leads, others}
+use Rattle.protocol.specs.LocalState.{LocalState, leads, max_faults}
 use Rattle.protocol.specs.Moves.{entered, enter_as, unless_settled}
 use Rattle.protocol.specs.Runs.{Act, Queue, TakeFront, Fill, OpenGap, CountGapVote, WriteGap, AddGap, Enter, KeepChange, OpenView, Adopt}
 use Rattle.protocol.specs.Runs.{Say, Overlay, Obey, OpenSync, CountSyncVote, RepeatCommit, Move, Acts}
@@ -34,7 +34,7 @@ use Rattle.protocol_sync.specs.Synced.{GoodSync, Sync}
 use Rattle.protocol_sync.proofs.Runs.{happens_syncs}
 use Rattle.protocol_sync.specs.Above.{GapIsAbove, GapsAreAbove, GapsOpenAbove, GapsStayAbove, SyncedIsPrepared}
 
-no_gap : (p : Member) → p.gap ≡ None → GapIsAbove p
+no_gap : (p : LocalState) → p.gap ≡ None → GapIsAbove p
 no_gap p none = record {
   point = λ g e. absurd (let both : Some g ≡ None = sym e ∙ none in cc);
   round = λ g x e i. absurd (let both : Some g ≡ None = sym e ∙ none in cc);
@@ -71,20 +71,20 @@ vote_round s q k n None z is rounds e = absurd (let none : None ≡ Some z = sym
 vote_round s q k n (Some x) z is rounds e =
     closed_round s x (record x { votes = with_vote x.votes q }) z n (x.len == k) (vote_of s.f (with_vote x.votes q)) refl (rounds x refl) e
 
-entered_none : (b : Bool) (p : Member) (v : View) → (enter_as b (entered p v)).state.gap ≡ None
+entered_none : (b : Bool) (p : LocalState) (v : View) → (enter_as b (entered p v)).state.gap ≡ None
 entered_none true p v = refl
 entered_none false p v = refl
 
 module _ {S : Type 0} (m : Meaning S) (f : ℕ) where
   module _ (c : Conf) (r : ℕ) (inv : Inv m f c) (sync : Sync f c) (within : r < 2 * f + 1) (above : GapIsAbove (c.replicas r)) where
-    abbrev p : Member
+    abbrev p : LocalState
     p = c.replicas r
 
     own : GoodSync f c r p
     own = sync.own r within
 
-    opened : (g : Agreement) (v : Vote) → unless_settled (begun (length p.log + 1) (others p)) v ≡ Some g → length p.log + 1 ≡ g.slot
-    opened g v e = ap (λ (a : Agreement). a.slot) (waiting_is (begun (length p.log + 1) (others p)) g v e)
+    opened : (g : Agreement) (v : Vote) → unless_settled (begun (length p.log + 1) (max_faults p)) v ≡ Some g → length p.log + 1 ≡ g.slot
+    opened g v e = ap (λ (a : Agreement). a.slot) (waiting_is (begun (length p.log + 1) (max_faults p)) g v e)
 
     act_above : (a : Act) → MayAct f c p a → GapIsAbove (effect m p a).state
     act_above (Queue x) may = record { point = above.point; round = above.round }
@@ -92,10 +92,10 @@ module _ {S : Type 0} (m : Meaning S) (f : ℕ) where
     act_above (Fill q) may = record { point = above.point; round = above.round }
     act_above OpenGap may = record {
       point = λ g e.
-          let slot = opened g (vote_of (others p) []) e in
+          let slot = opened g (vote_of (max_faults p) []) e in
           let low = own.agrees.same.left in
           omega (arith, slot, low);
-      round = λ g x e i. let slot = opened g (vote_of (others p) []) e in let low = (own.syncing x i).within in omega (arith, slot, low);
+      round = λ g x e i. let slot = opened g (vote_of (max_faults p) []) e in let low = (own.syncing x i).within in omega (arith, slot, low);
     }
     act_above (CountGapVote a q) may = record {
       point = λ g e. subst (λ (t : Agreement). p.sync.sync_point < t.slot) (waiting_is _ g _ e) (above.point a may.waits);
@@ -137,7 +137,7 @@ gaps_stay_above m f c (x ∷ xs) inv sync above (may, rest) =
 
 pub synced_is_prepared : {S : Type 0} (m : Meaning S) → SyncedIsPrepared m
 synced_is_prepared m f c r inv sync above within may =
-    let p : Member = c.replicas r in
+    let p : LocalState = c.replicas r in
     let n : ℕ = p.sync.sync_point in
     let own : Own f c r p = inv.own r within in
     let view : p.last_normal ≡ p.view = own.place.normal may.normal in
@@ -173,7 +173,7 @@ synced_is_prepared m f c r inv sync above within may =
         < (c.replicas r).sync.sync_point
         → conf.Settled f c.said (c.replicas r).view (length (c.replicas r).log)
     at_last None none last noop longer =
-        let q : Member = c.replicas r in
+        let q : LocalState = c.replicas r in
         let own : Own f c r q = inv.own r within in
         let view : q.last_normal ≡ q.view = own.place.normal may.normal in
         let led : r ≡ leader_of q.view (2 * f + 1) = leads_it m f c r inv within may.leads in

@@ -29,7 +29,7 @@ use Rattle.protocol_sync.specs.Laws.{LinesAreLegal}
 
 module _ {S : Type 0} (m : Meaning S) (f : ℕ) (c : Conf) (inv : Inv m f c) where
   -- what the leader replied, in the log that it had then
-  pub record Told (w : View) (log : List Entry) (slot client id : ℕ) (result : List ℕ) : Type 0 where
+  pub record WasReplied (w : View) (log : List Entry) (slot client id : ℕ) (result : List ℕ) : Type 0 where
     pub request : Request
     pub entry : slot_of log slot ≡ Some (Req request)
     pub same : IsOf client id request
@@ -39,8 +39,8 @@ module _ {S : Type 0} (m : Meaning S) (f : ℕ) (c : Conf) (inv : Inv m f c) whe
     abbrev leader : ℕ
     leader = leader_of a.view (2 * f + 1)
 
-    pub told : Told a.view a.log a.slot client id result
-    told =
+    pub was_replied : WasReplied a.view a.log a.slot client id result
+    was_replied =
         let p = a.leaders.reply in
         let t = inv.replies p a.leaders.sent in
         let led : LeaderHad f c.past a.view t.log = subst (λ (i : ℕ). HadLog c.past i a.view t.log) a.leaders.by
@@ -83,8 +83,8 @@ module _ {S : Type 0} (m : Meaning S) (f : ℕ) (c : Conf) (inv : Inv m f c) whe
     accepted_fixed = accept_fixes f c.past a.view a.log a.slot (record {
       leads = a.leads;
       within = a.within;
-      request = told.request;
-      last = told.entry;
+      request = was_replied.request;
+      last = was_replied.entry;
       reached = quorum_weaker f (Replied c.replies a.view a.slot client id) (Reached c.past a.view a.slot) reached a.quorum;
       noops = noops;
     })
@@ -100,10 +100,10 @@ module _ {S : Type 0} (m : Meaning S) (f : ℕ) (c : Conf) (inv : Inv m f c) whe
         accepted_fixed in
         let here : IsGrounded m c.lines a.log k client id result = record {
           slot = a.slot;
-          request = told.request;
-          entry = told.entry;
-          same = told.same;
-          gives = told.gives;
+          request = was_replied.request;
+          entry = was_replied.entry;
+          same = was_replied.same;
+          gives = was_replied.gives;
           known = a.known;
         } in
         grounds_carry m c.lines c.lines a.log main k client id result here (IsPrefixOf-refl c.lines) begins

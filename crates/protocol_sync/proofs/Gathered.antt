@@ -12,11 +12,11 @@ use Rattle.started_views.specs.Settled.{Certificate}
 use Rattle.started_views.proofs.Keeping.{certificate_synchronised}
 use Rattle.protocol.specs.Conf.{last_normals}
 use Rattle.protocol.specs.Invariant.{Gathers}
-use Rattle.protocol.specs.Member.{Member}
+use Rattle.protocol.specs.LocalState.{LocalState}
 use Rattle.protocol.proofs.Grounding.{grounds_of}
 use Rattle.protocol_sync.specs.Gathered.{StartsBeginWithSynced, StartsReachTheirPoints}
 use Rattle.protocol_sync.proofs.Agreeing.{fixed_from}
-use Rattle.protocol_sync.proofs.Telling.{point_within}
+use Rattle.protocol_sync.proofs.SentLogs.{point_within}
 
 take-of_front : {A : Type 0} (xs ys : List A) → take (length xs) (xs ++ ys) ≡ xs
 take-of_front [] ys = refl
@@ -24,7 +24,7 @@ take-of_front (x ∷ xs) ys = ap (λ (t : List _). x ∷ t) (take-of_front xs ys
 
 pub starts_begin_with_synced : {S : Type 0} (m : Meaning S) → StartsBeginWithSynced m
 starts_begin_with_synced m f c r g inv sync within may x has =
-    let p : Member = c.replicas r in
+    let p : LocalState = c.replicas r in
     let z : ℕ = x.sync_point in
     let start : List Entry = (start_of g.view g.changes).log in
     let e : Entered = record { last_normal = x.last_normal; next = x.next; sync_point = x.sync_point; log = x.log } in

@@ -21,9 +21,9 @@ use Rattle.lemmas.proofs.Views.{AtMost-refl, AtMost-trans, Below-after_at_most}
 use Rattle.protocol.specs.Conf.{Conf, DidSay, last_normals}
 use Rattle.protocol.specs.Evolves.{Evolves}
 use Rattle.protocol.specs.Invariant.{Inv}
-use Rattle.protocol.specs.Member.{Member}
+use Rattle.protocol.specs.LocalState.{LocalState}
 use Rattle.protocol.specs.Said.{SyncRep}
-use Rattle.protocol_sync.specs.Synced.{Told, GoodPoint, Synced, Anchored, Agrees, TrueSyncRep, TrueSyncCommit, GoodSync, Sync}
+use Rattle.protocol_sync.specs.Synced.{GoodLog, GoodPoint, Synced, Anchored, Agrees, TrueSyncRep, TrueSyncCommit, GoodSync, Sync}
 use Rattle.protocol.proofs.Grounding.{grounds_of}
 use Rattle.lemmas.proofs.Options.{same_Some-at}
 use Rattle.protocol.proofs.Stays.{said_lasts, others_weaker}
@@ -65,8 +65,8 @@ module _ {S : Type 0} (m : Meaning S) (f : ℕ) (c d : Conf) (inv : Inv m f c) (
   agrees_stays w l s t =
       let n = ev.leads w t.lead t.leads in record { lead = n.0; leads = n.1; same = same_grown s l t.lead n.0 t.same n.2 }
 
-  pub told_lasts : (w : View) (z : ℕ) (l : List Entry) → Told f c w z l → Told f d w z l
-  told_lasts w z l t = record { within = t.within; anchored = anchored_lasts w w z (AtMost-refl w) t.anchored }
+  pub good_log_lasts : (w : View) (z : ℕ) (l : List Entry) → GoodLog f c w z l → GoodLog f d w z l
+  good_log_lasts w z l t = record { within = t.within; anchored = anchored_lasts w w z (AtMost-refl w) t.anchored }
 
   pub point_lasts : (e : Entered) → GoodPoint f c e → GoodPoint f d e
   point_lasts e t = record {
@@ -112,7 +112,7 @@ module _ {S : Type 0} (m : Meaning S) (f : ℕ) (c d : Conf) (inv : Inv m f c) (
   }
 
   module _ (sync : Sync f c) (q : ℕ) (within : q < 2 * f + 1) where
-    abbrev old : Member
+    abbrev old : LocalState
     old = c.replicas q
 
     o : GoodSync f c q old

@@ -17,4 +17,4 @@ pub mod SoundStamps
 pub mod SoundViews
 pub mod SoundVotes
 pub mod Sounding
-pub mod Telling
+pub mod SentLogs

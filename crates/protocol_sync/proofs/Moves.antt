@@ -20,29 +20,29 @@ use Rattle.lemmas.proofs.Prefixes.{IsPrefixOf-trans}
 use Rattle.sync_points.specs.Synchronisation.{Synchronisation}
 use Rattle.protocol.specs.Conf.{Conf, Effect, DidSay, after}
 use Rattle.protocol.specs.Invariant.{Own, Inv}
-use Rattle.protocol.specs.Member.{Member, PlainGathering, leader, others}
+use Rattle.protocol.specs.LocalState.{LocalState, PlainGathering, leader, max_faults}
 use Rattle.protocol.specs.Moves.{say, say_unless, entered, adopted, overlay, MayOverlay, obey, MayObey, repeat_commit, MayLead}
 use Rattle.protocol.specs.Said.{Said, Word, SyncPrepare, SyncRep, SyncCommit, says}
 use Rattle.protocol_sync.specs.Synced.{Anchored, Agrees, TrueSyncRep, TrueSyncCommit, HasPrepared, Sync}
 use Rattle.protocol.specs.Truth.{Prepared}
 use Rattle.protocol.proofs.Growing.{Kept}
 use Rattle.protocol.proofs.Places.{leads_it, follows_it}
-use Rattle.protocol_sync.proofs.Saying.{IsQuiet, Tells, now, sync_after, quiet_after, quiet_none, tells_none, tells_one, tells_unless}
+use Rattle.protocol_sync.proofs.Saying.{IsQuiet, SayGoodLogs, now, sync_after, quiet_after, quiet_none, none_say, one_says, unless_says}
 use Rattle.protocol_sync.proofs.Lasting.{anchored_lasts, inside, risen}
 
 -- who says one word says this one
-pub said_one : (p : Member) (x y : Word) (q : ℕ) (w : View) → DidSay (say p x) q w y → (q ≡ p.number) × (w ≡ p.view) × (y ≡ x)
+pub said_one : (p : LocalState) (x y : Word) (q : ℕ) (w : View) → DidSay (say p x) q w y → (q ≡ p.number) × (w ≡ p.view) × (y ≡ x)
 said_one p x y q w h =
     let e = Has-one (says q w y) (says p.number p.view x) h in
     (ap (λ (z : Said). z.sender) e, ap (λ (z : Said). z.view) e, ap (λ (z : Said). z.word) e)
 
-pub said_all : (b : Bool) (p : Member) (x y : Word) (q : ℕ) (w : View) → DidSay (say_unless b p x) q w y
+pub said_all : (b : Bool) (p : LocalState) (x y : Word) (q : ℕ) (w : View) → DidSay (say_unless b p x) q w y
     → (q ≡ p.number) × (w ≡ p.view) × (y ≡ x)
 said_all true p x y q w h = absurd (Has-none _ h)
 said_all false p x y q w h = said_one p x y q w h
 
 module _ {S : Type 0} (m : Meaning S) (f : ℕ) (c : Conf) (r : ℕ) (inv : Inv m f c) (sync : Sync f c) (within : r < 2 * f + 1) where
-  abbrev p : Member
+  abbrev p : LocalState
   p = c.replicas r
 
   own : Own f c r p
@@ -55,7 +55,7 @@ module _ {S : Type 0} (m : Meaning S) (f : ℕ) (c : Conf) (r : ℕ) (inv : Inv 
         state = record p { log = l; next = n; receiver = x; gap = g; changes = h };
         said = said;
         replies = replies;
-      })) → IsQuiet said → Tells f (after f c r (record {
+      })) → IsQuiet said → SayGoodLogs f (after f c r (record {
         state = record p { log = l; next = n; receiver = x; gap = g; changes = h };
         said = said;
         replies = replies;
@@ -83,7 +83,7 @@ module _ {S : Type 0} (m : Meaning S) (f : ℕ) (c : Conf) (r : ℕ) (inv : Inv 
   -- a view is entered
   pub entering : (v : View) (h : Option PlainGathering) (said : List Said)
       → Kept m f c (after f c r (record { state = record (entered p v) { changes = h }; said = said; replies = [] })) → IsQuiet said
-      → Tells f (after f c r (record { state = record (entered p v) { changes = h }; said = said; replies = [] })) said
+      → SayGoodLogs f (after f c r (record { state = record (entered p v) { changes = h }; said = said; replies = [] })) said
       → Sync f (after f c r (record { state = record (entered p v) { changes = h }; said = said; replies = [] }))
   entering v h said kept quiet tells =
       let e : Effect = record { state = record (entered p v) { changes = h }; said = said; replies = [] } in
@@ -112,7 +112,7 @@ module _ {S : Type 0} (m : Meaning S) (f : ℕ) (c : Conf) (r : ℕ) (inv : Inv 
   -- a log is adopted
   pub adopting : (v : View) (x z : ℕ) (l : List Entry) (said : List Said) (replies : List Reply) → Below p.last_normal v
       → Kept m f c (after f c r (record { state = adopted p v x z l; said = said; replies = replies })) → IsQuiet said
-      → Tells f (after f c r (record { state = adopted p v x z l; said = said; replies = replies })) said
+      → SayGoodLogs f (after f c r (record { state = adopted p v x z l; said = said; replies = replies })) said
       → Anchored f (after f c r (record { state = adopted p v x z l; said = said; replies = replies })) v z
       → Agrees f (after f c r (record { state = adopted p v x z l; said = said; replies = replies })) v l z
       → Sync f (after f c r (record { state = adopted p v x z l; said = said; replies = replies }))
@@ -140,7 +140,7 @@ module _ {S : Type 0} (m : Meaning S) (f : ℕ) (c : Conf) (r : ℕ) (inv : Inv 
       let view : p.last_normal ≡ p.view = own.place.normal may.normal in
       let other = follows_it m f c r inv within may.follows in
       let t : Prepared f c (leader p) p.view l = inv.said (says (leader p) p.view (SyncPrepare z l)) may.said in
-      let told_point = sync.points.prepares (leader p) p.view z l may.said in
+      let good_log_point = sync.points.prepares (leader p) p.view z l may.said in
       let n = kept.1.leads p.view t.lead t.leads in
       let agrees : Agrees f d p.view (laid l p.log) (length l) = record {
         lead = n.0;
@@ -148,14 +148,14 @@ module _ {S : Type 0} (m : Meaning S) (f : ℕ) (c : Conf) (r : ℕ) (inv : Inv 
         same = same_from_prefix (length l) l (laid l p.log) n.0 (omega arith) (IsPrefixOf-laid l p.log)
             (IsPrefixOf-trans l t.lead n.0 t.begins n.2);
       } in
-      let told : DidSay d.said r p.view (SyncRep (length l)) =
+      let voted : DidSay d.said r p.view (SyncRep (length l)) =
       Has-append_left e.said c.said _ (Has-first _ _ [] (λ i. says (sym own.number i) p.view (SyncRep (length l)))) in
       let had : HadLog d.past r p.view (laid l p.log) = subst (λ (w : View). HadLog d.past r w (laid l p.log)) view here in
       let new : HasPrepared f d r p.view p.status (laid l p.log) (length l) = record {
         normal = may.normal;
         follows = other;
         agrees = agrees;
-        said = told;
+        said = voted;
       } in
       let g = inside m f c d inv kept.1 sync r within (laid l p.log) here in
       sync_after m f c r e inv sync within kept
@@ -166,17 +166,17 @@ module _ {S : Type 0} (m : Meaning S) (f : ℕ) (c : Conf) (r : ℕ) (inv : Inv 
       (subst (λ (v : View). TrueSyncRep f d r v s) (sym a.1)
       (subst (TrueSyncRep f d r p.view) (sym len) (record { apart = other; log = laid l p.log; had = had; agrees = agrees }))))
       (λ q w s h. absurd (let a = said_one p (SyncRep (length l)) (SyncCommit s) q w h in let b = a.2 in cc))
-      (tells_one f d p (SyncRep (length l)) tt)
+      (one_says f d p (SyncRep (length l)) tt)
       (record {
         count = g.count;
         anchored = greater_anchored d p.last_normal p.sync.sync_point z g.anchored
             (anchored_lasts m f c d inv kept.1 p.view p.last_normal z
-            (subst (λ (w : View). AtMost w p.last_normal) view (AtMost-refl p.last_normal)) told_point.anchored);
+            (subst (λ (w : View). AtMost w p.last_normal) view (AtMost-refl p.last_normal)) good_log_point.anchored);
         agrees = greater_agrees d p.last_normal (laid l p.log) p.sync.sync_point z g.agrees
             (subst (λ (w : View). Agrees f d w (laid l p.log) z) (sym view) (record {
               lead = agrees.lead;
               leads = agrees.leads;
-              same = same_less (length l) z (laid l p.log) agrees.lead told_point.within agrees.same;
+              same = same_less (length l) z (laid l p.log) agrees.lead good_log_point.within agrees.same;
             }));
         prepared = λ one. elim (cases_lt p.sync.prepared (length l)) [
           | inl low ↦ (let is : length l ≡ max p.sync.prepared (length l) = omega (arith, low) in
@@ -210,7 +210,7 @@ module _ {S : Type 0} (m : Meaning S) (f : ℕ) (c : Conf) (r : ℕ) (inv : Inv 
       at false is kept =
           let e : Effect = record { state = p; said = []; replies = [] } in
           let g = inside m f c (after f c r e) inv kept.1 sync r within p.log (now m f c r e inv sync within kept) in
-          quiet_after m f c r e inv sync within kept quiet_none (tells_none f (after f c r e)) (record {
+          quiet_after m f c r e inv sync within kept quiet_none (none_say f (after f c r e)) (record {
             count = g.count;
             anchored = g.anchored;
             agrees = g.agrees;
@@ -229,7 +229,7 @@ module _ {S : Type 0} (m : Meaning S) (f : ℕ) (c : Conf) (r : ℕ) (inv : Inv 
           let t = sync.commits (leader p) p.view k may.may_follow.said in
           let fixed : Anchored f d p.last_normal k = anchored_lasts m f c d inv kept.1 p.view p.last_normal k
           (subst (λ (w : View). AtMost w p.last_normal) view (AtMost-refl p.last_normal)) t.anchored in
-          quiet_after m f c r e inv sync within kept quiet_none (tells_none f (after f c r e)) (record {
+          quiet_after m f c r e inv sync within kept quiet_none (none_say f (after f c r e)) (record {
             count = g.count;
             anchored = elim (cases_lt p.sync.sync_point k) [
               | inl low ↦ (let is : k ≡ max p.sync.sync_point k = omega (arith, low) in subst (Anchored f d p.last_normal) is fixed)
@@ -269,11 +269,11 @@ module _ {S : Type 0} (m : Meaning S) (f : ℕ) (c : Conf) (r : ℕ) (inv : Inv 
         anchored = g.anchored;
       }) in
       sync_after m f c r e inv sync within kept
-      (λ q w s h. absurd (let a = said_all (others p == 0) p (SyncCommit p.sync.sync_point) (SyncRep s) q w h in let b = a.2 in cc))
+      (λ q w s h. absurd (let a = said_all (max_faults p == 0) p (SyncCommit p.sync.sync_point) (SyncRep s) q w h in let b = a.2 in cc))
       (λ q w s h.
-      let a = said_all (others p == 0) p (SyncCommit p.sync.sync_point) (SyncCommit s) q w h in
+      let a = said_all (max_faults p == 0) p (SyncCommit p.sync.sync_point) (SyncCommit s) q w h in
       let len : s ≡ p.sync.sync_point = (let b = a.2 in cc) in
       subst (λ (i : ℕ). TrueSyncCommit f d i w s) (sym (a.0 ∙ own.number)) (subst (λ (v : View). TrueSyncCommit f d r v s) (sym a.1)
       (subst (TrueSyncCommit f d r p.view) (sym len) true_here)))
-      (tells_unless (others p == 0) f d p (SyncCommit p.sync.sync_point) tt)
+      (unless_says (max_faults p == 0) f d p (SyncCommit p.sync.sync_point) tt)
       (record { count = g.count; anchored = g.anchored; agrees = g.agrees; prepared = g.prepared; syncing = g.syncing })

@@ -21,7 +21,7 @@ use Rattle.sync_points.specs.Synchronisation.{Round, Synchronisation, closed, co
 use Rattle.protocol.specs.Conf.{Conf, last_normals}
 use Rattle.protocol.specs.Evolves.{Evolves}
 use Rattle.protocol.specs.Invariant.{Inv}
-use Rattle.protocol.specs.Member.{Member, leads}
+use Rattle.protocol.specs.LocalState.{LocalState, leads}
 use Rattle.protocol.specs.Moves.{entered, enter_as}
 use Rattle.protocol.specs.Runs.{Act, Enter}
 use Rattle.protocol.specs.Runs.{Obey, OpenSync, CountSyncVote, Move, Acts}
@@ -60,12 +60,12 @@ vote_rises : (s : Synchronisation) (q k : ℕ) (o : Option Round) → Rises s (c
 vote_rises s q k None = omega arith
 vote_rises s q k (Some x) = closed_rises s (with_vote_for x q k) (round_vote s.f x q k)
 
-entered_rises : (p : Member) (v : View) (b : Bool) → Rises p.sync (enter_as b (entered p v)).state.sync
+entered_rises : (p : LocalState) (v : View) (b : Bool) → Rises p.sync (enter_as b (entered p v)).state.sync
 entered_rises p v true = omega arith
 entered_rises p v false = omega arith
 
 module _ {S : Type 0} (m : Meaning S) (f : ℕ) where
-  act_rises : (p : Member) (a : Act) → Rises p.sync (effect m p a).state.sync
+  act_rises : (p : LocalState) (a : Act) → Rises p.sync (effect m p a).state.sync
   act_rises p (Enter v) = entered_rises p v (leads (entered p v))
   act_rises p (Obey k) = commit_rises p.sync k (nat_le k p.sync.prepared)
   act_rises p OpenSync =

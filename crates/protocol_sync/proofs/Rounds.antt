@@ -16,21 +16,21 @@ use Rattle.lemmas.proofs.Views.{AtMost-refl}
 use Rattle.sync_points.specs.Synchronisation.{Round, Synchronisation, closed, counted_in, vote_in}
 use Rattle.protocol.specs.Conf.{Conf, Effect, DidSay, after}
 use Rattle.protocol.specs.Invariant.{Own, Inv}
-use Rattle.protocol.specs.Member.{Member, others}
+use Rattle.protocol.specs.LocalState.{LocalState, max_faults}
 use Rattle.protocol.specs.Moves.{say_all, open_sync, commit_if, count_sync_vote, MayCountSyncVote, MayLead}
 use Rattle.protocol.specs.Said.{SyncPrepare, SyncRep, SyncCommit}
-use Rattle.protocol_sync.specs.Synced.{Told, Synced, Anchored, Agrees, TrueSyncCommit, Syncing, GoodSync, Sync}
+use Rattle.protocol_sync.specs.Synced.{GoodLog, Synced, Anchored, Agrees, TrueSyncCommit, Syncing, GoodSync, Sync}
 use Rattle.protocol.proofs.Growing.{Kept}
 use Rattle.protocol.proofs.Places.{leads_it}
 use Rattle.protocol.proofs.Stays.{said_lasts}
 use Rattle.protocol_sync.proofs.Moves.{said_all}
-use Rattle.protocol_sync.proofs.Saying.{now, sync_after, quiet_after, quiet_none, quiet_unless, tells_none, tells_unless}
+use Rattle.protocol_sync.proofs.Saying.{now, sync_after, quiet_after, quiet_none, quiet_unless, none_say, unless_says}
 use Rattle.protocol_sync.proofs.Lasting.{inside}
 use Rattle.protocol.proofs.Votes.{vote_once, vote_holds, enough_from}
 
 module _ {S : Type 0} (m : Meaning S) (f : ℕ) (c : Conf) (r : ℕ) (inv : Inv m f c) (sync : Sync f c) (within : r < 2 * f + 1)
     (may : MayLead (c.replicas r)) where
-  abbrev p : Member
+  abbrev p : LocalState
   p = c.replicas r
 
   own : Own f c r p
@@ -52,9 +52,9 @@ module _ {S : Type 0} (m : Meaning S) (f : ℕ) (c : Conf) (r : ℕ) (inv : Inv 
   with_sync : Synchronisation → Effect
   with_sync s = record { state = record p { sync = s }; said = say_all p (SyncPrepare p.sync.sync_point p.log); replies = [] }
 
-  -- the own log is told with the own sync point
-  told_own : (d : Conf) → GoodSync f d r (record p { log = p.log }) → Told f d p.view p.sync.sync_point p.log
-  told_own d g = record { within = g.agrees.same.left; anchored = subst (λ (w : View). Anchored f d w p.sync.sync_point) view g.anchored }
+  -- the own log is sent with the own sync point
+  own_log_is_good : (d : Conf) → GoodSync f d r (record p { log = p.log }) → GoodLog f d p.view p.sync.sync_point p.log
+  own_log_is_good d g = record { within = g.agrees.same.left; anchored = subst (λ (w : View). Anchored f d w p.sync.sync_point) view g.anchored }
 
   -- ---- a round begins
 
@@ -92,8 +92,8 @@ module _ {S : Type 0} (m : Meaning S) (f : ℕ) (c : Conf) (r : ℕ) (inv : Inv 
           let g = inside m f c d inv kept.1 sync r within p.log had in
           let none : p.sync.f ≡ 0 = eqb-true p.sync.f 0 alone in
           quiet_after m f c r e inv sync within kept
-          (quiet_unless (others p == 0) p (SyncPrepare p.sync.sync_point p.log) (λ s. (λ i. cc, λ i. cc)))
-          (tells_unless (others p == 0) f d p (SyncPrepare p.sync.sync_point p.log) (told_own d g)) (record {
+          (quiet_unless (max_faults p == 0) p (SyncPrepare p.sync.sync_point p.log) (λ s. (λ i. cc, λ i. cc)))
+          (unless_says (max_faults p == 0) f d p (SyncPrepare p.sync.sync_point p.log) (own_log_is_good d g)) (record {
             count = g.count;
             anchored = inr (
               p.last_normal,
@@ -125,8 +125,8 @@ module _ {S : Type 0} (m : Meaning S) (f : ℕ) (c : Conf) (r : ℕ) (inv : Inv 
           let d = after f c r e in
           let g = inside m f c d inv kept.1 sync r within p.log (now m f c r e inv sync within kept) in
           quiet_after m f c r e inv sync within kept
-          (quiet_unless (others p == 0) p (SyncPrepare p.sync.sync_point p.log) (λ s. (λ i. cc, λ i. cc)))
-          (tells_unless (others p == 0) f d p (SyncPrepare p.sync.sync_point p.log) (told_own d g)) (record {
+          (quiet_unless (max_faults p == 0) p (SyncPrepare p.sync.sync_point p.log) (λ s. (λ i. cc, λ i. cc)))
+          (unless_says (max_faults p == 0) f d p (SyncPrepare p.sync.sync_point p.log) (own_log_is_good d g)) (record {
             count = g.count;
             anchored = g.anchored;
             agrees = g.agrees;
@@ -187,7 +187,7 @@ module _ {S : Type 0} (m : Meaning S) (f : ℕ) (c : Conf) (r : ℕ) (inv : Inv 
       at false v is settles kept =
           let e = effect_by x false v in
           let g = inside m f c (after f c r e) inv kept.1 sync r within p.log (now m f c r e inv sync within kept) in
-          quiet_after m f c r e inv sync within kept quiet_none (tells_none f (after f c r e)) (record {
+          quiet_after m f c r e inv sync within kept quiet_none (none_say f (after f c r e)) (record {
             count = g.count;
             anchored = g.anchored;
             agrees = g.agrees;
@@ -199,7 +199,7 @@ module _ {S : Type 0} (m : Meaning S) (f : ℕ) (c : Conf) (r : ℕ) (inv : Inv 
           let d = after f c r e in
           let g = inside m f c d inv kept.1 sync r within p.log (now m f c r e inv sync within kept) in
           let said = said_lasts m f c d kept.1 q p.view (SyncRep k) vote.vote.said in
-          quiet_after m f c r e inv sync within kept quiet_none (tells_none f (after f c r e)) (record {
+          quiet_after m f c r e inv sync within kept quiet_none (none_say f (after f c r e)) (record {
             count = g.count;
             anchored = g.anchored;
             agrees = g.agrees;
@@ -240,13 +240,13 @@ module _ {S : Type 0} (m : Meaning S) (f : ℕ) (c : Conf) (r : ℕ) (inv : Inv 
             anchored = anchored;
           } in
           sync_after m f c r e inv sync within kept
-          (λ i w s j. absurd (let a = said_all (others p == 0) p (SyncCommit k) (SyncRep s) i w j in let b = a.2 in cc))
+          (λ i w s j. absurd (let a = said_all (max_faults p == 0) p (SyncCommit k) (SyncRep s) i w j in let b = a.2 in cc))
           (λ i w s j.
-          let a = said_all (others p == 0) p (SyncCommit k) (SyncCommit s) i w j in
+          let a = said_all (max_faults p == 0) p (SyncCommit k) (SyncCommit s) i w j in
           let len : s ≡ k = (let b = a.2 in cc) in
           subst (λ (n : ℕ). TrueSyncCommit f d n w s) (sym (a.0 ∙ own.number)) (subst (λ (v : View). TrueSyncCommit f d r v s) (sym a.1)
           (subst (TrueSyncCommit f d r p.view) (same ∙ sym len) commit)))
-          (tells_unless (others p == 0) f d p (SyncCommit k) tt)
+          (unless_says (max_faults p == 0) f d p (SyncCommit k) tt)
           (record {
             count = g.count;
             anchored = subst (λ (n : ℕ). Anchored f d p.last_normal n) top (subst (λ (w : View). Anchored f d w x.len) (sym view) anchored);
@@ -259,7 +259,7 @@ module _ {S : Type 0} (m : Meaning S) (f : ℕ) (c : Conf) (r : ℕ) (inv : Inv 
     by_round None is kept =
         let e = effect_of None in
         let g = inside m f c (after f c r e) inv kept.1 sync r within p.log (now m f c r e inv sync within kept) in
-        quiet_after m f c r e inv sync within kept quiet_none (tells_none f (after f c r e)) (record {
+        quiet_after m f c r e inv sync within kept quiet_none (none_say f (after f c r e)) (record {
           count = g.count;
           anchored = g.anchored;
           agrees = g.agrees;

@@ -20,7 +20,7 @@ use Rattle.lemmas.proofs.Slots.{slot_of-within}
 use Rattle.lemmas.proofs.Views.{cases_View, Below-then_at_most}
 use Rattle.protocol.specs.Conf.{Conf, DidSay, Settled}
 use Rattle.protocol.specs.Invariant.{GoodLog, Own, Inv}
-use Rattle.protocol.specs.Member.{Member}
+use Rattle.protocol.specs.LocalState.{LocalState}
 use Rattle.protocol.specs.Said.{Said, Word, Plain, Found, GapCommit, GapRep, ViewChange, StartView, SyncPrepare, SyncRep, SyncCommit, says}
 use Rattle.protocol.specs.Truth.{Prepared}
 use Rattle.protocol.proofs.Places.{normal_low}
@@ -28,7 +28,7 @@ use Rattle.lemmas.proofs.Options.{same_Some-at}
 use Rattle.protocol_sync.proofs.Facts.{slot_in_prefix}
 use Rattle.protocol_sync.specs.Sound.{EntryIsSound, LogsAreSound, WaitsAt, IsUnsettled, LeadersAreSound, NumbersAreSound}
 use Rattle.protocol_sync.specs.Synced.{Sync}
-use Rattle.protocol_sync.proofs.SoundPoints.{told_synchronised}
+use Rattle.protocol_sync.proofs.SoundPoints.{good_log_synchronised}
 
 -- ---- whether a SyncPrepare of a length was sent
 
@@ -118,7 +118,7 @@ module _ {S : Type 0} (m : Meaning S) (f : ℕ) (c : Conf) (inv : Inv m f c) whe
     abbrev r : ℕ
     r = leader_of w (2 * f + 1)
 
-    abbrev p : Member
+    abbrev p : LocalState
     p = c.replicas r
 
     own : Own f c r p
@@ -206,7 +206,7 @@ module _ {S : Type 0} (m : Meaning S) (f : ℕ) (c : Conf) (inv : Inv m f c) whe
           lead = t.lead;
           leads = t.leads;
           begins = t.begins;
-          point = λ one. told_synchronised m f c inv sync w z l t.lead one t.leads t.begins (sync.points.prepares q w z l h);
+          point = λ one. good_log_synchronised m f c inv sync w z l t.lead one t.leads t.begins (sync.points.prepares q w z l h);
         };
     noops = noop_sound;
   }

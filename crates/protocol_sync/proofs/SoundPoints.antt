@@ -14,7 +14,7 @@ use Rattle.protocol.specs.Conf.{Conf, last_normals}
 use Rattle.protocol.specs.Invariant.{Inv}
 use Rattle.protocol.proofs.Grounding.{grounds_of}
 use Rattle.protocol_sync.specs.Sound.{PrefixIsSynchronised}
-use Rattle.protocol_sync.specs.Synced.{Anchored, Agrees, Told, Sync}
+use Rattle.protocol_sync.specs.Synced.{Anchored, Agrees, GoodLog, Sync}
 use Rattle.protocol_sync.proofs.Lasting.{synced_fixes}
 
 module _ {S : Type 0} (m : Meaning S) (f : ℕ) (c : Conf) (inv : Inv m f c) (sync : Sync f c) where
@@ -62,11 +62,11 @@ module _ {S : Type 0} (m : Meaning S) (f : ℕ) (c : Conf) (inv : Inv m f c) (sy
       agreed w l a.lead s a.same.left a.same.right a.same.same (led_synchronised w a.lead s one a.leads anchored)
 
   -- of a log that the leader tells
-  pub told_synchronised : (w : View) (z : ℕ) (l k : List Entry) → 1 ≤ z → LeaderHad f c.past w k → IsPrefixOf l k → Told f c w z l
+  pub good_log_synchronised : (w : View) (z : ℕ) (l k : List Entry) → 1 ≤ z → LeaderHad f c.past w k → IsPrefixOf l k → GoodLog f c w z l
       → PrefixIsSynchronised f c w l z
-  told_synchronised w z l k one led begins told =
-      synchronised w l z one told.anchored (record {
+  good_log_synchronised w z l k one led begins good_log =
+      synchronised w l z one good_log.anchored (record {
         lead = k;
         leads = led;
-        same = same_from_prefix z l l k told.within (IsPrefixOf-refl l) begins;
+        same = same_from_prefix z l l k good_log.within (IsPrefixOf-refl l) begins;
       })

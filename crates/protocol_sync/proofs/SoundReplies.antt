@@ -7,7 +7,7 @@ use Rattle.protocol.specs.Conf.{Conf}
 use Rattle.protocol.specs.Invariant.{Replied, Inv}
 use Rattle.protocol_sync.specs.Sound.{RepliesAreSound, AcceptsAreSound}
 use Rattle.protocol_sync.proofs.Facts.{quorum_with}
-use Rattle.protocol_sync.proofs.Concluding.{told, accepted_kept}
+use Rattle.protocol_sync.proofs.Concluding.{was_replied, accepted_kept}
 
 module _ {S : Type 0} (m : Meaning S) (f : ℕ) (c : Conf) (inv : Inv m f c) where
   pub replies_sound : RepliesAreSound m f c
@@ -24,7 +24,7 @@ module _ {S : Type 0} (m : Meaning S) (f : ℕ) (c : Conf) (inv : Inv m f c) whe
   pub accepts_sound : AcceptsAreSound m f c
   accepts_sound k client id result e =
       let a = inv.lines.grounds k client id result e in
-      let said = told m f c inv k client id result a in
+      let said = was_replied m f c inv k client id result a in
       let q = quorum_with f (leader_of a.view (2 * f + 1)) (Replied c.replies a.view a.slot client id)
       (leader_within f a.view) a.leaders a.quorum in
       record {

@@ -15,9 +15,9 @@ use Rattle.protocol.specs.Said.{ViewChange, StartView, says}
 use Rattle.protocol.specs.Truth.{Begun}
 use Rattle.protocol.proofs.Grounding.{grounds_of}
 use Rattle.lemmas.proofs.Options.{same_Some-at}
-use Rattle.protocol_sync.specs.Sound.{ChangeIsSound, ViewsAreSound, StartIsSound, TellsStart, StartsAreSound}
+use Rattle.protocol_sync.specs.Sound.{ChangeIsSound, ViewsAreSound, StartIsSound, IsGoodStart, StartsAreSound}
 use Rattle.protocol_sync.specs.Synced.{Sync}
-use Rattle.protocol_sync.proofs.SoundPoints.{synchronised, told_synchronised}
+use Rattle.protocol_sync.proofs.SoundPoints.{synchronised, good_log_synchronised}
 
 module _ {S : Type 0} (m : Meaning S) (f : ℕ) (c : Conf) (inv : Inv m f c) (sync : Sync f c) where
   change_sound : (r : ℕ) (v u : View) (x z : ℕ) (l : List Entry) → DidSay c.said r v (ViewChange u x z l)
@@ -58,8 +58,8 @@ module _ {S : Type 0} (m : Meaning S) (f : ℕ) (c : Conf) (inv : Inv m f c) (sy
       let t = (inv.starts w x is).by apart in
       record { changes = t.changes; entered = t.certificate; leader = t.leader; opens = t.opens }
 
-  tells_start : (q : ℕ) (w : View) (x z : ℕ) (l : List Entry) → DidSay c.said q w (StartView x z l) → TellsStart f c q w x z l
-  tells_start q w x z l h =
+  start_is_sent : (q : ℕ) (w : View) (x z : ℕ) (l : List Entry) → DidSay c.said q w (StartView x z l) → IsGoodStart f c q w x z l
+  start_is_sent q w x z l h =
       let t : Begun f c q w x l = inv.said (says q w (StartView x z l)) h in
       let good = inv.logs (leader_of w (2 * f + 1)) w t.lead t.leads in
       let same : good.start ≡ t.start = same_Some-at (c.past.start w) good.start t.start good.is_start t.is_start in
@@ -73,13 +73,13 @@ module _ {S : Type 0} (m : Meaning S) (f : ℕ) (c : Conf) (inv : Inv m f c) (sy
         leads = t.leads;
         of_lead = t.begins;
         next = omega (arith, t.counted);
-        point = λ one. told_synchronised m f c inv sync w z l t.lead one t.leads t.begins (sync.points.starts q w x z l h);
+        point = λ one. good_log_synchronised m f c inv sync w z l t.lead one t.leads t.begins (sync.points.starts q w x z l h);
       }
 
   pub starts_sound : IsStart c.past first_view (record { next = 1; log = [] }) → StartsAreSound f c
   starts_sound first = record {
     first = first;
     by = start_sound;
-    told = tells_start;
+    sent = start_is_sent;
     comparable = started_are_comparable f c.stamps (last_normals c) c.past (grounds_of m f c inv);
   }

@@ -6,14 +6,14 @@ use Rattle.gap_agree.specs.Agreement.{Agreement}
 use Rattle.sync_points.specs.Synchronisation.{Round}
 use Rattle.protocol.specs.Conf.{Conf, opening}
 use Rattle.protocol.specs.Invariant.{Inv}
-use Rattle.protocol.specs.Member.{Member}
+use Rattle.protocol.specs.LocalState.{LocalState}
 use Rattle.protocol.specs.Moves.{MayLead}
 use Rattle.protocol.specs.Runs.{Move, MayAll, run}
 use Rattle.protocol.specs.Truth.{Prepared}
 use Rattle.protocol_sync.specs.Synced.{Sync}
 
 -- at one replica
-pub record GapIsAbove (p : Member) : Type 0 where
+pub record GapIsAbove (p : LocalState) : Type 0 where
   pub point : (g : Agreement) → p.gap ≡ Some g → p.sync.sync_point < g.slot
   pub round : (g : Agreement) (x : Round) → p.gap ≡ Some g → p.sync.syncing ≡ Some x → x.len < g.slot
 

@@ -7,7 +7,7 @@ use Rattle.nop_types.specs.Meaning.{Meaning}
 use Rattle.log_merge.specs.Starting.{start_of, start_point}
 use Rattle.protocol.specs.Conf.{Conf}
 use Rattle.protocol.specs.Invariant.{Inv}
-use Rattle.protocol.specs.Member.{PlainGathering}
+use Rattle.protocol.specs.LocalState.{PlainGathering}
 use Rattle.protocol.specs.Moves.{MayOpenView}
 use Rattle.protocol_sync.specs.Synced.{Sync}
 

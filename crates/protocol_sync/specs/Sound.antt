@@ -28,7 +28,7 @@ use Rattle.sync_points.specs.Synchronisation.{Round}
 use Rattle.view_change.specs.Gathering.{IsOfSender}
 use Rattle.protocol.specs.Conf.{Conf, DidSay, Settled, WasSubmitted, Owns}
 use Rattle.protocol.specs.Invariant.{Replied}
-use Rattle.protocol.specs.Member.{Member, PlainGathering}
+use Rattle.protocol.specs.LocalState.{LocalState, PlainGathering}
 use Rattle.protocol.specs.Said.{Said, Found, GapCommit, GapRep, ViewChange, StartView, SyncPrepare, SyncRep, SyncCommit}
 use Rattle.protocol.specs.Truth.{LeaderHas}
 use Rattle.protocol_sync.specs.Synced.{SyncRises}
@@ -132,9 +132,9 @@ pub record StartIsSound (f : ℕ) (c : Conf) (w : View) (x : Start) : Type 0 whe
   pub leader : IsOfSender plain.sender_of changes (leader_of w (2 * f + 1))
   pub opens : x ≡ start_of w changes
 
--- a StartView tells a prefix of its leader's log, no shorter than the start, the number that belongs to its length, and a sync point
+-- a StartView has a prefix of its leader's log, no shorter than the start, the number that belongs to its length, and a sync point
 -- up to which the log is synchronised
-pub record TellsStart (f : ℕ) (c : Conf) (q : ℕ) (w : View) (x z : ℕ) (l : List Entry) : Type 0 where
+pub record IsGoodStart (f : ℕ) (c : Conf) (q : ℕ) (w : View) (x z : ℕ) (l : List Entry) : Type 0 where
   pub sender : q ≡ leader_of w (2 * f + 1)
   pub start : Start
   pub is_start : IsStart c.past w start
@@ -149,7 +149,7 @@ pub record TellsStart (f : ℕ) (c : Conf) (q : ℕ) (w : View) (x z : ℕ) (l :
 pub record StartsAreSound (f : ℕ) (c : Conf) : Type 0 where
   pub first : IsStart c.past first_view (record { next = 1; log = [] })
   pub by : (w : View) (x : Start) → IsStart c.past w x → (w ≡ first_view → ⊥) → StartIsSound f c w x
-  pub told : (q : ℕ) (w : View) (x z : ℕ) (l : List Entry) → DidSay c.said q w (StartView x z l) → TellsStart f c q w x z l
+  pub sent : (q : ℕ) (w : View) (x z : ℕ) (l : List Entry) → DidSay c.said q w (StartView x z l) → IsGoodStart f c q w x z l
   pub comparable : (v w : View) → IsStarted c.past v → IsStarted c.past w → Comparable v w
 
 -- ---- the logs of a view
@@ -169,7 +169,7 @@ pub record LogsAreSound (f : ℕ) (c : Conf) : Type 0 where
 -- ---- the log of the leader
 
 -- the replica waits in the view for votes for a gap in the slot
-abbrev pub WaitsAt : Member → View → ℕ → Type 0
+abbrev pub WaitsAt : LocalState → View → ℕ → Type 0
 WaitsAt p w k = (p.view ≡ w) × (g : Agreement) × (p.gap ≡ Some g) × (g.slot ≡ k)
 
 -- a NO-OP that is not settled is in the last slot, no SyncPrepare of that length was sent, and the leader waits for votes or has left the

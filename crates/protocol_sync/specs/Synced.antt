@@ -10,7 +10,7 @@ use Rattle.started_views.specs.Past.{Entered, HadLog, LeaderHad, IsStarted}
 use Rattle.started_views.specs.Quorums.{counts, Others}
 use Rattle.sync_points.specs.Synchronisation.{Round}
 use Rattle.protocol.specs.Conf.{Conf, DidSay}
-use Rattle.protocol.specs.Member.{Member}
+use Rattle.protocol.specs.LocalState.{LocalState}
 use Rattle.protocol.specs.Said.{StartView, SyncPrepare, SyncRep, SyncCommit}
 
 -- f others said that they have the first s slots of the leader of u, which has them
@@ -64,17 +64,17 @@ pub record Syncing (f : ℕ) (c : Conf) (r : ℕ) (view : View) (status : Phase)
   pub apart : (q : ℕ) → 1 ≤ counts q x.votes → q ≡ r → ⊥
   pub voted : (q : ℕ) → 1 ≤ counts q x.votes → DidSay c.said q view (SyncRep x.len)
 
-pub record GoodSync (f : ℕ) (c : Conf) (r : ℕ) (p : Member) : Type 0 where
+pub record GoodSync (f : ℕ) (c : Conf) (r : ℕ) (p : LocalState) : Type 0 where
   pub count : p.sync.f ≡ f
   pub anchored : Anchored f c p.last_normal p.sync.sync_point
   pub agrees : Agrees f c p.last_normal p.log p.sync.sync_point
   pub prepared : 1 ≤ p.sync.prepared → HasPrepared f c r p.view p.status p.log p.sync.prepared
   pub syncing : (x : Round) → p.sync.syncing ≡ Some x → Syncing f c r p.view p.status p.sync.sync_point (length p.log) x
 
--- ---- sync points that are told
+-- ---- sync points that are sent
 
--- a log that is told in w reaches its sync point, which is anchored there
-pub record Told (f : ℕ) (c : Conf) (w : View) (z : ℕ) (l : List Entry) : Type 0 where
+-- a log that is sent in w reaches its sync point, which is anchored there
+pub record GoodLog (f : ℕ) (c : Conf) (w : View) (z : ℕ) (l : List Entry) : Type 0 where
   pub within : z ≤ length l
   pub anchored : Anchored f c w z
 
@@ -85,8 +85,8 @@ pub record GoodPoint (f : ℕ) (c : Conf) (e : Entered) : Type 0 where
 
 pub record Points (f : ℕ) (c : Conf) : Type 0 where
   pub entries : (r : ℕ) (v : View) (e : Entered) → c.past.entry r v ≡ Some e → GoodPoint f c e
-  pub starts : (q : ℕ) (w : View) (x z : ℕ) (l : List Entry) → DidSay c.said q w (StartView x z l) → Told f c w z l
-  pub prepares : (q : ℕ) (w : View) (z : ℕ) (l : List Entry) → DidSay c.said q w (SyncPrepare z l) → Told f c w z l
+  pub starts : (q : ℕ) (w : View) (x z : ℕ) (l : List Entry) → DidSay c.said q w (StartView x z l) → GoodLog f c w z l
+  pub prepares : (q : ℕ) (w : View) (z : ℕ) (l : List Entry) → DidSay c.said q w (SyncPrepare z l) → GoodLog f c w z l
 
 -- ---- all of it
 

@@ -37,7 +37,7 @@ pub fn gaps_stay_above<S>()
 {}
 
 /// What a view starts with begins with what each change that its leader gathered has up to its sync
-/// point, and reaches the sync point that it is told with.
+/// point, and reaches the sync point that it is sent with.
 pub fn starts_begin_with_synchronised<S>()
     ensures begin { (m : Meaning S) → StartsBeginWithSynced m }
     ensures point { (m : Meaning S) → StartsReachTheirPoints m }

@@ -6,7 +6,7 @@
 //! logged, replied and accepted is sound (`runs_are_sound`); and no later move takes back what a
 //! run has reached (`runs_go_on`).
 //!
-//! It goes on where `protocol` ends: sync points, a replica's own and those told with logs, have an
+//! It goes on where `protocol` ends: sync points, a replica's own and those sent with logs, have an
 //! invariant `Sync` of their own above `Inv` (`opening_is_synced`, `syncs_keep`), and they never
 //! fall (`sync_points_never_fall`). The parts of `runs_are_safe` are laws too:
 //! `synchronised_prefixes_agree`, `synchronised_prefixes_begin`, `lines_are_legal`. A gap that waits

@@ -17,13 +17,13 @@ use Rattle.replica_state.specs.Replies.{replies_above}
 use Rattle.replica_rows.specs.Rows.{start_view}
 use Rattle.replica_state.specs.State.{PointsMeet, is_normal, is_other, is_at_most, may_adopt}
 use Rattle.protocol.specs.Conf.{Conf, DidSay}
-use Rattle.protocol.specs.Member.{Member}
+use Rattle.protocol.specs.LocalState.{LocalState}
 use Rattle.protocol.specs.Moves as moves
 use Rattle.protocol.specs.Moves.{MayAdopt}
 use Rattle.protocol.specs.Replies as replies
 use Rattle.protocol.specs.Runs.{Adopt}
 use Rattle.protocol.specs.Said.{StartView}
-use Rattle.refinement.specs.Projection.{member_of}
+use Rattle.refinement.specs.Projection.{local_state_of}
 use Rattle.refinement.specs.Replicas.{Matches, ReplicaReaches}
 use Rattle.refinement.proofs.Composing.{move_reaches, reaches_then_in_view, when_reaches}
 use Rattle.refinement.proofs.Draining.{drain_in_view}
@@ -44,17 +44,17 @@ change_from false Normal e t = absurd cc
 -- ---- the log that is adopted is the one that is told, where the own one up to the sync point begins it
 
 pub adopted_same : (s : ReplicaState) (v : View) (x : ℕ) (l : Log) → Begins s.log l.entries
-    → member_of (adopted Whole s v x l) ≡ moves.adopted (member_of s) v x l.sync_point l.entries
+    → local_state_of (adopted Whole s v x l) ≡ moves.adopted (local_state_of s) v x l.sync_point l.entries
 adopted_same s v x l begins =
     let e : (logs.adopted Whole l s.log).entries ≡ l.entries = adopted_entries l s.log begins in
-    λ i. record (moves.adopted (member_of s) v x l.sync_point l.entries) { log = e i; base = length (e i) }
+    λ i. record (moves.adopted (local_state_of s) v x l.sync_point l.entries) { log = e i; base = length (e i) }
 
 pub adopted_meet : (s : ReplicaState) (v : View) (x : ℕ) (l : Log) → PointsMeet s → PointsMeet (adopted Whole s v x l)
 adopted_meet s v x l points = adopted_point l s.log ∙ ap (λ (n : ℕ). max n l.sync_point) points
 
 module _ {S : Type 0} (m : Meaning S) (f : ℕ) (r : ℕ) where
   pub adopt_reaches : (c : Conf) (s : ReplicaState) (v : View) (x : ℕ) (l : Log) → Matches m f c r s
-      → MayAdopt c (member_of s) v x l.sync_point l.entries → ReplicaReaches m f c r s (adopt m Whole s v x l)
+      → MayAdopt c (local_state_of s) v x l.sync_point l.entries → ReplicaReaches m f c r s (adopt m Whole s v x l)
   unfolding adopt
   adopt_reaches c s v x l h may =
       let t : ReplicaState = adopted Whole s v x l in
@@ -64,13 +64,13 @@ module _ {S : Type 0} (m : Meaning S) (f : ℕ) (r : ℕ) where
       (move_reaches m f r c s (t, replies_above m Whole t n) (Adopt v x l.sync_point l.entries) h may (record {
         state = state;
         said = said_above m t n;
-        replies = replied_above m t n ∙ ap (λ (p : Member). replies.replies_above m p n) state;
+        replies = replied_above m t n ∙ ap (λ (p : LocalState). replies.replies_above m p n) state;
       }) (adopted_meet s v x l h.points))
       (λ d g. drain_in_view m f r d t g)
 
   may_adopt_from : (c : Conf) (s : ReplicaState) (q : ℕ) (v : View) (x : ℕ) (l : Log) → IsOther f s q
       → DidSay c.said q v (StartView x l.sync_point l.entries) → may_adopt Whole s q v l ≡ true
-      → MayAdopt c (member_of s) v x l.sync_point l.entries
+      → MayAdopt c (local_state_of s) v x l.sync_point l.entries
   may_adopt_from c s q v x l other said e =
       let leader = and_parts (q == leader_of v s.config.replicas) _ e in
       let order = and_parts (is_at_most s.view v) _ leader.1 in

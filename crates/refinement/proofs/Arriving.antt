@@ -9,7 +9,7 @@ use Rattle.nop_types.specs.Lists.{Has}
 use Rattle.nop_types.specs.Logs.{Whole}
 use Rattle.nop_types.specs.Meaning.{Meaning}
 use Rattle.replica_state.specs.declared.state.ReplicaState.{ReplicaState}
-use Rattle.replica_rows.specs.Messages.{loads_in, Arrival, Packet, Told, Ticked, in_view, on_body, on_message, ticked, arrive}
+use Rattle.replica_rows.specs.Messages.{loads_in, Arrival, Packet, PeerMessage, Ticked, dispatch, on_body, on_message, ticked, arrive}
 use Rattle.replica_state.specs.State.{is_other}
 use Rattle.protocol.specs.Conf.{Conf}
 use Rattle.protocol.specs.Said.{says}
@@ -26,7 +26,7 @@ use Rattle.refinement.proofs.ViewChanges.{view_change_reaches}
 
 module _ {S : Type 0} (m : Meaning S) (f : ℕ) (c : Conf) (r : ℕ) (s : ReplicaState) (h : Matches m f c r s) where
   in_its_view : (p : Peer) (body : Body) → is_other s p.sender ≡ true → Has c.said (says p.sender p.view (word_of body))
-      → ReplicaReaches m f c r s (in_view m Whole p.sender p.view body s)
+      → ReplicaReaches m f c r s (dispatch m Whole p.sender p.view body s)
   in_its_view p body other came =
       (message_in_view m f c r s h p.sender p.view body (other_from m f c r s p.sender h other) came).reaches
 
@@ -54,7 +54,7 @@ module _ {S : Type 0} (m : Meaning S) (f : ℕ) (c : Conf) (r : ℕ) (s : Replic
   arrival_reaches : (a : Arrival) → Came c a → ReplicaReaches m f c r s (arrive m Whole s a)
   unfolding arrive
   arrival_reaches (Packet p) came = stamped_reaches m f c r s h p came
-  arrival_reaches (Told p) came =
+  arrival_reaches (PeerMessage p) came =
       when_reaches m f r c s (loads_in m p.body) (on_message m Whole p) h (λ _. message_reaches p came)
   arrival_reaches (Ticked tick) came = tick_reaches tick
 

@@ -11,20 +11,20 @@ use Rattle.replica_state.specs.State.{PointsMeet}
 use Rattle.replica_state.specs.Sends.{Effect, still, then_do, when}
 use Rattle.protocol.specs.Conf.{Conf}
 use Rattle.protocol.specs.Conf as protocol
-use Rattle.protocol.specs.Member.{Member, standing}
+use Rattle.protocol.specs.LocalState.{LocalState, standing}
 use Rattle.protocol.specs.Runs.{Act, Acts, effect, MayAct, run}
 use Rattle.protocol.specs.Said.{Said}
 use Rattle.nop_types.specs.declared.datagram.Reply.{Reply}
 use Rattle.protocol.proofs.Runs.{run_keeps}
 use Rattle.protocol_sync.proofs.Above.{gaps_stay_above}
 use Rattle.protocol_sync.proofs.Runs.{run_syncs}
-use Rattle.refinement.specs.Projection.{member_of, said_in, replied_in}
+use Rattle.refinement.specs.Projection.{local_state_of, said_in, replied_in}
 use Rattle.refinement.specs.Replicas.{Matches, SameBut, Adds, AddsSends, ReplicaReaches}
 use Rattle.refinement.proofs.Matching.{current}
 use Rattle.refinement.proofs.Parts.{Stays, Keeps, note_idle, note_parts, parts_staying, parts_keeping, stays_trans, stays_still}
 use Rattle.refinement.proofs.Runs.{run-append, may_all-append}
 use Rattle.refinement.proofs.Same.{Same}
-use Rattle.refinement.proofs.Sends.{adds_front, sends_none, sends_more}
+use Rattle.refinement.proofs.Sends.{adds_prefix, sends_none, sends_more}
 
 same_but_refl : (r : ℕ) (c : Conf) → SameBut r c c
 same_but_refl r c = record {
@@ -65,14 +65,14 @@ same_but_after f r c x = record {
 sends_after : (f r : ℕ) (c : Conf) (x : protocol.Effect) (sends : List Sending) → said_in sends ≡ x.said → replied_in sends ≡ x.replies
     → AddsSends c (protocol.after f c r x) sends
 sends_after f r c x sends a b = record {
-  said = subst (λ (more : List Said). Adds c.said (x.said ++ c.said) more) (sym a) (adds_front c.said x.said);
-  replies = subst (λ (more : List Reply). Adds c.replies (x.replies ++ c.replies) more) (sym b) (adds_front c.replies x.replies);
+  said = subst (λ (more : List Said). Adds c.said (x.said ++ c.said) more) (sym a) (adds_prefix c.said x.said);
+  replies = subst (λ (more : List Reply). Adds c.replies (x.replies ++ c.replies) more) (sym b) (adds_prefix c.replies x.replies);
 }
 
 -- a step that stays in its view
 pub record InView {S : Type 0} (m : Meaning S) (f : ℕ) (c : Conf) (r : ℕ) (s : ReplicaState) (e : Effect) : Type 0 where
   pub reaches : ReplicaReaches m f c r s e
-  pub stays : Stays f r (standing (member_of s)) (standing (member_of e.0))
+  pub stays : Stays f r (standing (local_state_of s)) (standing (local_state_of e.0))
 
 module _ {S : Type 0} (m : Meaning S) (f : ℕ) (r : ℕ) where
   -- where the moves end
@@ -88,7 +88,7 @@ module _ {S : Type 0} (m : Meaning S) (f : ℕ) (r : ℕ) where
   }
 
   -- nothing is done, but to what the protocol does not see
-  pub nothing_reaches : (c : Conf) (s t : ReplicaState) → Matches m f c r s → member_of t ≡ member_of s → PointsMeet t
+  pub nothing_reaches : (c : Conf) (s t : ReplicaState) → Matches m f c r s → local_state_of t ≡ local_state_of s → PointsMeet t
       → ReplicaReaches m f c r s (still t)
   nothing_reaches c s t h same points = record {
     moves = [];
@@ -97,19 +97,19 @@ module _ {S : Type 0} (m : Meaning S) (f : ℕ) (r : ℕ) where
     points = points;
     others = same_but_refl r c;
     past =
-        sym (note_idle f c.past r (standing (member_of s)) (current m f c r s h))
-        ∙ ap (λ (p : Member). note f c.past r (standing (member_of s)) (standing p)) (sym same);
+        sym (note_idle f c.past r (standing (local_state_of s)) (current m f c r s h))
+        ∙ ap (λ (p : LocalState). note f c.past r (standing (local_state_of s)) (standing p)) (sym same);
     sends = sends_none c;
   }
 
   -- one move
-  pub move_reaches : (c : Conf) (s : ReplicaState) (e : Effect) (a : Act) → Matches m f c r s → MayAct f c (member_of s) a
-      → Same e (effect m (member_of s) a) → PointsMeet e.0 → ReplicaReaches m f c r s e
+  pub move_reaches : (c : Conf) (s : ReplicaState) (e : Effect) (a : Act) → Matches m f c r s → MayAct f c (local_state_of s) a
+      → Same e (effect m (local_state_of s) a) → PointsMeet e.0 → ReplicaReaches m f c r s e
   move_reaches c s e a h may same points =
-      let at : effect m (c.replicas r) a ≡ effect m (member_of s) a = ap (λ (p : Member). effect m p a) h.state in
+      let at : effect m (c.replicas r) a ≡ effect m (local_state_of s) a = ap (λ (p : LocalState). effect m p a) h.state in
       record {
         moves = Acts r a ∷ [];
-        may = ((h.within, subst (λ (p : Member). MayAct f c p a) (sym h.state) may), tt);
+        may = ((h.within, subst (λ (p : LocalState). MayAct f c p a) (sym h.state) may), tt);
         state =
             put-here c.replicas r (effect m (c.replicas r) a).state
             ∙ ap (λ (x : protocol.Effect). x.state) at
@@ -117,8 +117,8 @@ module _ {S : Type 0} (m : Meaning S) (f : ℕ) (r : ℕ) where
         points = points;
         others = same_but_after f r c (effect m (c.replicas r) a);
         past =
-            ap (λ (p : Member). note f c.past r (standing p) (standing (effect m p a).state)) h.state
-            ∙ ap (λ (p : Member). note f c.past r (standing (member_of s)) (standing p)) (sym same.state);
+            ap (λ (p : LocalState). note f c.past r (standing p) (standing (effect m p a).state)) h.state
+            ∙ ap (λ (p : LocalState). note f c.past r (standing (local_state_of s)) (standing p)) (sym same.state);
         sends = sends_after f r c (effect m (c.replicas r) a) e.1
             (same.said ∙ ap (λ (x : protocol.Effect). x.said) (sym at))
             (same.replies ∙ ap (λ (x : protocol.Effect). x.replies) (sym at));
@@ -128,7 +128,7 @@ module _ {S : Type 0} (m : Meaning S) (f : ℕ) (r : ℕ) where
 
   reaches_then : (c : Conf) (s : ReplicaState) (e : Effect) (g : ReplicaState → Effect) (one : ReplicaReaches m f c r s e)
       → ReplicaReaches m f (run m f c one.moves) r e.0 (g e.0)
-      → InParts f c.past r (standing (member_of s)) (standing (member_of e.0)) (standing (member_of (g e.0).0))
+      → InParts f c.past r (standing (local_state_of s)) (standing (local_state_of e.0)) (standing (local_state_of (g e.0).0))
       → ReplicaReaches m f c r s (then_do e g)
   reaches_then c s (t, sends) g one two parts =
       let d : Conf = run m f c one.moves in
@@ -143,8 +143,8 @@ module _ {S : Type 0} (m : Meaning S) (f : ℕ) (r : ℕ) where
         past =
             ap (λ (x : Conf). x.past) same
             ∙ two.past
-            ∙ ap (λ (x : Past). note f x r (standing (member_of t)) (standing (member_of (g t).0))) one.past
-            ∙ note_parts f c.past r (standing (member_of s)) (standing (member_of t)) (standing (member_of (g t).0)) parts;
+            ∙ ap (λ (x : Past). note f x r (standing (local_state_of t)) (standing (local_state_of (g t).0))) one.past
+            ∙ note_parts f c.past r (standing (local_state_of s)) (standing (local_state_of t)) (standing (local_state_of (g t).0)) parts;
         sends = subst (λ (x : Conf). AddsSends c x (sends ++ (g t).1)) (sym same) (sends_more c d end sends (g t).1 one.sends two.sends);
       }
 
@@ -154,8 +154,8 @@ module _ {S : Type 0} (m : Meaning S) (f : ℕ) (r : ℕ) where
       → ReplicaReaches m f c r s (then_do e g)
   reaches_then_in_view c s e g h one next =
       let two = next (run m f c one.moves) (matches_end c s e h one) in
-      reaches_then c s e g one two.reaches (parts_staying f c.past r (standing (member_of s)) (standing (member_of e.0))
-      (standing (member_of (g e.0).0)) two.stays)
+      reaches_then c s e g one two.reaches (parts_staying f c.past r (standing (local_state_of s)) (standing (local_state_of e.0))
+      (standing (local_state_of (g e.0).0)) two.stays)
 
   -- both stay in the view
   pub in_view_then : (c : Conf) (s : ReplicaState) (e : Effect) (g : ReplicaState → Effect) → Matches m f c r s
@@ -164,29 +164,29 @@ module _ {S : Type 0} (m : Meaning S) (f : ℕ) (r : ℕ) where
       let two = next (run m f c one.reaches.moves) (matches_end c s (t, sends) h one.reaches) in
       record {
         reaches = reaches_then_in_view c s (t, sends) g h one.reaches next;
-        stays = stays_trans f r (standing (member_of s)) (standing (member_of t)) (standing (member_of (g t).0)) one.stays two.stays;
+        stays = stays_trans f r (standing (local_state_of s)) (standing (local_state_of t)) (standing (local_state_of (g t).0)) one.stays two.stays;
       }
 
   -- a step that changes nothing that is noted but the view, and one after it, of which one at most enters a view
   pub keeps_then : (c : Conf) (s : ReplicaState) (e : Effect) (g : ReplicaState → Effect) → Matches m f c r s
-      → (one : ReplicaReaches m f c r s e) → Keeps (standing (member_of s)) (standing (member_of e.0))
+      → (one : ReplicaReaches m f c r s e) → Keeps (standing (local_state_of s)) (standing (local_state_of e.0))
       → ReplicaReaches m f (run m f c one.moves) r e.0 (g e.0) → ((g e.0).0.view ≡ e.0.view) ⊎ (e.0.view ≡ s.view)
       → ReplicaReaches m f c r s (then_do e g)
   keeps_then c s e g h one keeps two once =
-      reaches_then c s e g one two (parts_keeping f c.past r (standing (member_of s)) (standing (member_of e.0))
-      (standing (member_of (g e.0).0)) keeps (current m f c r s h) once)
+      reaches_then c s e g one two (parts_keeping f c.past r (standing (local_state_of s)) (standing (local_state_of e.0))
+      (standing (local_state_of (g e.0).0)) keeps (current m f c r s h) once)
 
   -- ---- parts that stay in the view
 
-  pub nothing_in_view : (c : Conf) (s t : ReplicaState) → Matches m f c r s → member_of t ≡ member_of s → PointsMeet t
+  pub nothing_in_view : (c : Conf) (s t : ReplicaState) → Matches m f c r s → local_state_of t ≡ local_state_of s → PointsMeet t
       → InView m f c r s (still t)
   nothing_in_view c s t h same points = record {
     reaches = nothing_reaches c s t h same points;
-    stays = subst (λ (p : Member). Stays f r (standing (member_of s)) (standing p)) (sym same) (stays_still f r (standing (member_of s)));
+    stays = subst (λ (p : LocalState). Stays f r (standing (local_state_of s)) (standing p)) (sym same) (stays_still f r (standing (local_state_of s)));
   }
 
-  pub move_in_view : (c : Conf) (s : ReplicaState) (e : Effect) (a : Act) → Matches m f c r s → MayAct f c (member_of s) a
-      → Same e (effect m (member_of s) a) → Stays f r (standing (member_of s)) (standing (member_of e.0)) → PointsMeet e.0
+  pub move_in_view : (c : Conf) (s : ReplicaState) (e : Effect) (a : Act) → Matches m f c r s → MayAct f c (local_state_of s) a
+      → Same e (effect m (local_state_of s) a) → Stays f r (standing (local_state_of s)) (standing (local_state_of e.0)) → PointsMeet e.0
       → InView m f c r s e
   move_in_view c s e a h may same stays points = record { reaches = move_reaches c s e a h may same points; stays = stays }
 

@@ -1,4 +1,4 @@
--- What stands in front of a receiver is taken by moves.
+-- What is in front of a receiver is taken by moves.
 use Rattle.std.proofs.Common.{◌≡◌, ℕ, zero, suc, ◌+◌, ◌-◌, Bool, true, false, None, refl, length}
 use Rattle.std.specs.Prelude.{◌&&◌, ◌==◌, not}
 use Rattle.std.proofs.lemmas.Bool.{and_parts}
@@ -15,17 +15,17 @@ use Rattle.replica_state.specs.State.{PointsMeet, is_normal, waits, has_room, dr
 use Rattle.replica_state.specs.Sends.{Effect}
 use Rattle.replica_state.specs.Moves.{take_front, open_gap, ask_if, drain_drop, drain_at, drain_by, drain}
 use Rattle.protocol.specs.Conf.{Conf}
-use Rattle.protocol.specs.Member.{standing}
+use Rattle.protocol.specs.LocalState.{standing}
 use Rattle.protocol.specs.Runs.{TakeFront, OpenGap, Say}
 use Rattle.protocol.specs.Said.{Plain}
-use Rattle.refinement.specs.Projection.{member_of}
+use Rattle.refinement.specs.Projection.{local_state_of}
 use Rattle.refinement.specs.Replicas.{Matches}
 use Rattle.refinement.proofs.Composing.{InView, in_view_then, nothing_in_view, move_in_view}
 use Rattle.refinement.proofs.Parts.{Stays, stays_still}
 use Rattle.refinement.proofs.Same.{take_front_same, open_gap_same}
 use Rattle.refinement.proofs.Staying.{normal_from, no_gap_from, append_stays}
 
--- what lets a replica take what stands in front
+-- what lets a replica take what is in front
 pub record MayDrain (s : ReplicaState) : Type 0 where
   pub normal : s.status ≡ Normal
   pub no_gap : s.gap ≡ None
@@ -38,7 +38,7 @@ may_drain s e =
 
 module _ {S : Type 0} (m : Meaning S) (f : ℕ) (r : ℕ) where
   opened_stays : (c : Conf) (s : ReplicaState) → Matches m f c r s
-      → Stays f r (standing (member_of s)) (standing (member_of (open_gap Whole s).0))
+      → Stays f r (standing (local_state_of s)) (standing (local_state_of (open_gap Whole s).0))
   unfolding open_gap
   opened_stays c s h = append_stays m f c r s NoOp h
 
@@ -65,7 +65,7 @@ module _ {S : Type 0} (m : Meaning S) (f : ℕ) (r : ℕ) where
   ask_in_view true c s h = nothing_in_view m f r c s s h refl h.points
   ask_in_view false c s h =
       move_in_view m f r c s (ask_if Whole false s) (Say Plain) h (record { true = tt; point = tt })
-      (record { state = refl; said = refl; replies = refl }) (stays_still f r (standing (member_of s))) h.points
+      (record { state = refl; said = refl; replies = refl }) (stays_still f r (standing (local_state_of s))) h.points
 
   drop_in_view : (b : Bool) (again : ReplicaState → Effect) (c : Conf) (s : ReplicaState) → Matches m f c r s → MayDrain s → leads s ≡ b
       → ((d : Conf) (t : ReplicaState) → Matches m f d r t → InView m f d r t (again t))

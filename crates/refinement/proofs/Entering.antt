@@ -6,10 +6,10 @@ use Rattle.replica_state.specs.declared.state.ReplicaState.{ReplicaState}
 use Rattle.replica_state.specs.State.{PointsMeet, leads}
 use Rattle.replica_state.specs.Moves.{entered, enter_as, enter}
 use Rattle.protocol.specs.Conf.{Conf}
-use Rattle.protocol.specs.Member.{standing}
+use Rattle.protocol.specs.LocalState.{standing}
 use Rattle.protocol.specs.Moves.{MayEnter}
 use Rattle.protocol.specs.Runs.{Enter}
-use Rattle.refinement.specs.Projection.{member_of}
+use Rattle.refinement.specs.Projection.{local_state_of}
 use Rattle.refinement.specs.Replicas.{Matches, ReplicaReaches}
 use Rattle.refinement.proofs.Parts.{Keeps}
 use Rattle.refinement.proofs.Composing.{move_reaches}
@@ -24,17 +24,17 @@ unfolding enter
 enter_meets s v points = meets_as (leads (entered s v)) s v points
 
 pub enter_reaches : {S : Type 0} (m : Meaning S) (f : ℕ) (c : Conf) (r : ℕ) (s : ReplicaState) (v : View) → Matches m f c r s
-    → MayEnter c (member_of s) v → ReplicaReaches m f c r s (enter s v)
+    → MayEnter c (local_state_of s) v → ReplicaReaches m f c r s (enter s v)
 enter_reaches m f c r s v h may =
     move_reaches m f r c s (enter s v) (Enter v) h may (enter_same s v h.points) (enter_meets s v h.points)
 
 -- what it changes
 
-keeps_as : (b : Bool) (s : ReplicaState) (v : View) → Keeps (standing (member_of s)) (standing (member_of (enter_as b (entered s v)).0))
+keeps_as : (b : Bool) (s : ReplicaState) (v : View) → Keeps (standing (local_state_of s)) (standing (local_state_of (enter_as b (entered s v)).0))
 keeps_as true s v = record { last_normal = refl; next = refl; sync_point = refl; log = refl }
 keeps_as false s v = record { last_normal = refl; next = refl; sync_point = refl; log = refl }
 
-pub enter_keeps : (s : ReplicaState) (v : View) → Keeps (standing (member_of s)) (standing (member_of (enter s v).0))
+pub enter_keeps : (s : ReplicaState) (v : View) → Keeps (standing (local_state_of s)) (standing (local_state_of (enter s v).0))
 unfolding enter
 enter_keeps s v = keeps_as (leads (entered s v)) s v
 

@@ -15,7 +15,7 @@ use Rattle.replica_state.specs.State.{leads, is_normal}
 use Rattle.protocol.specs.Conf.{Conf, Install, HasOwner}
 use Rattle.protocol.specs.Moves.{MayEnter}
 use Rattle.protocol.specs.Runs.{run}
-use Rattle.refinement.specs.Projection.{member_of}
+use Rattle.refinement.specs.Projection.{local_state_of}
 use Rattle.refinement.specs.Replicas.{Matches, ReplicaReaches}
 use Rattle.refinement.proofs.Composing.{matches_end, nothing_reaches, reaches_then_in_view, keeps_then, when_reaches}
 use Rattle.refinement.proofs.Draining.{drain_in_view}
@@ -47,14 +47,14 @@ owner_of_greater installs a b x y = elim (cases_lt a b) [
 module _ {S : Type 0} (m : Meaning S) (f : ℕ) (r : ℕ) where
   -- the view above the own one and another, whose session was given out
   pub may_join : (c : Conf) (s : ReplicaState) (v : View) → Matches m f c r s → HasOwner c.installs v.session
-      → not (is_view (join_of s.view v) s.view) ≡ true → MayEnter c (member_of s) (join_of s.view v)
+      → not (is_view (join_of s.view v) s.view) ≡ true → MayEnter c (local_state_of s) (join_of s.view v)
   may_join c s v h given e = record {
     greater = below_join s.view v e;
     given = owner_of_greater c.installs s.view.session v.session (session_given m f c r s h) given;
   }
 
   -- a replica that is alone opens the view at once
-  pub enter_view_reaches : (c : Conf) (s : ReplicaState) (v : View) → Matches m f c r s → MayEnter c (member_of s) v
+  pub enter_view_reaches : (c : Conf) (s : ReplicaState) (v : View) → Matches m f c r s → MayEnter c (local_state_of s) v
       → ReplicaReaches m f c r s (enter_view m Whole v s)
   unfolding enter_view
   enter_view_reaches c s v h up =
@@ -62,7 +62,7 @@ module _ {S : Type 0} (m : Meaning S) (f : ℕ) (r : ℕ) where
       let two = open_if_enough_reaches m f r (run m f c one.moves) (enter s v).0 (matches_end m f r c s (enter s v) h one) in
       keeps_then m f r c s (enter s v) (λ t. open_if_enough m Whole t.changes t) h one (enter_keeps s v) two.reaches (inl two.view)
 
-  pub enter_and_drain_reaches : (c : Conf) (s : ReplicaState) (v : View) → Matches m f c r s → MayEnter c (member_of s) v
+  pub enter_and_drain_reaches : (c : Conf) (s : ReplicaState) (v : View) → Matches m f c r s → MayEnter c (local_state_of s) v
       → ReplicaReaches m f c r s (enter_and_drain m Whole v s)
   enter_and_drain_reaches c s v h up =
       reaches_then_in_view m f r c s (enter_view m Whole v s) (drain m Whole) h (enter_view_reaches c s v h up)

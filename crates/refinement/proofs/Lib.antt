@@ -20,7 +20,7 @@ pub mod Parts
 pub mod Points
 pub mod Puts
 pub mod ResendRows
-pub mod Rising
+pub mod Trimming
 pub mod RoleRows
 pub mod Runs
 pub mod Same

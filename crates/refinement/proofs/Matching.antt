@@ -18,26 +18,26 @@ use Rattle.replica_state.specs.State.{leads, leader}
 use Rattle.replica_state.specs.Moves.{start_len}
 use Rattle.protocol.specs.Conf.{Conf, HasOwner}
 use Rattle.protocol.specs.Invariant.{GoodLog, Own}
-use Rattle.protocol.specs.Member.{Member, standing}
+use Rattle.protocol.specs.LocalState.{LocalState, standing}
 use Rattle.protocol.specs.Moves.{MayLead, MaySay}
 use Rattle.protocol.specs.Said.{StartView, SyncPrepare}
 use Rattle.protocol.specs.Truth.{LeaderHas, Begun, Prepared}
 use Rattle.protocol.proofs.Replying.{leads_from}
 use Rattle.protocol_sync.proofs.Above.{synced_is_prepared}
-use Rattle.refinement.specs.Projection.{member_of}
+use Rattle.refinement.specs.Projection.{local_state_of}
 use Rattle.refinement.specs.Replicas.{Matches}
 
 module _ {S : Type 0} (m : Meaning S) (f : ℕ) (c : Conf) (r : ℕ) (s : ReplicaState) (h : Matches m f c r s) where
-  pub own : Own f c r (member_of s)
-  own = subst (λ (p : Member). Own f c r p) h.state (h.inv.own r h.within)
+  pub own : Own f c r (local_state_of s)
+  own = subst (λ (p : LocalState). Own f c r p) h.state (h.inv.own r h.within)
 
   -- the session of its view was given to a sequencer
   pub session_given : HasOwner c.installs s.view.session
-  session_given = subst (λ (p : Member). HasOwner c.installs p.view.session) h.state (h.inv.views r)
+  session_given = subst (λ (p : LocalState). HasOwner c.installs p.view.session) h.state (h.inv.views r)
 
   -- the log is noted
   pub current : HadLog c.past r s.last_normal s.log.entries
-  current = subst (λ (p : Member). HadLog c.past r p.last_normal p.log) h.state (h.inv.current r h.within)
+  current = subst (λ (p : LocalState). HadLog c.past r p.last_normal p.log) h.state (h.inv.current r h.within)
 
   log : GoodLog f c r s.last_normal s.log.entries
   log = h.inv.logs r s.last_normal s.log.entries current
@@ -48,7 +48,7 @@ module _ {S : Type 0} (m : Meaning S) (f : ℕ) (c : Conf) (r : ℕ) (s : Replic
   leads_it e = sym own.number ∙ sym (eqb-true (leader s) s.number e) ∙ ap (leader_of s.view) own.replicas
 
   follows_it : leads s ≡ false → r ≡ leader_of s.view (2 * f + 1) → ⊥
-  follows_it e a = let yes : leads s ≡ true = leads_from f (member_of s) own.replicas (own.number ∙ a) in cc
+  follows_it e a = let yes : leads s ≡ true = leads_from f (local_state_of s) own.replicas (own.number ∙ a) in cc
 
   pub follows_last : s.status ≡ Normal → leads s ≡ false → r ≡ leader_of s.last_normal (2 * f + 1) → ⊥
   follows_last normal e a = follows_it e (a ∙ ap (λ (w : View). leader_of w (2 * f + 1)) (own.place.normal normal))
@@ -74,13 +74,13 @@ module _ {S : Type 0} (m : Meaning S) (f : ℕ) (c : Conf) (r : ℕ) (s : Replic
   -- ---- what may be said again
 
   -- the log of a leader in its view
-  leader_log : MayLead (member_of s) → LeaderHad f c.past s.view s.log.entries
+  leader_log : MayLead (local_state_of s) → LeaderHad f c.past s.view s.log.entries
   leader_log may =
       subst (λ (q : ℕ). HadLog c.past q s.view s.log.entries) (leads_it may.leads)
       (subst (λ (w : View). HadLog c.past r w s.log.entries) (own.place.normal may.normal) current)
 
   -- a leader has the entry in the slot
-  pub leader_has : (k : ℕ) (x : Entry) → MayLead (member_of s) → slot_of s.log.entries k ≡ Some x
+  pub leader_has : (k : ℕ) (x : Entry) → MayLead (local_state_of s) → slot_of s.log.entries k ≡ Some x
       → LeaderHas f c s.number s.view k x
   leader_has k x may at =
       record { sender = own.number ∙ leads_it may.leads; lead = s.log.entries; leads = leader_log may; entry = at }
@@ -88,7 +88,7 @@ module _ {S : Type 0} (m : Meaning S) (f : ℕ) (c : Conf) (r : ℕ) (s : Replic
   -- what is synchronised is in the log
   pub synced_within : s.sync.sync_point ≤ length s.log.entries
   synced_within =
-      subst (λ (p : Member). p.sync.sync_point ≤ length p.log) h.state (h.sync.own r h.within).agrees.same.left
+      subst (λ (p : LocalState). p.sync.sync_point ≤ length p.log) h.state (h.sync.own r h.within).agrees.same.left
 
   -- the first b entries reach the sync point, where b is no less
   reached : (b : ℕ) → s.sync.sync_point ≤ b → s.sync.sync_point ≤ length (take b s.log.entries)
@@ -97,11 +97,11 @@ module _ {S : Type 0} (m : Meaning S) (f : ℕ) (c : Conf) (r : ℕ) (s : Replic
       let taken = length-take b s.log.entries in
       omega (arith, synced, taken, low)
 
-  told_reached : (b : ℕ) → s.sync.sync_point ≤ b → s.log.sync_point ≤ length (take b s.log.entries)
-  told_reached b low = subst (λ (n : ℕ). n ≤ length (take b s.log.entries)) (sym h.points) (reached b low)
+  point_reached : (b : ℕ) → s.sync.sync_point ≤ b → s.log.sync_point ≤ length (take b s.log.entries)
+  point_reached b low = subst (λ (n : ℕ). n ≤ length (take b s.log.entries)) (sym h.points) (reached b low)
 
   -- the first b entries, where the view started with no more
-  begun_with : (b : ℕ) → MayLead (member_of s) → s.base ≤ b → b ≤ length s.log.entries
+  begun_with : (b : ℕ) → MayLead (local_state_of s) → s.base ≤ b → b ≤ length s.log.entries
       → Begun f c s.number s.view (s.next - (length s.log.entries - b)) (take b s.log.entries)
   begun_with b may above high =
       let leader : r ≡ leader_of s.view (2 * f + 1) = leads_it may.leads in
@@ -122,7 +122,7 @@ module _ {S : Type 0} (m : Meaning S) (f : ℕ) (c : Conf) (r : ℕ) (s : Replic
       }
 
   -- what its view started with, and what is synchronised
-  begun : MayLead (member_of s)
+  begun : MayLead (local_state_of s)
       → Begun f c s.number s.view (s.next - (length s.log.entries - start_len s)) (take (start_len s) s.log.entries)
   begun may =
       let leader : r ≡ leader_of s.view (2 * f + 1) = leads_it may.leads in
@@ -131,24 +131,24 @@ module _ {S : Type 0} (m : Meaning S) (f : ℕ) (c : Conf) (r : ℕ) (s : Replic
       let synced = synced_within in
       begun_with (start_len s) may (omega arith) (omega (arith, base, synced))
 
-  pub may_say_start : MayLead (member_of s)
-      → MaySay f c (member_of s)
+  pub may_say_start : MayLead (local_state_of s)
+      → MaySay f c (local_state_of s)
       (StartView (s.next - (length s.log.entries - start_len s)) s.log.sync_point (take (start_len s) s.log.entries))
-  may_say_start may = record { true = begun may; point = (h.points, told_reached (start_len s) (omega arith)) }
+  may_say_start may = record { true = begun may; point = (h.points, point_reached (start_len s) (omega arith)) }
 
   -- what is synchronised
-  synced_prepared : MayLead (member_of s) → Prepared f c s.number s.view (take s.sync.sync_point s.log.entries)
+  synced_prepared : MayLead (local_state_of s) → Prepared f c s.number s.view (take s.sync.sync_point s.log.entries)
   synced_prepared may =
       let here : MayLead (c.replicas r) = subst MayLead (sym h.state) may in
       let all = synced_is_prepared m f c r h.inv h.sync h.above h.within here in
       subst (λ (q : ℕ). Prepared f c q s.view (take s.sync.sync_point s.log.entries)) (sym own.number)
-      (subst (λ (p : Member). Prepared f c r p.view (take p.sync.sync_point p.log)) h.state all)
+      (subst (λ (p : LocalState). Prepared f c r p.view (take p.sync.sync_point p.log)) h.state all)
 
-  pub may_say_synced : MayLead (member_of s)
-      → MaySay f c (member_of s) (SyncPrepare s.log.sync_point (take s.sync.sync_point s.log.entries))
-  may_say_synced may = record { true = synced_prepared may; point = (h.points, told_reached s.sync.sync_point (omega arith)) }
+  pub may_say_synced : MayLead (local_state_of s)
+      → MaySay f c (local_state_of s) (SyncPrepare s.log.sync_point (take s.sync.sync_point s.log.entries))
+  may_say_synced may = record { true = synced_prepared may; point = (h.points, point_reached s.sync.sync_point (omega arith)) }
 
   -- what a replica entered its view with
-  pub entered_with_it : s.status ≡ Change → c.past.entry s.number s.view ≡ Some (entered_with (standing (member_of s)))
+  pub entered_with_it : s.status ≡ Change → c.past.entry s.number s.view ≡ Some (entered_with (standing (local_state_of s)))
   entered_with_it change =
-      subst (λ (q : ℕ). c.past.entry q s.view ≡ Some (entered_with (standing (member_of s)))) (sym own.number) (own.changes.entered change)
+      subst (λ (q : ℕ). c.past.entry q s.view ≡ Some (entered_with (standing (local_state_of s)))) (sym own.number) (own.changes.entered change)

@@ -16,9 +16,9 @@ use Rattle.oum_receiver.specs.declared.verdict.Verdict.TheVariants.{Queued}
 use Rattle.oum_receiver.specs.Receiving.{Receiving, verdict_of, judged, offered, opened}
 use Rattle.replica_state.specs.declared.sending.Sending.{Sending}
 use Rattle.replica_state.specs.declared.state.ReplicaState.{ReplicaState}
-use Rattle.replica_state.specs.State.{others, leads, drains, is_normal, waits, has_room}
+use Rattle.replica_state.specs.State.{max_faults, leads, drains, is_normal, waits, has_room}
 use Rattle.replica_state.specs.Sends.{Effect, then_do, to_all_if}
-use Rattle.replica_state.specs.Moves.{session_view, begin_session, queue, drain, left, listening, entered, enter_as, enter, change_told}
+use Rattle.replica_state.specs.Moves.{session_view, begin_session, queue, drain, left, listening, entered, enter_as, enter, change_sent}
 use Rattle.replica_rows.specs.Rows.{enter_and_drain}
 use Rattle.replica_rows.proofs.Draining.{drains_nothing}
 use Rattle.replica_rows.proofs.Opening.{enters_with_others}
@@ -60,11 +60,11 @@ by_leading : (b : Bool) (s : ReplicaState) (v : View) (x : Receiving) (p : Stamp
     → enter_as b (entering s v (offered x p)) ≡ then_do (enter_as b (entering s v x)) (λ t. queue t p)
 by_leading true s v x p =
     ap (λ (xs : List Sending). ((enter_as true (entering s v (offered x p))).0, xs))
-    (sent_alike (others s == 0) s v (offered x p) x ∙ sym (append-nil (enter_as true (entering s v x)).1))
+    (sent_alike (max_faults s == 0) s v (offered x p) x ∙ sym (append-nil (enter_as true (entering s v x)).1))
 by_leading false s v x p =
-    let told : List Sending = change_told (entering s v x) in
+    let change : List Sending = change_sent (entering s v x) in
     ap (λ (xs : List Sending). (entering s v (offered x p), xs))
-    (ap (λ (xs : List Sending). xs ++ told) (sent_alike (others s == 0) s v (offered x p) x)
+    (ap (λ (xs : List Sending). xs ++ change) (sent_alike (max_faults s == 0) s v (offered x p) x)
     ∙ sym (append-nil (enter_as false (entering s v x)).1))
 
 pub enters_then_queues : (s : ReplicaState) (p : Stamped) → s.receiver.session ≡ s.view.session → s.view.session < p.session
@@ -100,10 +100,10 @@ config_after s v = config_by (leads (entered s v)) (entered s v)
 changing : (s : ReplicaState) → s.status ≡ Change → drains Whole s ≡ false
 changing s e = ap (λ (x : Phase). is_normal x && (not (waits s.gap) && has_room Whole s)) e
 
-pub enters_only : {S : Type 0} (m : Meaning S) (s : ReplicaState) (v : View) → 0 < others s
+pub enters_only : {S : Type 0} (m : Meaning S) (s : ReplicaState) (v : View) → 0 < max_faults s
     → enter_and_drain m Whole v s ≡ enter s v
 enters_only m s v more =
-    let here : 0 < others (enter s v).0 = subst (λ (c : Configuration). 0 < c.replicas / 2) (sym (config_after s v)) more in
+    let here : 0 < max_faults (enter s v).0 = subst (λ (c : Configuration). 0 < c.replicas / 2) (sym (config_after s v)) more in
     ap (λ (e : Effect). then_do e (drain m Whole)) (enters_with_others m Whole s v here)
     ∙ ap (λ (x : Effect). (x.0, (enter s v).1 ++ x.1)) (drains_nothing m Whole (enter s v).0 (changing (enter s v).0 (status_after s v)))
     ∙ ap (λ (xs : List Sending). ((enter s v).0, xs)) (append-nil (enter s v).1)

@@ -1,4 +1,4 @@
--- A leader opens its view by one move, and takes what stands in front.
+-- A leader opens its view by one move, and takes what is in front.
 use Rattle.std.proofs.Common.{◌≡◌, ◌<◌, ℕ, Bool, true, false, Option, Some, None, refl, sym, ap, subst, ◌∙◌, length, List, ◌++◌}
 use Rattle.std.proofs.Common.{map}
 use Rattle.std.specs.Option.{option_map}
@@ -13,7 +13,7 @@ use Rattle.nop_types.specs.declared.peer.Body.TheVariants as bodies
 use Rattle.nop_types.specs.declared.peer.Change.{Change}
 use Rattle.nop_types.specs.Logs.{Log}
 use Rattle.nop_types.specs.PlainChanges.{plain}
-use Rattle.log_merge.specs.Merging.{kept_told, merged}
+use Rattle.log_merge.specs.Merging.{kept_changes, merged}
 use Rattle.log_merge.specs.Starting.{start_of}
 use Rattle.view_change.specs.Gathering.{Gathering}
 use Rattle.replica_state.specs.declared.sending.Sending.{Sending}
@@ -21,16 +21,16 @@ use Rattle.replica_state.specs.declared.state.ReplicaState.{ReplicaState}
 use Rattle.replica_state.specs.Moves.{adopted, adopt, open_view, open_if_enough, drain}
 use Rattle.replica_state.specs.Replies.{replies_above}
 use Rattle.replica_state.specs.Sends.{Effect, then_do, when, to_all}
-use Rattle.replica_state.specs.State.{others}
+use Rattle.replica_state.specs.State.{max_faults}
 use Rattle.protocol.specs.Conf as conf
 use Rattle.protocol.specs.Conf.{Conf}
-use Rattle.protocol.specs.Member.{Member}
+use Rattle.protocol.specs.LocalState.{LocalState}
 use Rattle.protocol.specs.Moves as moves
 use Rattle.protocol.specs.Replies as replying
 use Rattle.protocol.specs.Moves.{MayOpenView, say_all}
 use Rattle.protocol.specs.Runs.{OpenView, run}
 use Rattle.protocol.specs.Said.{Said, StartView}
-use Rattle.refinement.specs.Projection.{member_of, plain_gathering, said_in, replied_in}
+use Rattle.refinement.specs.Projection.{local_state_of, plain_gathering, said_in, replied_in}
 use Rattle.refinement.specs.Replicas.{Matches, ReplicaReaches}
 use Rattle.refinement.proofs.Adopting.{adopted_same, adopted_meet}
 use Rattle.refinement.proofs.Composing.{matches_end, move_reaches, nothing_reaches, reaches_then_in_view}
@@ -51,25 +51,25 @@ module _ {S : Type 0} (m : Meaning S) where
     next = (start_of g.view (map plain g.changes)).next
 
     abbrev log : Log
-    log = merged Whole (kept_told g.changes)
+    log = merged Whole (kept_changes g.changes)
 
     -- the view is adopted
     abbrev start : ReplicaState
     start = adopted Whole s s.view next log
 
-    abbrev told : List Sending
-    told = to_all s (bodies.StartView next log)
+    abbrev start_sent : List Sending
+    start_sent = to_all s (bodies.StartView next log)
 
     abbrev replies : List Sending
     replies = replies_above m Whole start start.sync.sync_point
 
-    -- before what stands in front is taken
+    -- before what is in front is taken
     abbrev pub opened : Effect
-    opened = (start, told ++ replies)
+    opened = (start, start_sent ++ replies)
 
     -- a view that starts with this log
     abbrev started : ℕ → List Entry → conf.Effect
-    started z l = moves.adopt_saying m (say_all (member_of s) (StartView next z l)) (member_of s) s.view next z l
+    started z l = moves.adopt_saying m (say_all (local_state_of s) (StartView next z l)) (local_state_of s) s.view next z l
 
     started_same : Begins s.log log.entries → Same opened (started log.sync_point log.entries)
     started_same begins =
@@ -77,24 +77,24 @@ module _ {S : Type 0} (m : Meaning S) where
         record {
           state = same;
           said =
-              said_in-append told replies
-              ∙ ap (λ (xs : List Said). xs ++ said_in replies) (said_in-to_all (others s == 0) s (bodies.StartView next log))
-              ∙ ap (λ (xs : List Said). say_all (member_of s) (StartView next log.sync_point log.entries) ++ xs)
+              said_in-append start_sent replies
+              ∙ ap (λ (xs : List Said). xs ++ said_in replies) (said_in-to_all (max_faults s == 0) s (bodies.StartView next log))
+              ∙ ap (λ (xs : List Said). say_all (local_state_of s) (StartView next log.sync_point log.entries) ++ xs)
               (said_above m start start.sync.sync_point)
-              ∙ append-nil (say_all (member_of s) (StartView next log.sync_point log.entries));
+              ∙ append-nil (say_all (local_state_of s) (StartView next log.sync_point log.entries));
           replies =
-              replied_in-append told replies
-              ∙ ap (λ (xs : List Reply). xs ++ replied_in replies) (replied_in-to_all (others s == 0) s (bodies.StartView next log))
+              replied_in-append start_sent replies
+              ∙ ap (λ (xs : List Reply). xs ++ replied_in replies) (replied_in-to_all (max_faults s == 0) s (bodies.StartView next log))
               ∙ replied_above m start start.sync.sync_point
-              ∙ ap (λ (p : Member). replying.replies_above m p start.sync.sync_point) same;
+              ∙ ap (λ (p : LocalState). replying.replies_above m p start.sync.sync_point) same;
         }
 
     -- it is the log that the protocol starts the view with
-    started_is : started log.sync_point log.entries ≡ moves.open_view m (member_of s) (plain_gathering g)
+    started_is : started log.sync_point log.entries ≡ moves.open_view m (local_state_of s) (plain_gathering g)
     started_is = λ i. started (start_sync_point g.changes i) (start_entries g.changes i)
 
     pub opened_same : Begins s.log (start_of g.view (map plain g.changes)).log
-        → Same opened (moves.open_view m (member_of s) (plain_gathering g))
+        → Same opened (moves.open_view m (local_state_of s) (plain_gathering g))
     opened_same begins =
         subst (λ (x : conf.Effect). Same opened x) started_is
         (started_same (begins ∙ ap (λ (l : List Entry). take s.log.sync_point l) (sym (start_entries g.changes))))
@@ -102,11 +102,11 @@ module _ {S : Type 0} (m : Meaning S) where
     pub open_view_is : open_view m Whole g s ≡ then_do opened (drain m Whole)
     unfolding adopt
     open_view_is =
-        ap (λ (xs : List Sending). ((drain m Whole start).0, xs)) (sym (append_assoc told replies (drain m Whole start).1))
+        ap (λ (xs : List Sending). ((drain m Whole start).0, xs)) (sym (append_assoc start_sent replies (drain m Whole start).1))
 
 module _ {S : Type 0} (m : Meaning S) (f : ℕ) (r : ℕ) where
   pub open_view_reaches : (c : Conf) (s : ReplicaState) (g : Gathering Change) → Matches m f c r s
-      → MayOpenView (member_of s) (plain_gathering g)
+      → MayOpenView (local_state_of s) (plain_gathering g)
       → EntersNone m f c r s (open_view m Whole g s)
   open_view_reaches c s g h may =
       let one = move_reaches m f r c s (opened m s g) (OpenView (plain_gathering g)) h may

@@ -4,7 +4,7 @@ use Rattle.std.specs.Prelude.{cond, ◌==◌, max, nat_le, nat_lt}
 use Rattle.std.proofs.lemmas.Bool.Decides.{nat_tests}
 use Rattle.nop_types.specs.declared.replica_state.Vote.{Vote}
 use Rattle.nop_types.specs.declared.replica_state.Vote.TheVariants.{Settled, Waiting}
-use Rattle.sync_points.specs.Synchronisation.{Round, Synchronisation, begun, closed, counted, counted_in, with_round, with_vote_for, round_vote, committed}
+use Rattle.sync_points.specs.Synchronisation.{Round, Synchronisation, begun, closed, sync_vote_counted, counted_in, with_round, with_vote_for, round_vote, committed}
 
 begun_rises : (b : Bool) (s : Synchronisation) (len : ℕ) → s.sync_point ≤ len → s.sync_point ≤ (begun b s len).sync_point
 begun_rises true s len low = low
@@ -25,7 +25,7 @@ in_rises : (s : Synchronisation) (x : Option Round) (q len : ℕ) → s.sync_poi
 in_rises s None q len = le_refl s.sync_point
 in_rises s (Some x) q len = closed_rises s (with_vote_for x q len) (round_vote s.f x q len)
 
-pub vote_rises : (s : Synchronisation) (q len : ℕ) → s.sync_point ≤ (counted s q len).sync_point
+pub vote_rises : (s : Synchronisation) (q len : ℕ) → s.sync_point ≤ (sync_vote_counted s q len).sync_point
 vote_rises s q len = in_rises s s.syncing q len
 
 pub commit_rises : (s : Synchronisation) (len : ℕ) → s.sync_point ≤ (committed s len).sync_point

@@ -14,11 +14,11 @@ use Rattle.lemmas.proofs.Bools.{not-both}
 use Rattle.lemmas.proofs.Views.{is_view-true}
 use Rattle.replica_state.specs.declared.state.ReplicaState.{ReplicaState}
 use Rattle.replica_state.specs.State.{leader, leads, is_normal, is_current, is_from_leader, is_to_leader, is_other}
-use Rattle.replica_rows.specs.Messages.{from_leader, from_follower, by_role, in_view}
+use Rattle.replica_rows.specs.Messages.{from_leader, from_follower, by_role, dispatch}
 use Rattle.protocol.specs.Conf.{Conf}
 use Rattle.protocol.specs.Moves.{MayLead, MayFollow, DidAnother}
 use Rattle.protocol.specs.Said.{Word, says}
-use Rattle.refinement.specs.Projection.{member_of, word_of}
+use Rattle.refinement.specs.Projection.{local_state_of, word_of}
 use Rattle.refinement.specs.Replicas.{Matches}
 use Rattle.refinement.proofs.Composing.{InView, nothing_in_view}
 use Rattle.refinement.proofs.FollowerRows.{gap_commit_in_view, found_in_view, sync_prepare_in_view, sync_commit_in_view}
@@ -42,7 +42,7 @@ current_from s v e =
     record { view = is_view-true v s.view parts.0; normal = normal_from s.status parts.1 }
 
 may_follow : (c : Conf) (s : ReplicaState) (q : ℕ) (v : View) (x : Word) → Has c.said (says q v x) → is_from_leader s v q ≡ true
-    → MayFollow c (member_of s) x
+    → MayFollow c (local_state_of s) x
 may_follow c s q v x came e =
     let parts = and_parts (is_current s v) (not (leads s) && (q == leader s)) e in
     let rest = and_parts (not (leads s)) (q == leader s) parts.1 in
@@ -65,14 +65,14 @@ other_from m f c r s q h e =
     }
 
 module _ {S : Type 0} (m : Meaning S) (f : ℕ) (c : Conf) (r : ℕ) (s : ReplicaState) (h : Matches m f c r s) where
-  from_leader_in_view : (body : Body) → MayFollow c (member_of s) (word_of body) → InView m f c r s (from_leader m Whole body s)
+  from_leader_in_view : (body : Body) → MayFollow c (local_state_of s) (word_of body) → InView m f c r s (from_leader m Whole body s)
   from_leader_in_view (bodies.GapCommit k) may = gap_commit_in_view m f c r s h k may
   from_leader_in_view (bodies.Found k q) may = found_in_view m f c r s h k q may
   from_leader_in_view (bodies.SyncPrepare l) may = sync_prepare_in_view m f c r s h l may
   from_leader_in_view (bodies.SyncCommit k) may = sync_commit_in_view m f c r s h k may
   from_leader_in_view _ may = nothing_in_view m f r c s s h refl h.points
 
-  from_follower_in_view : (q : ℕ) (body : Body) → MayLead (member_of s) → DidAnother f c (member_of s) q (word_of body)
+  from_follower_in_view : (q : ℕ) (body : Body) → MayLead (local_state_of s) → DidAnother f c (local_state_of s) q (word_of body)
       → InView m f c r s (from_follower m Whole q body s)
   from_follower_in_view q (bodies.SlotLookup k) may vote = slot_lookup_in_view m f c r s h q k may
   from_follower_in_view q (bodies.GapRep k) may vote = gap_reply_in_view m f c r s h q k vote
@@ -99,6 +99,6 @@ module _ {S : Type 0} (m : Meaning S) (f : ℕ) (c : Conf) (r : ℕ) (s : Replic
 
   -- of another replica
   pub message_in_view : (q : ℕ) (v : View) (body : Body) → IsOther f s q → Has c.said (says q v (word_of body))
-      → InView m f c r s (in_view m Whole q v body s)
+      → InView m f c r s (dispatch m Whole q v body s)
   message_in_view q v body other came =
       by_role_in_view (is_from_leader s v q) (is_to_leader s v) q v body other came refl refl

@@ -10,7 +10,7 @@ use Rattle.replica_state.specs.Sends.{to_all_if}
 use Rattle.protocol.specs.Conf.{Conf}
 use Rattle.protocol.specs.Moves.{say_unless}
 use Rattle.protocol.specs.Said.{Said}
-use Rattle.refinement.specs.Projection.{member_of, word_of, said_of, said_in, replied_in}
+use Rattle.refinement.specs.Projection.{local_state_of, word_of, said_of, said_in, replied_in}
 use Rattle.refinement.specs.Replicas.{Adds, AddsSends}
 
 pub said_in-append : (a b : List Sending) → said_in (a ++ b) ≡ said_in a ++ said_in b
@@ -26,7 +26,7 @@ replied_in-append (ToReplicas dest p ∷ a) b = replied_in-append a b
 replied_in-append (Trims first entries ∷ a) b = replied_in-append a b
 
 -- a replica that is alone sends nothing to all
-pub said_in-to_all : (b : Bool) (s : ReplicaState) (body : Body) → said_in (to_all_if b s body) ≡ say_unless b (member_of s) (word_of body)
+pub said_in-to_all : (b : Bool) (s : ReplicaState) (body : Body) → said_in (to_all_if b s body) ≡ say_unless b (local_state_of s) (word_of body)
 said_in-to_all true s body = refl
 said_in-to_all false s body = refl
 
@@ -39,8 +39,8 @@ replied_in-to_all false s body = refl
 pub adds_none : {A : Type 0} (xs : List A) → Adds xs xs []
 adds_none xs = record { kept = λ x h. h; added = λ x h. absurd (Has-none x h); only = λ x h. inl h }
 
-pub adds_front : {A : Type 0} (xs more : List A) → Adds xs (more ++ xs) more
-adds_front xs more = record {
+pub adds_prefix : {A : Type 0} (xs more : List A) → Adds xs (more ++ xs) more
+adds_prefix xs more = record {
   kept = λ x h. Has-append_right more xs x h;
   added = λ x h. Has-append_left more xs x h;
   only = λ x h. elim (Has-append_cases more xs x h) [ inl g ↦ inr g | inr g ↦ inl g ];

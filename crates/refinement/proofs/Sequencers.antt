@@ -21,7 +21,7 @@ use Rattle.oum_codec.specs.Reading.{reading}
 use Rattle.oum_codec.specs.Spelling.{spelling}
 use Rattle.sequencer.specs.declared.state.SequencerState.{SequencerState}
 use Rattle.sequencer.specs.Runs.{one_or_none, stamp_at, stamp_in}
-use Rattle.sequencer.specs.SequencerSteps.{can_stamp, stamped, stamped_by, send_packet, stamp, tell, installed_in, install_if, install}
+use Rattle.sequencer.specs.SequencerSteps.{can_stamp, stamped, stamped_by, send_packet, stamp, to_controller, installed_in, install_if, install}
 use Rattle.sequencer.specs.SequencerSteps.{ping_if, ping, on_datagram, next}
 use Rattle.protocol.specs.Conf.{Conf}
 use Rattle.protocol.specs.Invariant.{Inv}
@@ -99,7 +99,7 @@ module _ {S : Type 0} (m : Meaning S) (f : ℕ) (c : Conf) (j : ℕ) (inv : Inv 
       → (b : Bool) → nat_lt s.session session ≡ b
       → SequencerReaches m f c j [] (installed_in (cond b (record s { session = session; next = 1 }) s) k)
   session_by k session sent fits true e =
-      let outs : List Out = tell k (datagrams.Installed k s.number session) in
+      let outs : List Out = to_controller k (datagrams.Installed k s.number session) in
       let d = with_sequencer c j (record s { session = session; next = 1 }) [] in
       record {
         moves = moves.Install j session ∷ [];
@@ -118,7 +118,7 @@ module _ {S : Type 0} (m : Meaning S) (f : ℕ) (c : Conf) (j : ℕ) (inv : Inv 
       }
   session_by k session sent fits false e =
       let low = ltb-false s.session session e in
-      rests (tell k (datagrams.Installed k s.number s.session)) refl
+      rests (to_controller k (datagrams.Installed k s.number s.session)) refl
       (one_carries c (One (Controller k)) (datagrams.Installed k s.number s.session) tt (record {
         controller = fits.controller;
         sequencer = fits.sequencer;
@@ -142,7 +142,7 @@ module _ {S : Type 0} (m : Meaning S) (f : ℕ) (c : Conf) (j : ℕ) (inv : Inv 
   ping_by : (k sequencer round : ℕ) → PingFits k sequencer round → (b : Bool) → (sequencer == s.number) ≡ b
       → SequencerReaches m f c j [] (ping_if b s k round)
   ping_by k sequencer round fits true e =
-      rests (tell k (datagrams.Pong k s.number round)) refl
+      rests (to_controller k (datagrams.Pong k s.number round)) refl
       (one_carries c (One (Controller k)) (datagrams.Pong k s.number round) tt
       (subst (λ (n : ℕ). PingFits k n round) (eqb-true sequencer s.number e) fits))
   ping_by k sequencer round fits false e = still

@@ -19,11 +19,11 @@ use Rattle.replica_state.specs.Moves.{gap_written}
 use Rattle.replica_state.specs.State.{PointsMeet}
 use Rattle.view_change.specs.Gathering.{Gathering}
 use Rattle.protocol.specs.Conf.{Conf}
-use Rattle.protocol.specs.Member.{Member}
+use Rattle.protocol.specs.LocalState.{LocalState}
 use Rattle.protocol.specs.Moves.{MayAdopt, MayOpenView, MayOverlay, MayWriteGap}
 use Rattle.protocol.specs.Runs.{Act, Adopt, OpenView, Overlay, WriteGap, Acts, effect, MayAct}
 use Rattle.protocol_sync.proofs.Rising.{sync_points_never_fall}
-use Rattle.refinement.specs.Projection.{member_of}
+use Rattle.refinement.specs.Projection.{local_state_of}
 use Rattle.refinement.specs.Replicas.{Matches}
 
 -- ---- logs that begin alike
@@ -92,29 +92,29 @@ drop-set_slot n (suc i) e xs h = drop-set n i e xs (omega (arith, h))
 
 module _ {S : Type 0} (m : Meaning S) (f : ℕ) (c : Conf) (r : ℕ) (s : ReplicaState) (h : Matches m f c r s) where
   -- a move may be made where the replica stands
-  here : (a : Act) → MayAct f c (member_of s) a → MayAct f c (c.replicas r) a
-  here a may = subst (λ (q : Member). MayAct f c q a) (sym h.state) may
+  here : (a : Act) → MayAct f c (local_state_of s) a → MayAct f c (c.replicas r) a
+  here a may = subst (λ (q : LocalState). MayAct f c q a) (sym h.state) may
 
   -- a move leaves the entries up to the sync point
-  stays : (a : Act) → MayAct f c (member_of s) a → Begins s.log (effect m (member_of s) a).state.log
+  stays : (a : Act) → MayAct f c (local_state_of s) a → Begins s.log (effect m (local_state_of s) a).state.log
   stays a may =
       let rises = sync_points_never_fall m f c (Acts r a ∷ []) h.inv h.sync ((h.within, here a may), tt) in
-      subst (λ (n : ℕ). take n s.log.entries ≡ take n (effect m (member_of s) a).state.log) (sym h.points)
-      (subst (λ (q : Member). take q.sync.sync_point q.log ≡ take q.sync.sync_point (effect m q a).state.log) h.state
+      subst (λ (n : ℕ). take n s.log.entries ≡ take n (effect m (local_state_of s) a).state.log) (sym h.points)
+      (subst (λ (q : LocalState). take q.sync.sync_point q.log ≡ take q.sync.sync_point (effect m q a).state.log) h.state
       (rises.prefixes r h.within
-      ∙ ap (λ (q : Member). take (c.replicas r).sync.sync_point q.log) (put-here c.replicas r (effect m (c.replicas r) a).state)))
+      ∙ ap (λ (q : LocalState). take (c.replicas r).sync.sync_point q.log) (put-here c.replicas r (effect m (c.replicas r) a).state)))
 
-  pub adopt_begins : (v : View) (x : ℕ) (l : Log) → MayAdopt c (member_of s) v x l.sync_point l.entries → Begins s.log l.entries
+  pub adopt_begins : (v : View) (x : ℕ) (l : Log) → MayAdopt c (local_state_of s) v x l.sync_point l.entries → Begins s.log l.entries
   adopt_begins v x l may = stays (Adopt v x l.sync_point l.entries) may
 
-  pub open_begins : (g : Gathering Change) → MayOpenView (member_of s) g → Begins s.log (start_of g.view g.changes).log
+  pub open_begins : (g : Gathering Change) → MayOpenView (local_state_of s) g → Begins s.log (start_of g.view g.changes).log
   open_begins g may = stays (OpenView g) may
 
-  pub overlay_begins : (l : Log) → MayOverlay c (member_of s) l.sync_point l.entries → Begins s.log (laid l.entries s.log.entries)
+  pub overlay_begins : (l : Log) → MayOverlay c (local_state_of s) l.sync_point l.entries → Begins s.log (laid l.entries s.log.entries)
   overlay_begins l may = stays (Overlay l.sync_point l.entries) may
 
   -- a synchronised slot has the NO-OP already
-  gap_there : (n : ℕ) → MayWriteGap c (member_of s) n → n ≤ s.log.sync_point → s.log.entries ≡ set_slot s.log.entries n NoOp
+  gap_there : (n : ℕ) → MayWriteGap c (local_state_of s) n → n ≤ s.log.sync_point → s.log.entries ≡ set_slot s.log.entries n NoOp
   gap_there n may low =
       let point : ℕ = s.log.sync_point in
       sym (take-append-drop point s.log.entries)
@@ -123,12 +123,12 @@ module _ {S : Type 0} (m : Meaning S) (f : ℕ) (c : Conf) (r : ℕ) (s : Replic
       (sym (drop-set_slot point n NoOp s.log.entries low))
       ∙ take-append-drop point (set_slot s.log.entries n NoOp)
 
-  gap_at : (b : Bool) (n : ℕ) → MayWriteGap c (member_of s) n → nat_le n s.sync.sync_point ≡ b
+  gap_at : (b : Bool) (n : ℕ) → MayWriteGap c (local_state_of s) n → nat_le n s.sync.sync_point ≡ b
       → (cond b s.log (with_noop Whole s.log n)).entries ≡ set_slot s.log.entries n NoOp
   gap_at true n may e = gap_there n may (subst (λ (k : ℕ). n ≤ k) (sym h.points) (leb-true n s.sync.sync_point e))
   gap_at false n may e = refl
 
-  pub gap_entries : (n : ℕ) → MayWriteGap c (member_of s) n → (gap_written Whole s n).log.entries ≡ set_slot s.log.entries n NoOp
+  pub gap_entries : (n : ℕ) → MayWriteGap c (local_state_of s) n → (gap_written Whole s n).log.entries ≡ set_slot s.log.entries n NoOp
   gap_entries n may = gap_at (nat_le n s.sync.sync_point) n may refl
 
   -- and the sync point stays

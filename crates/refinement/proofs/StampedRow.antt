@@ -13,9 +13,9 @@ use Rattle.replica_state.specs.Sends.{Effect, then_do}
 use Rattle.replica_state.specs.Moves.{session_view, begin_session, queue, enter, open_if_enough, drain}
 use Rattle.replica_rows.specs.Rows.{enter_view, new_session, stamped_if, stamped}
 use Rattle.protocol.specs.Conf.{Conf}
-use Rattle.protocol.specs.Member.{standing}
+use Rattle.protocol.specs.LocalState.{standing}
 use Rattle.protocol.specs.Runs.{Queue, run}
-use Rattle.refinement.specs.Projection.{member_of}
+use Rattle.refinement.specs.Projection.{local_state_of}
 use Rattle.refinement.specs.Replicas.{Matches, ReplicaReaches}
 use Rattle.refinement.proofs.Composing.{InView, matches_end, reaches_then_in_view, in_view_then, keeps_then, move_in_view}
 use Rattle.refinement.proofs.Draining.{drain_in_view}
@@ -29,7 +29,7 @@ module _ {S : Type 0} (m : Meaning S) (f : ℕ) (c : Conf) (r : ℕ) (s : Replic
   queue_in_view : (p : Stamped) → Has c.stamps p → InView m f c r s (queue s p)
   queue_in_view p came =
       move_in_view m f r c s (queue s p) (Queue p) h came (record { state = refl; said = refl; replies = refl })
-      (stays_still f r (standing (member_of s))) h.points
+      (stays_still f r (standing (local_state_of s))) h.points
 
   -- of the session of the view, or of an older one
   queue_and_drain_in_view : (p : Stamped) → Has c.stamps p → InView m f c r s (then_do (queue s p) (drain m Whole))
@@ -48,7 +48,7 @@ below_session s p less = record {
 abbrev arrived : ReplicaState → Stamped → Effect
 arrived s p = then_do (enter s (session_view s p)) (λ t. queue t p)
 
-arrived_keeps : (s : ReplicaState) (p : Stamped) → Keeps (standing (member_of s)) (standing (member_of (arrived s p).0))
+arrived_keeps : (s : ReplicaState) (p : Stamped) → Keeps (standing (local_state_of s)) (standing (local_state_of (arrived s p).0))
 arrived_keeps s p = let k = enter_keeps s (session_view s p) in
     record { last_normal = k.last_normal; next = k.next; sync_point = k.sync_point; log = k.log }
 

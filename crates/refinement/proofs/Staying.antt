@@ -11,8 +11,8 @@ use Rattle.started_views.specs.Past.{Standing}
 use Rattle.replica_state.specs.declared.state.ReplicaState.{ReplicaState}
 use Rattle.replica_state.specs.State.{is_normal, waits}
 use Rattle.protocol.specs.Conf.{Conf}
-use Rattle.protocol.specs.Member.{standing}
-use Rattle.refinement.specs.Projection.{member_of}
+use Rattle.protocol.specs.LocalState.{standing}
+use Rattle.refinement.specs.Projection.{local_state_of}
 use Rattle.refinement.specs.Replicas.{Matches}
 use Rattle.refinement.proofs.Matching.{base_within}
 use Rattle.refinement.proofs.Parts.{Stays, started_with_more}
@@ -27,11 +27,11 @@ no_gap_from (Some g) e = absurd cc
 
 -- an entry more
 pub append_stays : {S : Type 0} (m : Meaning S) (f : ℕ) (c : Conf) (r : ℕ) (s : ReplicaState) (x : Entry) → Matches m f c r s
-    → Stays f r (standing (member_of s)) (record (standing (member_of s)) { next = s.next + 1; log = s.log.entries ++ x ∷ [] })
+    → Stays f r (standing (local_state_of s)) (record (standing (local_state_of s)) { next = s.next + 1; log = s.log.entries ++ x ∷ [] })
 append_stays m f c r s x h = record {
   view = refl;
   last_normal = refl;
-  start = λ e. started_with_more (standing (member_of s)) x (base_within m f c r s h e);
+  start = λ e. started_with_more (standing (local_state_of s)) x (base_within m f c r s h e);
 }
 
 -- whatever a follower logs

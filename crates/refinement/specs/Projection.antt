@@ -3,7 +3,7 @@ use Rattle.std.specs.Prelude.{List, [], ◌∷◌, map}
 use Rattle.std.specs.Option.{option_map}
 use Rattle.nop_types.specs.declared.datagram.Reply.{Reply}
 use Rattle.nop_types.specs.PlainChanges.{Change, plain}
-use Rattle.nop_types.specs.declared.peer.Change as told
+use Rattle.nop_types.specs.declared.peer.Change as code
 use Rattle.nop_types.specs.declared.peer.Peer.{Peer}
 use Rattle.nop_types.specs.declared.peer.Body.{Body}
 use Rattle.nop_types.specs.declared.peer.Body.TheVariants as bodies
@@ -11,16 +11,16 @@ use Rattle.view_change.specs.Gathering.{Gathering}
 use Rattle.replica_state.specs.declared.sending.Sending.{Sending}
 use Rattle.replica_state.specs.declared.sending.Sending.TheVariants.{ToClient, ToReplicas, Trims}
 use Rattle.replica_state.specs.declared.state.ReplicaState.{ReplicaState}
-use Rattle.protocol.specs.Member.{Member}
+use Rattle.protocol.specs.LocalState.{LocalState}
 use Rattle.protocol.specs.Said.{Said, Word, Plain, Found, GapCommit, GapRep, ViewChange, StartView, SyncPrepare, SyncRep, SyncCommit, says}
 
 -- the logs of what a leader gathers as lists
-abbrev pub plain_gathering : Gathering told.Change → Gathering Change
+abbrev pub plain_gathering : Gathering code.Change → Gathering Change
 plain_gathering g = record { view = g.view; f = g.f; changes = map plain g.changes }
 
 -- without what keeps no promise to others: the slot that was asked for last, and whether the leader was heard
-abbrev pub member_of : ReplicaState → Member
-member_of s =
+abbrev pub local_state_of : ReplicaState → LocalState
+local_state_of s =
     record {
       number = s.number;
       replicas = s.config.replicas;

@@ -6,24 +6,24 @@ use Rattle.nop_types.specs.Meaning.{Meaning}
 use Rattle.started_views.specs.Past.{note}
 use Rattle.replica_state.specs.declared.sending.Sending.{Sending}
 use Rattle.replica_state.specs.declared.state.ReplicaState.{ReplicaState}
-use Rattle.replica_rows.specs.Messages.{Arrival, Packet, Told, Ticked, arrive}
+use Rattle.replica_rows.specs.Messages.{Arrival, Packet, PeerMessage, Ticked, arrive}
 use Rattle.replica_state.specs.Sends.{Effect}
 use Rattle.replica_state.specs.State.{PointsMeet}
 use Rattle.protocol.specs.Conf.{Conf}
 use Rattle.protocol.specs.Invariant.{Inv}
-use Rattle.protocol.specs.Member.{standing}
+use Rattle.protocol.specs.LocalState.{standing}
 use Rattle.protocol.specs.Runs.{Move, run, MayAll}
 use Rattle.protocol_sync.specs.Above.{GapsAreAbove}
 use Rattle.protocol_sync.specs.Synced.{Sync}
-use Rattle.refinement.specs.Projection.{member_of, said_of, said_in, replied_in}
+use Rattle.refinement.specs.Projection.{local_state_of, said_of, said_in, replied_in}
 
--- the configuration meets the invariants, and has the replica r in this state, whose log is told with its sync point
+-- the configuration meets the invariants, and has the replica r in this state, whose log is sent with its sync point
 pub record Matches {S : Type 0} (m : Meaning S) (f : ℕ) (c : Conf) (r : ℕ) (s : ReplicaState) : Type 0 where
   pub within : r < 2 * f + 1
   pub inv : Inv m f c
   pub sync : Sync f c
   pub above : GapsAreAbove f c
-  pub state : c.replicas r ≡ member_of s
+  pub state : c.replicas r ≡ local_state_of s
   pub points : PointsMeet s
 
 -- all but one replica, what replicas send, and the past
@@ -53,16 +53,16 @@ pub record AddsSends (c d : Conf) (sends : List Sending) : Type 0 where
 pub record ReplicaReaches {S : Type 0} (m : Meaning S) (f : ℕ) (c : Conf) (r : ℕ) (s : ReplicaState) (e : Effect) : Type 0 where
   pub moves : List Move
   pub may : MayAll m f c moves
-  pub state : (run m f c moves).replicas r ≡ member_of e.0
+  pub state : (run m f c moves).replicas r ≡ local_state_of e.0
   pub points : PointsMeet e.0
   pub others : SameBut r c (run m f c moves)
-  pub past : (run m f c moves).past ≡ note f c.past r (standing (member_of s)) (standing (member_of e.0))
+  pub past : (run m f c moves).past ≡ note f c.past r (standing (local_state_of s)) (standing (local_state_of e.0))
   pub sends : AddsSends c (run m f c moves) e.1
 
 -- what a packet or a message says was sent
 abbrev pub Came : Conf → Arrival → Type 0
 Came c (Packet p) = Has c.stamps p
-Came c (Told p) = Has c.said (said_of p)
+Came c (PeerMessage p) = Has c.said (said_of p)
 Came c (Ticked tick) = ⊤
 
 -- whatever may arrive, the row that takes it is a list of moves

@@ -7,7 +7,7 @@ ghost use Rattle.replica_state.specs.declared.state.ReplicaState.{ReplicaState};
 ghost use Rattle.replica_state.specs.Moves.{session_view, begin_session, queue, enter};
 ghost use Rattle.replica_rows.specs.Rows.{enter_and_drain};
 ghost use Rattle.replica_state.specs.Sends.{then_do};
-ghost use Rattle.replica_state.specs.State.{others};
+ghost use Rattle.replica_state.specs.State.{max_faults};
 ghost use Rattle.refinement.specs.Clients.{ClientsReach};
 ghost use Rattle.refinement.specs.Controllers.{ControllersReach};
 ghost use Rattle.refinement.specs.Openings.{OpeningsMatch};
@@ -52,6 +52,6 @@ pub fn new_session_enters_then_queues()
 
 /// A replica with others that enters a view does nothing more.
 pub fn enters_only<S>()
-    ensures { (m : Meaning S) (s : ReplicaState) (v : View) → 0 < others s →
+    ensures { (m : Meaning S) (s : ReplicaState) (v : View) → 0 < max_faults s →
         enter_and_drain m Whole v s ≡ enter s v }
 {}

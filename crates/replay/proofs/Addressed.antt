@@ -106,7 +106,7 @@ other_kind c kind rest other = record {
       let e = subst (λ (n : ℕ). is_asking n ≡ false) (ap (λ (xs : List ℕ). slice_index xs 3) is) other in absurd cc;
 }
 
--- one of these two names the controller that stands in it
+-- one of these two names the controller that is in it
 own_name : (c : Configuration) (kind k : ℕ) (rest : List ℕ) → k < c.controllers → NamesIn c (header kind ++ k ∷ rest)
 own_name c kind k rest own = record {
   installs = λ i j session is. subst (λ (n : ℕ). n < c.controllers) (ap (λ (xs : List ℕ). slice_index xs 4) is) own;

@@ -17,7 +17,7 @@ use Rattle.lemmas.proofs.Functions.{put-here}
 use Rattle.lemmas.proofs.Members.{Has-none, Has-one, Has-rest, Has-push, Has-append_left, Has-append_cases}
 use Rattle.protocol.specs.Conf.{Conf, Effect, WasSubmitted, opening, after}
 use Rattle.protocol.specs.Invariant.{Inv}
-use Rattle.protocol.specs.Member.{Member, leads}
+use Rattle.protocol.specs.LocalState.{LocalState, leads}
 use Rattle.protocol.specs.Moves as moves
 use Rattle.protocol.specs.Replies.{leader_reply, reply_if, reply_to, reply_for, replies_to, replies_above}
 use Rattle.protocol.specs.Runs as runs
@@ -44,7 +44,7 @@ one_reply log r x has of y h =
     let same : y ≡ x = Has-one y x h in
     record { request = r; has = has; of = sym of ∙ ap (λ (z : Reply). z.client) (sym same) }
 
-module _ {S : Type 0} (m : Meaning S) (p : Member) (log : List Entry) where
+module _ {S : Type 0} (m : Meaning S) (p : LocalState) (log : List Entry) where
   leader_from : (k : ℕ) (r : Request) (o : Option (List ℕ)) → Has log (Req r) → ReplyFrom log (leader_reply p k r o)
   leader_from k r None has = no_reply log
   leader_from k r (Some result) has = one_reply log r _ has refl
@@ -74,17 +74,17 @@ has_behind xs zero x h = h
 has_behind [] (suc n) x h = absurd (Has-none x h)
 has_behind (y ∷ xs) (suc n) x h = Has-rest x y xs (has_behind xs n x h)
 
-above_from : {S : Type 0} (m : Meaning S) (p : Member) (k : ℕ) → ReplyFrom p.log (replies_above m p k)
+above_from : {S : Type 0} (m : Meaning S) (p : LocalState) (k : ℕ) → ReplyFrom p.log (replies_above m p k)
 above_from m p k = entries_from m p p.log (k + 1) (drop k p.log) (λ e h. has_behind p.log k e h)
 
 -- what a replica does is answered for requests of the log that it has then
-act_from : {S : Type 0} (m : Meaning S) (p : Member) (a : Act) → ReplyFrom (effect m p a).state.log (effect m p a).replies
+act_from : {S : Type 0} (m : Meaning S) (p : LocalState) (a : Act) → ReplyFrom (effect m p a).state.log (effect m p a).replies
 act_from m p (runs.TakeFront r) = reply_from m (moves.logged p r) (moves.logged p r).log (length p.log + 1) r (Has-push p.log (Req r))
 act_from m p (runs.Fill r) =
     reply_from m (moves.appended p (Req r)) (moves.appended p (Req r)).log (length p.log + 1) r (Has-push p.log (Req r))
 act_from m p (runs.Enter v) = enter_from (leads (moves.entered p v)) (moves.entered p v)
   where
-    enter_from : (b : Bool) (q : Member) → ReplyFrom (moves.enter_as b q).state.log (moves.enter_as b q).replies
+    enter_from : (b : Bool) (q : LocalState) → ReplyFrom (moves.enter_as b q).state.log (moves.enter_as b q).replies
     enter_from true q = no_reply _
     enter_from false q = no_reply _
 act_from m p (runs.OpenView g) = above_from m _ (effect m p (runs.OpenView g)).state.sync.sync_point
@@ -122,7 +122,7 @@ module _ {S : Type 0} (m : Meaning S) (f : ℕ) where
       let there : put c.replicas r e.state r ≡ e.state = put-here c.replicas r e.state in
       elim (Has-append_cases e.replies c.replies y h) [
         | inl now ↦ logged_asked (after f c r e) r y.client inv low
-            (subst (λ (p : Member). HasRequest p.log y.client) (sym there) (act_from m (c.replicas r) a y now))
+            (subst (λ (p : LocalState). HasRequest p.log y.client) (sym there) (act_from m (c.replicas r) a y now))
         | inr before ↦ old y before
       ]
 
@@ -130,7 +130,7 @@ module _ {S : Type 0} (m : Meaning S) (f : ℕ) where
   move_asked c (runs.Acts r a) inv may old = act_asked c r a inv (omega (arith, may.0)) old
   move_asked c (runs.Submit k op waiting) inv may old = λ y h. asked_still c.lines _ y.client (old y h)
   move_asked c (runs.Accept k p leaders) inv may old = λ y h. asked_still c.lines _ y.client (old y h)
-  move_asked c (runs.Tell more) inv may old = λ y h. asked_still c.lines more y.client (old y h)
+  move_asked c (runs.AddLines more) inv may old = λ y h. asked_still c.lines more y.client (old y h)
   move_asked c _ inv may old = old
 
   pub moves_asked : (c : Conf) (xs : List Move) → Inv m f c → MayAll m f c xs → AllAsked c → AllAsked (run m f c xs)

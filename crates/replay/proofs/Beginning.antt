@@ -55,9 +55,9 @@ module _ {S : Type 0} (m : Meaning S) where
           goes = λ ended more may.
               let lines = lines_of ended 0 (taken ++ more) in
               let same : turn None 0 lines ≡ turn_of r ended more = k.turn ended more may in
-              let told : (turn None 0 lines).header ≡ Some h = ap (λ (t : Turn). t.header) same ∙ turn_keeps m r h ended more is in
+              let turned : (turn None 0 lines).header ≡ Some h = ap (λ (t : Turn). t.header) same ∙ turn_keeps m r h ended more is in
               output_lines ended (taken ++ more)
-              ∙ begun_is m ended h lines told
+              ∙ begun_is m ended h lines turned
               ∙ ap (begun_with m ended h) same
               ∙ ap (λ (o : Option Header). begun_with m ended h (turn o r.line (lines_before r ended more))) is
               ∙ ap (then_text (transcript_line h.form h.config))
@@ -112,23 +112,23 @@ module _ {S : Type 0} (m : Meaning S) where
       refuses_with m bytes left before before after [] r (λ ended more. output m ended (taken ++ more)) (bad_line line rule) x p
       (λ more nothing.
       let lines = lines_of true 0 (taken ++ more) in
-      let told = k.turn true more (record { nothing = nothing; end = λ e. refl }) in
-      let unread : (turn None 0 lines).header ≡ None = ap (λ (t : Turn). t.header) told.0 ∙ is in
+      let turned = k.turn true more (record { nothing = nothing; end = λ e. refl }) in
+      let unread : (turn None 0 lines).header ≡ None = ap (λ (t : Turn). t.header) turned.0 ∙ is in
       output_lines true (taken ++ more)
       ∙ not_begun lines unread
-      ∙ ap (λ (t : Turn). refused_turn t.line t.next) told.0
-      ∙ ap (λ (l : ℕ). refused (bad_line l rule)) (sym told.1))
+      ∙ ap (λ (t : Turn). refused_turn t.line t.next) turned.0
+      ∙ ap (λ (l : ℕ). refused (bad_line l rule)) (sym turned.1))
       p.end f
   unopened (Some bytes) (Some left) before after r nexts.ReadFault x took is none f =
       let taken = took.0 in
       let k = took.2 in
       let p = unopened_progress bytes left taken before r (Err nexts.ReadFault) took.1 k in
       let lines = lines_of false 0 (taken ++ []) in
-      let told : turn None 0 lines ≡ turn None r.line [] =
+      let turned : turn None 0 lines ≡ turn None r.line [] =
       k.turn false [] (none_follow m r none.0)
       ∙ ap (λ (o : Option Header). turn o r.line (lines_before r false [])) is ∙ ap (turn None r.line) none.1 in
       interrupts_with m bytes left before before after [] r (λ ended more. output m ended (taken ++ more)) x p none.0
-      (output_lines false (taken ++ []) ∙ undecided lines (ap (λ (t : Turn). t.header) told) (ap (λ (t : Turn). t.rest) told))
+      (output_lines false (taken ++ []) ∙ undecided lines (ap (λ (t : Turn). t.header) turned) (ap (λ (t : Turn). t.rest) turned))
       f
   unopened (Some bytes) (Some left) before after r nexts.NoMemory x took is none f =
       let taken = took.0 in

@@ -60,11 +60,11 @@ fail_reads before now pending errors.NoMemory a b is same = inl same
 pub stop_reads : {U : Type 0} (before now : Option (List ℕ)) (pending : List ℕ) (e : NextError) (x : ReplayError) (a b d : ℕ)
     → Stops before now pending e x → b ≡ a → CountsFor {T = U} b d nexts.ReadFault (Err e) → ReadsTo {T = Unit {0}} a d (Err x)
 stop_reads before now pending (nexts.BadLine line rule) x a b d is same h =
-    refuse_reads before now pending (bad_line line rule) x a d is (h.others (λ told. cc) ∙ same)
+    refuse_reads before now pending (bad_line line rule) x a d is (h.others (λ failed. cc) ∙ same)
 stop_reads before now pending nexts.ReadFault x a b d is same h =
     interrupt_reads before now pending x a d is (h.failed refl ∙ ap next_count same)
 stop_reads before now pending nexts.NoMemory x a b d is same h =
-    fail_reads before now pending x a d is (h.others (λ told. cc) ∙ same)
+    fail_reads before now pending x a d is (h.others (λ failed. cc) ∙ same)
 
 -- want of memory is no fault
 pub starved_reads : {T : Type 0} (a b : ℕ) (r : Result T ReplayError) (e : ReplayError) → r ≡ Err e → e ≡ errors.NoMemory → b ≡ a

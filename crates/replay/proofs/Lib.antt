@@ -4,7 +4,7 @@ pub mod Beginning
 pub mod Causes
 pub mod Decided
 pub mod Drawn
-pub mod Fronts
+pub mod Prefixes
 pub mod Progressing
 pub mod Reaching
 pub mod Runs

@@ -6,7 +6,7 @@ use Rattle.std.proofs.lemmas.List.{append-nil}
 use Rattle.nop_types.specs.Configuration.{Configuration}
 use Rattle.nop_types.specs.declared.header.Header.{Header}
 use Rattle.nop_types.specs.Meaning.{Meaning}
-use Rattle.outside.specs.Fronts.{AppendsFront}
+use Rattle.outside.specs.Prefixes.{AppendsPrefix}
 use Rattle.schedule_text.specs.declared.event.Event.{Event}
 use Rattle.schedule_text.specs.declared.next_error.NextError.{NextError}
 use Rattle.schedule_text.specs.declared.next_error.NextError.TheVariants as nexts
@@ -20,7 +20,7 @@ use Rattle.replay.specs.Output.{BadLine, Output, bad_text, refused_line, ending,
 use Rattle.replay.specs.Outcome.{EndsWith}
 use Rattle.replay.specs.Progress.{Progress, Going, GoingOf, refused, after_step, after_turn, after_answer}
 use Rattle.replay.specs.Steps.{Fails, Misses, Writes, Refuses, Interrupts, Stops, Advances, RefusesStep, bad_line}
-use Rattle.replay.proofs.Fronts.{front_nil, front_behind, front_longer, up_to_then}
+use Rattle.replay.proofs.Prefixes.{prefix_nil, prefix_behind, prefix_longer, up_to_then}
 use Rattle.replay.proofs.Texts.{rest_some, after_turn_some, output_some}
 use Rattle.replay.proofs.Runs.{rest_is, turn_header}
 
@@ -34,9 +34,9 @@ module _ {S : Type 0} (m : Meaning S) where
   pub parts : (bytes left : List ℕ) (before now after : Option (List ℕ)) (pending : List ℕ) (r : Reading)
       (follows : Bool → List ℕ → Output) (t u : List ℕ)
       → Progress m bytes left before now pending r follows → (follows true left).text ≡ t ++ u
-      → AppendsFront now after ((pending ++ t) ++ u) → AppendsFront before after (output m true bytes).text
+      → AppendsPrefix now after ((pending ++ t) ++ u) → AppendsPrefix before after (output m true bytes).text
   parts bytes left before now after pending r follows t u p is f =
-      let all = front_behind before now after p.written ((pending ++ t) ++ u) p.wrote f in
+      let all = prefix_behind before now after p.written ((pending ++ t) ++ u) p.wrote f in
       let text : (output m true bytes).text ≡ p.written ++ ((pending ++ t) ++ u) =
       ap (λ (o : Output). o.text) (whole bytes left before now pending r follows p)
       ∙ ap (λ (s : List ℕ). (p.written ++ pending) ++ s) is
@@ -52,9 +52,9 @@ module _ {S : Type 0} (m : Meaning S) where
   misses_with bytes left before now after pending r follows t u (errors.Malformed line rule) p is f = absurd f
   misses_with bytes left before now after pending r follows t u errors.ReadFault p is f = absurd f
   misses_with bytes left before now after pending r follows t u errors.WriteFault p is f =
-      parts bytes left before now after pending r follows t u p is (front_longer now after (pending ++ t) u f)
+      parts bytes left before now after pending r follows t u p is (prefix_longer now after (pending ++ t) u f)
   misses_with bytes left before now after pending r follows t u errors.NoMemory p is f =
-      parts bytes left before now after pending r follows t u p is (front_longer now after (pending ++ t) u f)
+      parts bytes left before now after pending r follows t u p is (prefix_longer now after (pending ++ t) u f)
 
   -- a front was written, and more follows
   pub fails_with : (bytes left : List ℕ) (before now after : Option (List ℕ)) (pending : List ℕ) (r : Reading)
@@ -233,7 +233,7 @@ module _ {S : Type 0} (m : Meaning S) where
 
   starved_first : (bytes left before : Option (List ℕ)) → EndsWith m bytes left before before (Err errors.NoMemory)
   starved_first None left before = tt
-  starved_first (Some bytes) left before = front_nil before (output m true bytes).text (output_some m bytes)
+  starved_first (Some bytes) left before = prefix_nil before (output m true bytes).text (output_some m bytes)
 
   pub starved_ends : (bytes left before : Option (List ℕ)) (r : Result (Unit {0}) ReplayError) (e : ReplayError) → r ≡ Err e
       → e ≡ errors.NoMemory → EndsWith m bytes left before before r

@@ -185,8 +185,8 @@ module _ {S : Type 0} (m : Meaning S) (config : Configuration) (bounds : Bounds 
   -- ---- replicas
 
   module _ (r : ℕ) (old : Seated Replica) (there : slice_get w.replicas r ≡ Some old) (i : Given) (may : MayCome (bytes_of w.sent) i) where
-    delivers : Delivers m travels.posts.told (bytes_of w.sent) travels.used r old.state (replica.next m old.state i)
-    delivers = step_delivers m bounds travels.posts.told (bytes_of w.sent) travels.used r old.state i travels.posts.network
+    delivers : Delivers m travels.posts.peer_messages (bytes_of w.sent) travels.used r old.state (replica.next m old.state i)
+    delivers = step_delivers m bounds travels.posts.peer_messages (bytes_of w.sent) travels.used r old.state i travels.posts.network
         (travels.members r old there) may
 
     of_whole : WholeSeat m whole_one.replicas r old
@@ -203,7 +203,7 @@ module _ {S : Type 0} (m : Meaning S) (config : Configuration) (bounds : Bounds 
         ap (λ (x : Seated WholeReplica). x.state.state.config.replicas) of_whole.same
         ∙ (sym same ∙ own ∙ sym shown.config ∙ ap (λ (k : Configuration). k.replicas) at.at.stands.same)
 
-    row_among : (e : effects.Effect) → TakesRow m travels.posts.told (bytes_of w.sent) old.state.state e ⊎ (e ≡ still old.state.state)
+    row_among : (e : effects.Effect) → TakesRow m travels.posts.peer_messages (bytes_of w.sent) old.state.state e ⊎ (e ≡ still old.state.state)
         → AllByRecursion (GoesAmong config.replicas) e.1
     row_among e (inl row) =
         subst (λ (n : ℕ). AllByRecursion (GoesAmong n) e.1) counts

@@ -8,7 +8,7 @@ use Rattle.world.specs.WorldSteps.{Refusal, Happened, run}
 use Rattle.replay.specs.declared.error.GenError.{GenError}
 use Rattle.replay.specs.declared.error.GenError.TheVariants.{NoMemory}
 use Rattle.replay.specs.Generated.{drawn_config, drawn_events, is_noop, gen_line, tally_text, summary_of, drawn_summary, WritesText}
-use Rattle.replay.proofs.Fronts.{some_left, front_nil}
+use Rattle.replay.proofs.Prefixes.{some_left, prefix_nil}
 
 pub length_both : (xs ys : List Entry) → length (xs ++ ys) ≡ length xs + length ys
 length_both xs ys = length-append xs ys
@@ -33,4 +33,4 @@ summary_some m number count = of_some number count (run m drawn_config (drawn_ev
 -- where memory ran out before, nothing of it was written
 pub starved : {S : Type 0} (m : Meaning S) (number count : ℕ) (a : Option (List ℕ)) (r : Result (Unit {0}) GenError) (e : GenError)
     → r ≡ Err e → e ≡ NoMemory → WritesText a a (drawn_summary m number count) r
-starved m number count a r e is none = rw (is, none) (front_nil a (drawn_summary m number count) (summary_some m number count))
+starved m number count a r e is none = rw (is, none) (prefix_nil a (drawn_summary m number count) (summary_some m number count))

@@ -3,7 +3,7 @@ use Rattle.std.proofs.Common.{◌≢◌, ℕ, ◌+◌, List, [], ◌∷◌, ◌+
 use Rattle.nop_types.specs.Configuration.{Configuration}
 use Rattle.nop_types.specs.declared.header.Header.{Header}
 use Rattle.nop_types.specs.Meaning.{Meaning}
-use Rattle.outside.specs.Fronts.{AppendsFront}
+use Rattle.outside.specs.Prefixes.{AppendsPrefix}
 use Rattle.schedule_text.specs.declared.rule.Rule.{Rule}
 use Rattle.schedule_text.specs.declared.rule.Rule.TheVariants.{WrongWord}
 use Rattle.schedule_text.specs.Cutting.{lines_of}
@@ -24,7 +24,7 @@ use Rattle.replay.specs.Progress.{after_step, after_next, after_turn}
 use Rattle.replay.specs.declared.error.ReplayError.{ReplayError}
 use Rattle.replay.specs.declared.error.ReplayError.TheVariants as errors
 use Rattle.replay.specs.Steps.{Fails, Gathers, RefusesFor, RefusesStep, TakesEvent, bad_line}
-use Rattle.replay.proofs.Fronts.{up_to_nil, front_nil, some_right}
+use Rattle.replay.proofs.Prefixes.{up_to_nil, prefix_nil, some_right}
 use Rattle.replay.proofs.Runs.{schedule_runs}
 
 pub bad_text_some : (b : BadLine) → bad_text b ≢ []
@@ -40,12 +40,12 @@ unfolding final_text
 final_text_some w = some_right (replicas_text w.archive 0 w.replicas ++ history_text 1 (history w)) end_line end_line_some
 
 -- nothing of what is gathered and of an error line was written
-pub refused_unwritten : (a : Option (List ℕ)) (pending : List ℕ) (b : BadLine) → AppendsFront a a (pending ++ bad_text b)
-refused_unwritten a pending b = front_nil a (pending ++ bad_text b) (some_right pending (bad_text b) (bad_text_some b))
+pub refused_unwritten : (a : Option (List ℕ)) (pending : List ℕ) (b : BadLine) → AppendsPrefix a a (pending ++ bad_text b)
+refused_unwritten a pending b = prefix_nil a (pending ++ bad_text b) (some_right pending (bad_text b) (bad_text_some b))
 
 -- and of the lines at the end of the input
-pub final_unwritten : (a : Option (List ℕ)) (pending : List ℕ) (w : WorldState) → AppendsFront a a (pending ++ final_text w)
-final_unwritten a pending w = front_nil a (pending ++ final_text w) (some_right pending (final_text w) (final_text_some w))
+pub final_unwritten : (a : Option (List ℕ)) (pending : List ℕ) (w : WorldState) → AppendsPrefix a a (pending ++ final_text w)
+final_unwritten a pending w = prefix_nil a (pending ++ final_text w) (some_right pending (final_text w) (final_text_some w))
 
 -- and of an event's lines, where it happened, or of its error line
 pub starved_step : (a : Option (List ℕ)) (pending : List ℕ) (line : ℕ) (r : Result Happened Refusal)

@@ -4,7 +4,7 @@ use Rattle.std.specs.Prelude.{count_by}
 use Rattle.std.specs.List.{AllByRecursion}
 use Rattle.std.specs.Io.KnownBytes.{Appends}
 use Rattle.rand_pcg.specs.Lcg.{Lcg}
-use Rattle.outside.specs.Fronts.{AppendsFront}
+use Rattle.outside.specs.Prefixes.{AppendsPrefix}
 use Rattle.nop_types.specs.Configuration.{Configuration}
 use Rattle.nop_types.specs.Meaning.{Meaning}
 use Rattle.nop_types.specs.declared.request.Entry.{Entry}
@@ -70,22 +70,22 @@ is_noop NoOp = true
 is_noop (Req r) = false
 
 -- a word and a number
-abbrev pub counted : List ℕ → ℕ → List ℕ
-counted text n = text ++ decimal n
+abbrev pub text_and_number : List ℕ → ℕ → List ℕ
+text_and_number text n = text ++ decimal n
 
 unfoldable pub gen_line : ℕ → ℕ → List ℕ
-gen_line number count = counted (codes "gen ") number ++ counted (codes " ") count ++ line_end
+gen_line number count = text_and_number (codes "gen ") number ++ text_and_number (codes " ") count ++ line_end
 
 unfoldable pub sends_line : ℕ → ℕ → List ℕ
-sends_line sends accepts = counted (codes "sends ") sends ++ counted (codes " accepts ") accepts ++ line_end
+sends_line sends accepts = text_and_number (codes "sends ") sends ++ text_and_number (codes " accepts ") accepts ++ line_end
 
 unfoldable pub view_line : View → ℕ → ℕ → List ℕ
 view_line v len noops =
-    counted (codes "view ") v.leader ++ counted (codes " ") v.session ++ counted (codes " length ") len ++ counted (codes " noops ") noops
+    text_and_number (codes "view ") v.leader ++ text_and_number (codes " ") v.session ++ text_and_number (codes " length ") len ++ text_and_number (codes " noops ") noops
     ++ line_end
 
 unfoldable pub members_line : ℕ → List ℕ
-members_line members = counted (codes "history ") members ++ line_end
+members_line members = text_and_number (codes "history ") members ++ line_end
 
 -- how much was sent and accepted; the main view, and how long its log is; and how many members the history has
 unfoldable pub tally_text : ℕ → ℕ → WorldState → ℕ → ℕ → List ℕ
@@ -112,5 +112,5 @@ drawn_summary m number count = summary_of number count (run m drawn_config (draw
 -- the text was written, or a front of it that is not all
 abbrev pub WritesText : Option (List ℕ) → Option (List ℕ) → List ℕ → Result (Unit {0}) GenError → Type 0
 WritesText before now text (Ok x) = Appends before now text
-WritesText before now text (Err WriteFault) = AppendsFront before now text
-WritesText before now text (Err NoMemory) = AppendsFront before now text
+WritesText before now text (Err WriteFault) = AppendsPrefix before now text
+WritesText before now text (Err NoMemory) = AppendsPrefix before now text

@@ -3,7 +3,7 @@ use Rattle.std.specs.Prelude.{◌≡◌, ℕ, List, [], ◌++◌, Bool, true, fa
 use Rattle.std.specs.Io.KnownBytes.{Appends}
 use Rattle.nop_types.specs.Meaning.{Meaning}
 use Rattle.outside.specs.Causes.{next_count, StaysOrRises}
-use Rattle.outside.specs.Fronts.{AppendsFront}
+use Rattle.outside.specs.Prefixes.{AppendsPrefix}
 use Rattle.replay.specs.declared.error.ReplayError.{ReplayError}
 use Rattle.replay.specs.declared.error.ReplayError.TheVariants as errors
 use Rattle.replay.specs.Output.{BadLine, output}
@@ -36,7 +36,7 @@ module _ {S : Type 0} (m : Meaning S) where
     pub good : (output m false taken).bad ≡ None
     pub wrote : Appends before now (output m false taken).text
 
-  -- ---- the same of a source that tells its bytes, or not
+  -- ---- the same of a source that is observable, or not
 
   abbrev pub IsDone : Option (List ℕ) → Option (List ℕ) → Option (List ℕ) → Option (List ℕ) → Type 0
   IsDone None left before now = ⊤
@@ -54,17 +54,17 @@ module _ {S : Type 0} (m : Meaning S) where
   IsInterrupted (Some bytes) (Some left) before now = Interrupted bytes left before now
 
   -- a front of the output of the whole input was written, and not all
-  abbrev pub WroteFront : Option (List ℕ) → Option (List ℕ) → Option (List ℕ) → Type 0
-  WroteFront None before now = ⊤
-  WroteFront (Some bytes) before now = AppendsFront before now (output m true bytes).text
+  abbrev pub WrotePrefix : Option (List ℕ) → Option (List ℕ) → Option (List ℕ) → Type 0
+  WrotePrefix None before now = ⊤
+  WrotePrefix (Some bytes) before now = AppendsPrefix before now (output m true bytes).text
 
   -- how a replay ended, by the bytes before it, those left, and what the sink held before and holds now
   abbrev pub EndsWith : Option (List ℕ) → Option (List ℕ) → Option (List ℕ) → Option (List ℕ) → Result (Unit {0}) ReplayError → Type 0
   EndsWith bytes left before now (Ok x) = IsDone bytes left before now
   EndsWith bytes left before now (Err (errors.Malformed line rule)) = IsMalformed line rule bytes left before now
   EndsWith bytes left before now (Err errors.ReadFault) = IsInterrupted bytes left before now
-  EndsWith bytes left before now (Err errors.WriteFault) = WroteFront bytes before now
-  EndsWith bytes left before now (Err errors.NoMemory) = WroteFront bytes before now
+  EndsWith bytes left before now (Err errors.WriteFault) = WrotePrefix bytes before now
+  EndsWith bytes left before now (Err errors.NoMemory) = WrotePrefix bytes before now
 
 -- ---- a read that fails is told
 

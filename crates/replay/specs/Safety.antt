@@ -28,7 +28,7 @@ pub record RunsSafely {S : Type 0} (m : Meaning S) (bytes : List ℕ) : Type 0 w
   pub text : (output m true bytes).text
       ≡ transcript_line header.form header.config ++ (lines_text happened.lines ++ final_text happened.world)
 
--- the same of a source that tells its bytes, or not
+-- the same of a source that is observable, or not
 abbrev pub RunsSafelyOf : {S : Type 0} → Meaning S → Option (List ℕ) → Type 0
 RunsSafelyOf m None = ⊤
 RunsSafelyOf m (Some bytes) = RunsSafely m bytes

@@ -2,7 +2,7 @@
 use Rattle.std.specs.Prelude.{◌≡◌, ℕ, List, ◌++◌, Option, None, Result, Ok, Err}
 use Rattle.std.specs.Io.KnownBytes.{Appends}
 use Rattle.nop_types.specs.Lines.{Line}
-use Rattle.outside.specs.Fronts.{AppendsFront, AppendsUpTo}
+use Rattle.outside.specs.Prefixes.{AppendsPrefix, AppendsUpTo}
 use Rattle.schedule_text.specs.declared.next_error.NextError.{NextError}
 use Rattle.schedule_text.specs.declared.next_error.NextError.TheVariants as nexts
 use Rattle.transcript_text.specs.Transcript.{lines_text}
@@ -27,8 +27,8 @@ Fails before now text errors.NoMemory = AppendsUpTo before now text
 abbrev pub Misses : Option (List ℕ) → Option (List ℕ) → List ℕ → ReplayError → Type 0
 Misses before now text (errors.Malformed line rule) = ⊥
 Misses before now text errors.ReadFault = ⊥
-Misses before now text errors.WriteFault = AppendsFront before now text
-Misses before now text errors.NoMemory = AppendsFront before now text
+Misses before now text errors.WriteFault = AppendsPrefix before now text
+Misses before now text errors.NoMemory = AppendsPrefix before now text
 
 -- all was written, or not all
 abbrev pub Writes : Option (List ℕ) → Option (List ℕ) → List ℕ → Result (Unit {0}) ReplayError → Type 0
@@ -39,15 +39,15 @@ Writes before now text (Err e) = Misses before now text e
 abbrev pub Refuses : Option (List ℕ) → Option (List ℕ) → List ℕ → BadLine → ReplayError → Type 0
 Refuses before now pending b (errors.Malformed line rule) = (b.line ≡ line) × (b.rule ≡ rule) × Appends before now (pending ++ bad_text b)
 Refuses before now pending b errors.ReadFault = ⊥
-Refuses before now pending b errors.WriteFault = AppendsFront before now (pending ++ bad_text b)
-Refuses before now pending b errors.NoMemory = AppendsFront before now (pending ++ bad_text b)
+Refuses before now pending b errors.WriteFault = AppendsPrefix before now (pending ++ bad_text b)
+Refuses before now pending b errors.NoMemory = AppendsPrefix before now (pending ++ bad_text b)
 
 -- what is gathered was written and the fault is told, or not all was written
 abbrev pub Interrupts : Option (List ℕ) → Option (List ℕ) → List ℕ → ReplayError → Type 0
 Interrupts before now pending (errors.Malformed line rule) = ⊥
 Interrupts before now pending errors.ReadFault = Appends before now pending
-Interrupts before now pending errors.WriteFault = AppendsFront before now pending
-Interrupts before now pending errors.NoMemory = AppendsFront before now pending
+Interrupts before now pending errors.WriteFault = AppendsPrefix before now pending
+Interrupts before now pending errors.NoMemory = AppendsPrefix before now pending
 
 -- an error of the reader ends the replay
 abbrev pub Stops : Option (List ℕ) → Option (List ℕ) → List ℕ → NextError → ReplayError → Type 0

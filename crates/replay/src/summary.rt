@@ -3,7 +3,7 @@
 ghost use Rattle.std.specs.Prelude.{◌≡◌, ◌+◌, ◌++◌, IfOk, OnOk, length, count_by};
 ghost use Rattle.world.specs.Parts.{parts_of};
 ghost use Rattle.world.specs.WorldSteps.{main_view, main_log, history};
-ghost use Rattle.replay.specs.Generated.{counted, is_noop, gen_line, sends_line, view_line};
+ghost use Rattle.replay.specs.Generated.{text_and_number, is_noop, gen_line, sends_line, view_line};
 ghost use Rattle.replay.specs.Generated.{members_line, tally_text};
 ghost use Rattle.transcript_text.specs.Transcript.{line_end};
 
@@ -12,7 +12,7 @@ use nop_types::{Entry, Host, NoMemory, View};
 use world::{LogParts, World};
 
 fn put_counted(text: &str, n: u64, to: &mut Vec<u8>) -> Result<(), NoMemory>
-    ensures { OnOk result (to.new.items ≡ to.old.items ++ counted text.now n) }
+    ensures { OnOk result (to.new.items ≡ to.old.items ++ text_and_number text.now n) }
 {
     to.extend_from_slice(text.as_bytes())?;
     let mut buffer = itoa::Buffer::new();
@@ -21,7 +21,7 @@ fn put_counted(text: &str, n: u64, to: &mut Vec<u8>) -> Result<(), NoMemory>
 }
 
 fn put_two(a: &str, m: u64, b: &str, n: u64, to: &mut Vec<u8>) -> Result<(), NoMemory>
-    ensures { OnOk result (to.new.items ≡ to.old.items ++ (counted a.now m ++ counted b.now n)) }
+    ensures { OnOk result (to.new.items ≡ to.old.items ++ (text_and_number a.now m ++ text_and_number b.now n)) }
 {
     put_counted(a, m, to)?;
     put_counted(b, n, to)
@@ -29,7 +29,7 @@ fn put_two(a: &str, m: u64, b: &str, n: u64, to: &mut Vec<u8>) -> Result<(), NoM
 
 fn put_pair(a: &str, m: u64, b: &str, n: u64, to: &mut Vec<u8>) -> Result<(), NoMemory>
     ensures { OnOk result (to.new.items
-        ≡ to.old.items ++ (counted a.now m ++ counted b.now n ++ line_end)) }
+        ≡ to.old.items ++ (text_and_number a.now m ++ text_and_number b.now n ++ line_end)) }
 {
     put_two(a, m, b, n, to)?;
     to.push(b'\n')?;

@@ -51,7 +51,7 @@ pub fn stop<K: Sink>(error: NextError, pending: &mut Vec<u8>, sink: &mut K) -> R
 }
 
 /// Gathers the lines of an event, and writes what was gathered once it is long.
-#[tactic(auto, using(crate::proofs::Fronts::misses_fails))]
+#[tactic(auto, using(crate::proofs::Prefixes::misses_fails))]
 fn gather<K: Sink>(text: &[u8], pending: &mut Vec<u8>, sink: &mut K) -> Result<(), ReplayError>
     ensures gathers { Gathers (K.held sink.old) (K.held sink.new) pending.old.items
         pending.new.items text.now result }

@@ -28,7 +28,7 @@ pub fn flush<K: Sink>(sink: &mut K, pending: &mut Vec<u8>) -> Result<(), ReplayE
 }
 
 /// Writes what was gathered, unless the next line is there already: a reader that will not read keeps nobody waiting.
-#[tactic(auto, using(crate::proofs::Fronts::misses_fails))]
+#[tactic(auto, using(crate::proofs::Prefixes::misses_fails))]
 pub fn write_decided<K: Sink>(
     reader: &Reader,
     pending: &mut Vec<u8>,

@@ -21,13 +21,13 @@ use Rattle.oum_codec.specs.Reading.{reading}
 use Rattle.replica_state.specs.declared.state.ReplicaState.{ReplicaState}
 use Rattle.replica_core.specs.declared.replica.TheConstants.{LAST_MESSAGE}
 use Rattle.replica_core.specs.Ignoring.{is_for, IsIgnored, IgnoresPacket, is_of_view, Rests, IgnoresMessage}
-use Rattle.replica_rows.specs.Messages.{loads_in, Arrival, by_role, in_view, on_body, on_message, arrive}
+use Rattle.replica_rows.specs.Messages.{loads_in, Arrival, by_role, dispatch, on_body, on_message, arrive}
 use Rattle.replica_core.specs.ReplicaSteps.{Replica, row_if, row, fragment_if, fragment, on_datagram, next}
-use Rattle.replica_rows.specs.Rows.{gap_commit_if, gap_commit, found, sync_prepare, sync_commit, raise_and_drain, begin_gap}
+use Rattle.replica_rows.specs.Rows.{gap_commit_if, gap_commit, found, sync_prepare, sync_commit, trim_and_drain, begin_gap}
 use Rattle.replica_rows.specs.Rows.{suspect, last_leader}
 use Rattle.replica_state.specs.Moves as moves
 use Rattle.replica_state.specs.Sends.{Effect, still, then_do, when}
-use Rattle.replica_state.specs.State.{PointsMeet, has_risen, may_append, is_current, is_from_leader, is_to_leader, is_other}
+use Rattle.replica_state.specs.State.{PointsMeet, may_trim, may_append, is_current, is_from_leader, is_to_leader, is_other}
 use Rattle.replica_rows.proofs.Counting.{arrive_sends_few}
 
 -- ---- datagrams
@@ -69,9 +69,9 @@ no_message : (s : ReplicaState) (f : ReplicaState → Effect) (b : Bool) → b �
 no_message s f false e = refl
 no_message s f true e = absurd cc
 
-front_fails : (a b : Bool) → a ≡ false → (a && b) ≡ false
-front_fails false b e = refl
-front_fails true b e = absurd cc
+prefix_fails : (a b : Bool) → a ≡ false → (a && b) ≡ false
+prefix_fails false b e = refl
+prefix_fails true b e = absurd cc
 
 no_role : {S : Type 0} (m : Meaning S) (a b : Bool) (q : ℕ) (body : Body) (s : ReplicaState) → a ≡ false → b ≡ false
     → by_role m Trimmed a b q body s ≡ still s
@@ -79,17 +79,17 @@ no_role m false false q body s d e = refl
 no_role m true b q body s d e = absurd cc
 no_role m false true q body s d e = absurd cc
 
-not_in_view : {S : Type 0} (m : Meaning S) (q : ℕ) (v : View) (body : Body) (s : ReplicaState) → is_current s v ≡ false
-    → in_view m Trimmed q v body s ≡ still s
-not_in_view m q v body s e =
-    no_role m (is_from_leader s v q) (is_to_leader s v) q body s (front_fails (is_current s v) _ e) (front_fails (is_current s v) _ e)
+not_dispatched : {S : Type 0} (m : Meaning S) (q : ℕ) (v : View) (body : Body) (s : ReplicaState) → is_current s v ≡ false
+    → dispatch m Trimmed q v body s ≡ still s
+not_dispatched m q v body s e =
+    no_role m (is_from_leader s v q) (is_to_leader s v) q body s (prefix_fails (is_current s v) _ e) (prefix_fails (is_current s v) _ e)
 
 body_rests : {S : Type 0} (m : Meaning S) (p : Peer) (body : Body) (s : ReplicaState) → is_of_view body ≡ true → is_current s p.view ≡ false
     → on_body m Trimmed p body s ≡ still s
 body_rests m p bodies.ViewChangeReq s of e = absurd cc
 body_rests m p (bodies.ViewChange u x l) s of e = absurd cc
 body_rests m p (bodies.StartView x l) s of e = absurd cc
-body_rests m p body s of e = not_in_view m p.sender p.view body s e
+body_rests m p body s of e = not_dispatched m p.sender p.view body s e
 
 when_rests : (s : ReplicaState) (f : ReplicaState → Effect) (b : Bool) → f s ≡ still s → when b f s ≡ still s
 when_rests s f true e = e
@@ -163,8 +163,8 @@ pub commit_rests : {S : Type 0} (m : Meaning S) (s : ReplicaState) (n : ℕ) →
 unfolding sync_commit
 commit_rests m s n meet past =
     let z : ℕ = s.sync.sync_point in
-    ap (λ (e : Effect). then_do e (raise_and_drain m Trimmed)) (obey_rests s n past)
-    ∙ no_message s _ (has_risen s) (not_below s.log.sync_point z (omega (arith, meet)))
+    ap (λ (e : Effect). then_do e (trim_and_drain m Trimmed)) (obey_rests s n past)
+    ∙ no_message s _ (may_trim s) (not_below s.log.sync_point z (omega (arith, meet)))
 
 pub leader_rests : {S : Type 0} (m : Meaning S) (s : ReplicaState) → last_leader ≤ s.view.leader → suspect m Trimmed s ≡ still s
 leader_rests m s past = no_message s _ (nat_lt s.view.leader last_leader) (not_below s.view.leader last_leader past)

@@ -21,7 +21,7 @@ use Rattle.nop_types.specs.declared.peer.Body.TheVariants as bodies
 use Rattle.fragments.proofs.Limits.{has_cut}
 use Rattle.fragments.specs.Cutting.{HasNoCut}
 use Rattle.oum_codec.specs.Numbers.{be_bytes}
-use Rattle.peer_codec.specs.Spelling.{entry_bytes, entries_bytes, account_bytes, accounts_bytes, checkpoint_bytes, told_bytes}
+use Rattle.peer_codec.specs.Spelling.{entry_bytes, entries_bytes, account_bytes, accounts_bytes, checkpoint_bytes, optional_bytes}
 use Rattle.peer_codec.specs.Spelling.{log_bytes, body_bytes, spelling}
 use Rattle.peer_codec.proofs.SpelledLengths.{request_len, entries_len, account_len, checkpoint_len, log_len}
 use Rattle.peer_codec.proofs.SpelledLengths.{number_len, found_len, start_view_len, view_change_len, spelling_len}
@@ -90,10 +90,10 @@ checkpoint_most c fits =
     let each = accounts_most 0 c.clients fits.clients more.1 in
     omega (arith, checkpoint_len c, accounts_len c.clients, host, few, each)
 
-told_most : (o : Option Checkpoint) → IfSome o CheckpointFits
-    → length (told_bytes o) ≤ 8 + MAX_HOST_BYTES + MAX_SERVED * (14 + MAX_RESULT_BYTES)
-told_most None fits = omega arith
-told_most (Some c) fits = checkpoint_most c fits
+optional_most : (o : Option Checkpoint) → IfSome o CheckpointFits
+    → length (optional_bytes o) ≤ 8 + MAX_HOST_BYTES + MAX_SERVED * (14 + MAX_RESULT_BYTES)
+optional_most None fits = omega arith
+optional_most (Some c) fits = checkpoint_most c fits
 
 -- ---- messages
 
@@ -105,7 +105,7 @@ log_most : (log : Log) → LogFits log → length (log_bytes log) ≤ most
 unfolding most
 log_most log fits =
     let few : length log.entries ≤ MAX_SLOTS = omega (arith, fits.room) in
-    omega (arith, log_len log, told_most log.checkpoint fits.checkpoint.1, entries_bytes_most log.entries fits.entries few)
+    omega (arith, log_len log, optional_most log.checkpoint fits.checkpoint.1, entries_bytes_most log.entries fits.entries few)
 
 small : (n : ℕ) → n ≡ 4 → n ≤ 20 + most
 small n is = omega (arith, is)
@@ -121,8 +121,8 @@ body_most (bodies.GapCommit slot) fits = small _ (number_len slot)
 body_most (bodies.GapRep slot) fits = small _ (number_len slot)
 body_most bodies.ViewChangeReq fits = omega arith
 body_most (bodies.ViewChange last_normal next log) fits =
-    omega (arith, view_change_len last_normal next log, log_most log fits.told)
-body_most (bodies.StartView next log) fits = omega (arith, start_view_len next log, log_most log fits.told)
+    omega (arith, view_change_len last_normal next log, log_most log fits.log_fits)
+body_most (bodies.StartView next log) fits = omega (arith, start_view_len next log, log_most log fits.log_fits)
 body_most (bodies.SyncPrepare log) fits = omega (arith, log_most log fits)
 body_most (bodies.SyncRep len) fits = small _ (number_len len)
 body_most (bodies.SyncCommit len) fits = small _ (number_len len)

@@ -42,26 +42,26 @@ posted_append number (ToReplicas dest p ∷ a) b =
 posted_append number (Trims first entries ∷ a) b = ap (λ (outs : List Out). Trimmed first entries ∷ outs) (posted_append number a b)
 
 -- one more of them is posted behind the first ones
-pub posted_more : (out made new : List Out) (messages number : ℕ) (front : List Sending) (x : Sending)
-    → number ≡ messages + message_count front → made ≡ out ++ posted messages front → new ≡ made ++ posted number (x ∷ [])
-    → new ≡ out ++ posted messages (front ++ x ∷ [])
-posted_more out made new messages number front x is before after =
-    let joined = posted_append messages front (x ∷ []) in
-    let outs = append_assoc out (posted messages front) (posted (messages + message_count front) (x ∷ [])) in
+pub posted_more : (out made new : List Out) (messages number : ℕ) (prefix : List Sending) (x : Sending)
+    → number ≡ messages + message_count prefix → made ≡ out ++ posted messages prefix → new ≡ made ++ posted number (x ∷ [])
+    → new ≡ out ++ posted messages (prefix ++ x ∷ [])
+posted_more out made new messages number prefix x is before after =
+    let joined = posted_append messages prefix (x ∷ []) in
+    let outs = append_assoc out (posted messages prefix) (posted (messages + message_count prefix) (x ∷ [])) in
     cc
 
-pub count_more : (messages number : ℕ) (front : List Sending) (x : Sending) → number ≡ messages + message_count front
-    → number + message_count (x ∷ []) ≡ messages + message_count (front ++ x ∷ [])
-count_more messages number front x is = let split = count_append front (x ∷ []) in omega (arith, split, is)
+pub count_more : (messages number : ℕ) (prefix : List Sending) (x : Sending) → number ≡ messages + message_count prefix
+    → number + message_count (x ∷ []) ≡ messages + message_count (prefix ++ x ∷ [])
+count_more messages number prefix x is = let split = count_append prefix (x ∷ []) in omega (arith, split, is)
 
-pub parts_more : (front : List Sending) (x : Sending) (rest : List Sending) → (front ++ x ∷ []) ++ rest ≡ front ++ x ∷ rest
-parts_more front x rest = append_assoc front (x ∷ []) rest
+pub parts_more : (prefix : List Sending) (x : Sending) (rest : List Sending) → (prefix ++ x ∷ []) ++ rest ≡ prefix ++ x ∷ rest
+parts_more prefix x rest = append_assoc prefix (x ∷ []) rest
 
 -- there is a number for the next one where there are numbers for all
-pub room_for_next : (end messages number : ℕ) (front rest all : List Sending) (x : Sending) → front ++ x ∷ rest ≡ all
-    → number ≡ messages + message_count front → messages + message_count all < end → number + message_count (x ∷ []) < end
-room_for_next end messages number front rest all x parts before room =
-    let split = count_append front (x ∷ rest) in
+pub room_for_next : (end messages number : ℕ) (prefix rest all : List Sending) (x : Sending) → prefix ++ x ∷ rest ≡ all
+    → number ≡ messages + message_count prefix → messages + message_count all < end → number + message_count (x ∷ []) < end
+room_for_next end messages number prefix rest all x parts before room =
+    let split = count_append prefix (x ∷ rest) in
     let next = count_append (x ∷ []) rest in
     let whole = ap message_count parts in
     omega (arith, split, next, whole, before, room)

@@ -9,10 +9,10 @@ use Rattle.fragments.specs.Joining as joining
 use Rattle.replica_state.specs.declared.state.ReplicaState.{ReplicaState}
 use Rattle.replica_state.specs.State.{opening, executed_to}
 use Rattle.replica_rows.specs.Within.{IsRunning}
-use Rattle.replica_core.specs.declared.replica.Node.{Node}
+use Rattle.replica_core.specs.declared.replica.ReplicaParts.{ReplicaParts}
 use Rattle.replica_core.specs.Within.{IsReady}
 
-pub opens_ready : {H U : Type 0} (host : Ghosts H U) (config : Configuration) (number : ℕ) (n : Node H U) (k : ℕ)
+pub opens_ready : {H U : Type 0} (host : Ghosts H U) (config : Configuration) (number : ℕ) (n : ReplicaParts H U) (k : ℕ)
     → n.member.state ≡ opening config number → IsRunning host n.member
     → reached n.member.executor ≡ executed_to Trimmed n.member.state → n.member.sends ≡ [] → n.reassembly ≡ joining.opening k
     → k ≡ config.replicas → IsReady host n

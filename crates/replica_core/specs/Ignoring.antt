@@ -11,7 +11,7 @@ use Rattle.nop_types.specs.declared.peer.Body.TheVariants as bodies
 use Rattle.oum_codec.specs.declared.bad.Bad.{Bad}
 use Rattle.oum_codec.specs.Reading.{reading}
 use Rattle.replica_state.specs.declared.state.ReplicaState.{ReplicaState}
-use Rattle.replica_rows.specs.Messages.{Told, arrive}
+use Rattle.replica_rows.specs.Messages.{PeerMessage, arrive}
 use Rattle.replica_state.specs.State.{is_current, is_other}
 use Rattle.replica_state.specs.Sends.{still}
 use Rattle.replica_core.specs.ReplicaSteps.{Replica, next}
@@ -47,7 +47,7 @@ is_of_view (bodies.SyncCommit k) = true
 is_of_view _ = false
 
 abbrev pub Rests : {S : Type 0} → Meaning S → ReplicaState → Peer → Type 0
-Rests m s p = arrive m Trimmed s (Told p) ≡ still s
+Rests m s p = arrive m Trimmed s (PeerMessage p) ≡ still s
 
 -- a message of no other replica of the group, and one of another view or status
 pub record IgnoresMessage {S : Type 0} (m : Meaning S) (s : ReplicaState) (p : Peer) : Type 0 where

@@ -23,7 +23,7 @@ use Rattle.replica_state.specs.declared.state.ReplicaState.{ReplicaState}
 use Rattle.replica_state.specs.State as state
 use Rattle.replica_state.specs.Sends.{Effect, message_count}
 use Rattle.replica_rows.specs.Messages as messages
-use Rattle.replica_core.specs.declared.replica.Node.{Node}
+use Rattle.replica_core.specs.declared.replica.ReplicaParts.{ReplicaParts}
 use Rattle.replica_core.specs.declared.replica.TheConstants.{RESEND_MILLIS, SYNC_MILLIS, WATCH_MILLIS, LAST_MESSAGE}
 use Rattle.replica_core.specs.Posting.{posted}
 
@@ -34,7 +34,7 @@ pub record Replica : Type 0 where
   pub reassembly : List Waiting
 
 -- the same of the code's, without what executes its log
-abbrev pub replica_of : {H U : Type 0} → Node H U → Replica
+abbrev pub replica_of : {H U : Type 0} → ReplicaParts H U → Replica
 replica_of n = record { state = n.member.state; messages = n.messages; reassembly = n.reassembly }
 
 abbrev pub opening : Configuration → ℕ → Replica
@@ -59,7 +59,7 @@ row m s a = row_if m (nat_lt s.messages LAST_MESSAGE) s a
 
 -- the message that is joined has to be of the fragment's replica
 abbrev pub of_sender_if : {S : Type 0} → Meaning S → Bool → Replica → Peer → Replica × List Out
-of_sender_if m true s p = row m s (messages.Told p)
+of_sender_if m true s p = row m s (messages.PeerMessage p)
 of_sender_if m false s p = (s, [])
 
 abbrev pub read : {S : Type 0} → Meaning S → Replica → ℕ → Result Peer BadPeer → Replica × List Out

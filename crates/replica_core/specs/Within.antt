@@ -8,11 +8,11 @@ use Rattle.fragments.specs.Runs.{WaitingFits}
 use Rattle.oum_receiver.specs.Receiving.{IsSound}
 use Rattle.replica_state.specs.State.{executed_to}
 use Rattle.replica_rows.specs.Within.{IsRunning}
-use Rattle.replica_core.specs.declared.replica.Node.{Node}
+use Rattle.replica_core.specs.declared.replica.ReplicaParts.{ReplicaParts}
 use Rattle.replica_core.specs.ReplicaSteps.{Replica}
 
 -- between two steps: the host stands where it is to stand, nothing is left to send, and each other replica has its reassembly
-pub record IsReady {H U : Type 0} (host : Ghosts H U) (n : Node H U) : Type 0 where
+pub record IsReady {H U : Type 0} (host : Ghosts H U) (n : ReplicaParts H U) : Type 0 where
   pub runs : IsRunning host n.member
   pub executed : reached n.member.executor ≡ executed_to Trimmed n.member.state
   pub nothing : n.member.sends ≡ []

@@ -76,7 +76,7 @@ fn post_each(
     requires room { messages + message_count sends.items < 2 ^ 64 }
     ensures number { IfOk result (λ number. number ≡ messages + message_count sends.items) }
     ensures ok { OnOk result (out.new ≡ out.old ++ posted messages sends.items) }
-    ensures front { take (length out.old) out.new ≡ out.old }
+    ensures prefix { take (length out.old) out.new ≡ out.old }
 {
     let mut number = messages;
     for sending in sends {

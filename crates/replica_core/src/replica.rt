@@ -48,7 +48,7 @@ const _: () = prove!(
 
 /// A replica with what its messages need, while it has not failed.
 #[derive(Drop)]
-struct Node<H: Host> {
+struct ReplicaParts<H: Host> {
     member: Member<H>,
     /// The last message number that was used.
     messages: u64,
@@ -59,7 +59,7 @@ struct Node<H: Host> {
 /// with the others on the slots whose requests were lost, on the log that a new view starts with, and on synchronised prefixes.
 pub struct Replica<H: Host> {
     failed: bool,
-    node: Node<H>,
+    node: ReplicaParts<H>,
 }
 
 // By hand, so that a crate with a replica proves nothing on how its parts are dropped.
@@ -88,16 +88,16 @@ impl<H: Host> Model for Replica<H> {
     ghost invariant = { λ r. r.failed ≡ false → IsReady H.Host r.node };
 }
 
-impl<H: Host> Node<H> {
+impl<H: Host> ReplicaParts<H> {
     /// A replica before its first input.
-    fn new(alloc: Global, config: Config, number: u8) -> Result<Node<H>, NoMemory>
+    fn new(alloc: Global, config: Config, number: u8) -> Result<ReplicaParts<H>, NoMemory>
         requires { number < config.replicas }
         ensures ready { IfOk result (λ n. IsReady H.Host n) }
         ensures state { IfOk result (λ n. replica_of n ≡ opening config number) }
     {
         let member = Member::new(alloc, config, number)?;
         let reassembly = Reassembly::new(alloc, config.replicas())?;
-        Ok(Node {
+        Ok(ReplicaParts {
             member,
             messages: 0,
             reassembly,
@@ -140,7 +140,7 @@ impl<H: Host> Node<H> {
                 if message.sender != replica {
                     return Ok(());
                 }
-                self.row(Arrival::Told(message), out)
+                self.row(Arrival::PeerMessage(message), out)
             }
             Err(BadPeer::NoMemory) => Err(NoMemory),
             Err(_) => Ok(()),
@@ -197,7 +197,7 @@ impl<H: Host> Replica<H> {
         ensures { IfOk result (λ r. r
             ≡ record { failed = false; state = opening config number }) }
     {
-        let node = Node::new(alloc, config, number)?;
+        let node = ReplicaParts::new(alloc, config, number)?;
         Ok(Replica {
             failed: false,
             node,

@@ -39,9 +39,9 @@ none-above (suc n) (x ∷ l) h = none-above n l (omega (arith, h))
 pub length-spliced : (n : ℕ) (own l : List Entry) → n ≤ length own → length (take n own ++ drop n l) ≡ n + (length l - n)
 length-spliced n own l h =
     let both = length-append (take n own) (drop n l) in
-    let front = length-take-le n own h in
+    let prefix = length-take-le n own h in
     let rest = length-drop n l in
-    omega (arith, both, front, rest)
+    omega (arith, both, prefix, rest)
 
 place_below : (n i : ℕ) (own rest : List Entry) → i < n → n ≤ length own → slice_get (take n own ++ rest) i ≡ slice_get own i
 place_below zero i own rest less low = absurd (omega (arith, less))
@@ -111,16 +111,16 @@ adopted_above new own i h less = by (nat_lt own.sync_point new.sync_point) refl
 
 -- ---- it is laid over the own one
 
-laid_behind : (front l own : List Entry) → laid (front ++ l) own ≡ front ++ laid l (drop (length front) own)
+laid_behind : (prefix l own : List Entry) → laid (prefix ++ l) own ≡ prefix ++ laid l (drop (length prefix) own)
 laid_behind [] l own = refl
-laid_behind (x ∷ front) l [] = ap (λ (t : List Entry). x ∷ front ++ t) (sym (laid-shorter l [] (omega arith)))
-laid_behind (x ∷ front) l (y ∷ own) = ap (λ (t : List Entry). x ∷ t) (laid_behind front l own)
+laid_behind (x ∷ prefix) l [] = ap (λ (t : List Entry). x ∷ prefix ++ t) (sym (laid-shorter l [] (omega arith)))
+laid_behind (x ∷ prefix) l (y ∷ own) = ap (λ (t : List Entry). x ∷ t) (laid_behind prefix l own)
 
-overlaid_by : (n : ℕ) (front l own : List Entry) → n ≤ length front
-    → take n front ++ laid (drop n l) (drop n own) ≡ laid (take n front ++ drop n l) own
-overlaid_by n front l own h =
-    ap (λ (i : ℕ). take n front ++ laid (drop n l) (drop i own)) (sym (length-take-le n front h))
-    ∙ sym (laid_behind (take n front) (drop n l) own)
+overlaid_by : (n : ℕ) (prefix l own : List Entry) → n ≤ length prefix
+    → take n prefix ++ laid (drop n l) (drop n own) ≡ laid (take n prefix ++ drop n l) own
+overlaid_by n prefix l own h =
+    ap (λ (i : ℕ). take n prefix ++ laid (drop n l) (drop i own)) (sym (length-take-le n prefix h))
+    ∙ sym (laid_behind (take n prefix) (drop n l) own)
 
 pub overlaid_parts : (new own : Log) → IsWithin own → IsWithin new
     → (overlaid Whole new own).entries ≡ laid (adopted Whole new own).entries own.entries

@@ -17,7 +17,7 @@ pub fn set_slot_by_slot()
 /// The slots of the one log, and above them those of the other.
 pub fn laid_by_slot()
     ensures len { (l k : List Entry) → length (laid l k) ≡ max (length l) (length k) }
-    ensures front { (l k : List Entry) (i : ℕ) → i ≤ length l → slot_of (laid l k) i
+    ensures prefix { (l k : List Entry) (i : ℕ) → i ≤ length l → slot_of (laid l k) i
         ≡ slot_of l i }
     ensures above { (l k : List Entry) (i : ℕ) → length l < i → slot_of (laid l k) i
         ≡ slot_of k i }

@@ -1,4 +1,4 @@
-//! The log that a replica keeps, trimmed: a sync point, the checkpoint that stands in place of the
+//! The log that a replica keeps, trimmed: a sync point, the checkpoint that is in place of the
 //! entries up to there, and at most 4,096 entries above. Slots count from 1.
 //!
 //! Each call gives what the definition of its name gives, at the reading `Trimmed`: `len`

@@ -38,7 +38,7 @@ use std::alloc::Global;
 use std::marker::Model;
 use std::mem;
 
-/// The log of a replica: its sync point, the checkpoint that stands in place of the entries up to there, and at most `MAX_SLOTS`
+/// The log of a replica: its sync point, the checkpoint that is in place of the entries up to there, and at most `MAX_SLOTS`
 /// entries above. Slots count from 1, and there are at most `MAX_LENGTH`.
 #[derive(Debug, Drop)]
 pub struct ReplicaLog {
@@ -65,7 +65,7 @@ impl Model for ReplicaLog {
 }
 
 /// Drops the first `count` entries, or all where there are fewer.
-fn drop_front(entries: &mut Vec<Entry>, count: u32)
+fn drop_prefix(entries: &mut Vec<Entry>, count: u32)
     ensures { entries.new.items ≡ drop count entries.old.items }
 {
     let count = entries.len().min(count as usize);
@@ -84,7 +84,7 @@ impl ReplicaLog {
         }
     }
 
-    /// The slots up to this one are synchronised; a checkpoint stands in place of their entries.
+    /// The slots up to this one are synchronised; a checkpoint is in place of their entries.
     pub fn sync_point(&self) -> u32
         ensures { result ≡ self.now.sync_point }
     {
@@ -122,7 +122,7 @@ impl ReplicaLog {
         &self.entries
     }
 
-    /// What stands in a slot above the sync point.
+    /// What is in a slot above the sync point.
     pub fn at(&self, slot: u32) -> Option<&Entry>
         ensures entry { option_map (λ e. e.now) result ≡ entry_at Trimmed self.now slot }
         ensures some { IsSome result
@@ -215,11 +215,11 @@ impl ReplicaLog {
         let sync_point = log.sync_point();
         let (checkpoint, mut entries) = log.into_parts();
         if sync_point > self.sync_point {
-            drop_front(&mut self.entries, sync_point - self.sync_point);
+            drop_prefix(&mut self.entries, sync_point - self.sync_point);
             self.sync_point = sync_point;
             self.checkpoint = checkpoint;
         } else {
-            drop_front(&mut entries, self.sync_point - sync_point);
+            drop_prefix(&mut entries, self.sync_point - sync_point);
         }
         entries
     }

@@ -22,16 +22,16 @@ replied_above m t is n slot old mid new state at same sent =
     ∙ ap (λ (p : ReplicaState). old ++ replies_above m Trimmed p slot) state
 
 -- a log was laid over, what is new was replied for, and the leader told
-pub overlay_sends : {S : Type 0} (m : Meaning S) (s t u : ReplicaState) (l : Log) (n told : ℕ) (old a b new : List Sending)
-    → t ≡ overlaid Trimmed s l → n ≡ max (length_of Trimmed s.log) t.sync.sync_point → told ≡ length_of Trimmed l → a ≡ old → u ≡ t
-    → b ≡ a ++ replies_above m Trimmed t n → new ≡ b ++ to_leader u (bodies.SyncRep told) → new ≡ old ++ (overlay m Trimmed s l).1
+pub overlay_sends : {S : Type 0} (m : Meaning S) (s t u : ReplicaState) (l : Log) (n leader_len : ℕ) (old a b new : List Sending)
+    → t ≡ overlaid Trimmed s l → n ≡ max (length_of Trimmed s.log) t.sync.sync_point → leader_len ≡ length_of Trimmed l → a ≡ old → u ≡ t
+    → b ≡ a ++ replies_above m Trimmed t n → new ≡ b ++ to_leader u (bodies.SyncRep leader_len) → new ≡ old ++ (overlay m Trimmed s l).1
 unfolding overlay
-overlay_sends m s t u l n told old a b new is at len same stays replied sent =
+overlay_sends m s t u l n leader_len old a b new is at len same stays replied sent =
     let p : ReplicaState = overlaid Trimmed s l in
     let slot : ℕ = max (length_of Trimmed s.log) p.sync.sync_point in
     let above = ap (λ (q : ReplicaState). max (length_of Trimmed s.log) q.sync.sync_point) is in
     sent_on old (replies_above m Trimmed p slot) b (to_leader s (bodies.SyncRep (length_of Trimmed l))) new
     (replied_above m t p n slot old a b is (at ∙ above) same replied)
     (sent
-    ∙ ap (λ (q : ReplicaState). b ++ to_leader q (bodies.SyncRep told)) (stays ∙ is)
+    ∙ ap (λ (q : ReplicaState). b ++ to_leader q (bodies.SyncRep leader_len)) (stays ∙ is)
     ∙ ap (λ (i : ℕ). b ++ to_leader s (bodies.SyncRep i)) len)

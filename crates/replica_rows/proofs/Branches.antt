@@ -49,7 +49,7 @@ module _ {S : Type 0} (m : Meaning S) (k : Keeping) where
   unfolding found
   fills s n r next may = ap (λ (b : Bool). when b (λ t. then_do (fill m k (hear t) r) (drain m k)) s) (is_next k s n next may)
 
-  -- a leader answers what stands in a slot
+  -- a leader answers what is in a slot
   pub looks_up : (s : ReplicaState) (a : Answer) (w : Bool) (q n : ℕ) → a ≡ answer_of k s.log w n → w ≡ waits s.gap
       → slot_lookup_by m k a q n s ≡ slot_lookup m k q n s
   unfolding slot_lookup

@@ -22,7 +22,7 @@ use Rattle.nop_types.specs.declared.peer.Change as peer
 use Rattle.nop_types.specs.declared.peer.Body.{Body}
 use Rattle.nop_types.specs.declared.peer.Body.TheVariants as bodies
 use Rattle.gap_agree.specs.Agreement.{Agreement}
-use Rattle.log_merge.specs.Merging.{kept_told, merged}
+use Rattle.log_merge.specs.Merging.{kept_changes, merged}
 use Rattle.log_merge.specs.Starting.{start_of}
 use Rattle.oum_receiver.specs.Front.{Front, Nothing, Message, Dropped}
 use Rattle.oum_receiver.specs.Receiving.{front_of}
@@ -33,14 +33,14 @@ use Rattle.view_change.specs.Gathering.{Gathering}
 use Rattle.replica_state.specs.declared.sending.Sending.{Sending}
 use Rattle.replica_state.specs.declared.sending.Sending.TheVariants.{ToClient, ToReplicas, Trims}
 use Rattle.replica_state.specs.declared.state.ReplicaState.{ReplicaState}
-use Rattle.replica_state.specs.State.{others, leads, is_normal, drains, waits, has_room, may_append}
-use Rattle.replica_state.specs.State.{may_adopt, has_risen}
+use Rattle.replica_state.specs.State.{max_faults, leads, is_normal, drains, waits, has_room, may_append}
+use Rattle.replica_state.specs.State.{may_adopt, may_trim}
 use Rattle.replica_state.specs.Sends.{Effect, still, then_do, when, to_leader, to_all, to_all_if, message_count}
 use Rattle.replica_state.specs.Replies.{reply_to, reply_if, leader_reply, reply_for, replies_to, replies_above}
 use Rattle.replica_state.specs.Moves.{ask_if, gap_opened, open_gap, write_gap, add_gap, drain_drop, drain_at, drain_by, drain, entered}
-use Rattle.replica_state.specs.Moves.{enter_as, enter, change_told, adopted, adopt, open_with, open_view, open_if_enough, overlaid, overlay}
+use Rattle.replica_state.specs.Moves.{enter_as, enter, change_sent, adopted, adopt, open_with, open_view, open_if_enough, overlaid, overlay}
 use Rattle.replica_state.specs.Moves.{open_sync, commit_if, count_sync_vote, queue, keep_change, count_gap_vote, logged, appended}
-use Rattle.replica_state.specs.Moves.{begin_session, hear, sync_commit, raise}
+use Rattle.replica_state.specs.Moves.{begin_session, hear, sync_commit, trim}
 use Rattle.replica_state.specs.Repeating.{gap_again, lookup_again, change_again, resend_by, resend, sync_if, sync}
 use Rattle.replica_rows.specs.Rows as rows
 use Rattle.replica_rows.specs.Messages.{Arrival, arrive}
@@ -126,7 +126,7 @@ all_if_few true s body = omega arith
 all_if_few false s body = omega arith
 
 all_few : (s t : ReplicaState) (body : Body) → t.config ≡ s.config → Few 1 s (t, to_all s body)
-all_few s t body e = record { few = all_if_few (others s == 0) s body; config = e }
+all_few s t body e = record { few = all_if_few (max_faults s == 0) s body; config = e }
 
 leader_few : (s t u : ReplicaState) (body : Body) → t.config ≡ s.config → Few 1 s (t, to_leader u body)
 leader_few s t u body e = record { few = omega arith; config = e }
@@ -149,14 +149,14 @@ no_drain k s w = at (is_normal s.status) (waits s.gap) w
     at false true e = refl
     at n false e = absurd cc
 
-gap_waits : (k : Keeping) (s : ReplicaState) → (others s == 0) ≡ false → waits (gap_opened k s).gap ≡ true
-gap_waits k s e = let more = votes_wanted (others s) e in rw more
+gap_waits : (k : Keeping) (s : ReplicaState) → (max_faults s == 0) ≡ false → waits (gap_opened k s).gap ≡ true
+gap_waits k s e = let more = votes_wanted (max_faults s) e in rw more
 
 -- a gap that waits keeps the rest from being taken
 record Rests (k : Keeping) (again : ReplicaState → Effect) : Type 0 where
   rests : (t : ReplicaState) → drains k t ≡ false → again t ≡ still t
 
-gap_few_if : (k : Keeping) (b : Bool) (again : ReplicaState → Effect) (s : ReplicaState) → (others s == 0) ≡ b → AlwaysFew 1 again
+gap_few_if : (k : Keeping) (b : Bool) (again : ReplicaState → Effect) (s : ReplicaState) → (max_faults s == 0) ≡ b → AlwaysFew 1 again
     → Rests k again
     → Few 1 s (then_do (open_gap k s) again)
 unfolding open_gap
@@ -176,7 +176,7 @@ ask_few k false s = record { few = omega arith; config = refl }
 
 drop_few : (k : Keeping) (b : Bool) (again : ReplicaState → Effect) (s : ReplicaState) → AlwaysFew 1 again → Rests k again
     → Few 1 s (drain_drop k again b s)
-drop_few k true again s few rests = gap_few_if k (others s == 0) again s refl few rests
+drop_few k true again s few rests = gap_few_if k (max_faults s == 0) again s refl few rests
 drop_few k false again s few rests = ask_few k (s.asked == length_of k s.log + 1) s
 
 drain_at_few : {S : Type 0} (m : Meaning S) (k : Keeping) (again : ReplicaState → Effect) (s : ReplicaState) (b : Bool) (front : Front)
@@ -208,21 +208,21 @@ and_drain m k {s} {e} i h = then_few (drain m k) i 1 (i + 1) (omega arith) h (dr
 
 -- what was passed moves out, and what waits is taken, where the sync point rose
 and_rise : {S : Type 0} (m : Meaning S) (k : Keeping) {s : ReplicaState} {e : Effect} (i : ℕ) → Few i s e
-    → Few (i + 1) s (then_do e (rows.raise_and_drain m k))
+    → Few (i + 1) s (then_do e (rows.trim_and_drain m k))
 and_rise m k {s} {e} i h =
-    then_few (rows.raise_and_drain m k) i 1 (i + 1) (omega arith) h
-    (when_few 1 (has_risen e.0) (λ t. then_do (raise m k t) (drain m k)) e.0
-    (and_drain m k {e = raise m k e.0} 0 (record { few = omega arith; config = refl })))
+    then_few (rows.trim_and_drain m k) i 1 (i + 1) (omega arith) h
+    (when_few 1 (may_trim e.0) (λ t. then_do (trim m k t) (drain m k)) e.0
+    (and_drain m k {e = trim m k e.0} 0 (record { few = omega arith; config = refl })))
 
 -- ---- views
 
-told_few : (s : ReplicaState) → Few 1 s (s, change_told s)
-told_few s = record { few = omega arith; config = refl }
+change_sent_few : (s : ReplicaState) → Few 1 s (s, change_sent s)
+change_sent_few s = record { few = omega arith; config = refl }
 
 enter_as_few : (b : Bool) (s : ReplicaState) → Few 2 s (enter_as b s)
 enter_as_few true s = more 1 2 (omega arith) (record { few = (all_few s s bodies.ViewChangeReq refl).few; config = refl })
 enter_as_few false s =
-    let sum = count_append (to_all s bodies.ViewChangeReq) (change_told s) in
+    let sum = count_append (to_all s bodies.ViewChangeReq) (change_sent s) in
     let all = (all_few s s bodies.ViewChangeReq refl).few in
     record { few = omega (arith, sum, all); config = refl }
 
@@ -245,7 +245,7 @@ open_if_few : {S : Type 0} (m : Meaning S) (k : Keeping) (o : Option (Gathering 
 open_if_few m k None s = still_few 2 s
 open_if_few m k (Some g) s =
     when_few 2 (nat_lt g.f (length g.changes)) (open_view m k g) s
-    (open_with_few m k s (start_of g.view (map plain g.changes)).next (merged k (kept_told g.changes)))
+    (open_with_few m k s (start_of g.view (map plain g.changes)).next (merged k (kept_changes g.changes)))
 
 enter_view_few : {S : Type 0} (m : Meaning S) (k : Keeping) (s : ReplicaState) (v : View) → Few 4 s (rows.enter_view m k v s)
 unfolding rows.enter_view
@@ -390,7 +390,7 @@ lookup_again_few k Dropped s = when_few 1 (has_room k s) _ s (record { few = ome
 
 change_again_few : (b : Bool) (s : ReplicaState) → Few 1 s (change_again b s)
 change_again_few true s = still_few 1 s
-change_again_few false s = told_few s
+change_again_few false s = change_sent_few s
 
 resend_by_few : (k : Keeping) (status : Phase) (b : Bool) (s : ReplicaState) → Few 2 s (resend_by k status b s)
 resend_by_few k Change b s = then_few (change_again b) 1 1 2 (omega arith) (all_few s s bodies.ViewChangeReq refl) (change_again_few b s)

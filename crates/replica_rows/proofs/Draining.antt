@@ -1,4 +1,4 @@
--- What stands in front is taken, one after the other.
+-- What is in front is taken, one after the other.
 use Rattle.std.proofs.Common.{◌≡◌, ℕ, zero, suc, ◌+◌, ◌-◌, ◌<◌, ◌≤◌, Bool, true, false, List, [], ◌∷◌, ◌++◌, length, Some, None, refl, sym, ap}
 use Rattle.std.proofs.Common.{◌∙◌, arith, append_assoc}
 use Rattle.std.specs.Prelude.{◌&&◌, not, nat_lt, slice_get}
@@ -48,7 +48,7 @@ pub took_none : (s t : ReplicaState) (b : Bool) → b ≡ false → TakesFront s
 took_none s t true e h = absurd cc
 took_none s t false e h = h
 
--- no request stands in front, nor a drop
+-- no request is in front, nor a drop
 no_front : (f : Front) (b : Bool) → request_in f ≡ None → (f ≡ Dropped → b ≡ true) → b ≡ false → f ≡ Nothing
 no_front Nothing b none drop e = refl
 no_front (Message r) b none drop e = absurd cc
@@ -58,7 +58,7 @@ no_front Dropped b none drop e = let found = drop refl in absurd cc
 one_more : (k : Keeping) (l : Log) (e : Entry) → l.sync_point ≤ length_of k l → unsynced k (logs.appended l e) ≡ unsynced k l + 1
 one_more k l e low = omega (arith, low, length-appended k l e)
 
--- the entry that was appended stands in the slot after the last one
+-- the entry that was appended is in the slot after the last one
 last_entry : (l : Log) (e : Entry) → entry_at Trimmed (logs.appended l e) (length_of Trimmed l + 1) ≡ Some e
 last_entry l e =
     let place : length_of Trimmed l + 1 - l.sync_point ≡ length l.entries + 1 = omega arith in
@@ -135,7 +135,7 @@ module _ {S : Type 0} (m : Meaning S) where
     sends = sym (append-nil old);
   }
 
-  -- nothing stands in front
+  -- nothing is in front
   pub stops_at_none : (s u : ReplicaState) (b : Bool) (old : List Sending) → drains Trimmed s ≡ true → TookNone s u
       → (front_of u.receiver ≡ Dropped → b ≡ true) → b ≡ false → Stops m Trimmed s old u old
   stops_at_none s u b old may none drop e =
@@ -180,7 +180,7 @@ module _ {S : Type 0} (m : Meaning S) (k : Keeping) where
       last_false (is_normal s.status) (not (waits s.gap)) (has_room k s.log)
       (first_false (nat_lt (unsynced k s.log) MAX_SLOTS) (nat_lt (length_of k s.log) MAX_LENGTH) (le-ltb _ _ le))
 
-  -- one turn, and then what stands in front of the rest
+  -- one turn, and then what is in front of the rest
   turns : (s t : ReplicaState) (old new : List Sending) (h : GoesOn m k s old t new) → drain m k s ≡ then_do (t, h.more) (drain m k)
   unfolding drain
   turns s t old new h =
@@ -243,7 +243,7 @@ module _ {S : Type 0} (m : Meaning S) (k : Keeping) where
   off s t old new true e h = absurd cc
   off s t old new false e h = h
 
-  -- ---- by what stands in front
+  -- ---- by what is in front
 
   ends_by : (s : ReplicaState) → drains k s ≡ true → front_of s.receiver ≡ Nothing → drain m k s ≡ still s
   ends_by s may front = stops s s [] [] (record {

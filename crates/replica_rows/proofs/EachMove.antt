@@ -26,7 +26,7 @@ use Rattle.replica_state.specs.declared.state.ReplicaState.{ReplicaState}
 use Rattle.replica_state.specs.State.{leads, waits, has_room, may_append, may_adopt}
 use Rattle.replica_state.specs.Sends.{Effect, still, then_do, when, to_replica, to_leader, to_all}
 use Rattle.replica_state.specs.Moves.{queue, begin_session, session_view, hear, fill, open_gap, write_gap, add_gap, count_gap_vote, drain}
-use Rattle.replica_state.specs.Moves.{change_told, enter, adopt, open_view, open_if_enough, keep_change, resend_start, overlay, tell_synced}
+use Rattle.replica_state.specs.Moves.{change_sent, enter, adopt, open_view, open_if_enough, keep_change, resend_start, overlay, send_synced}
 use Rattle.replica_state.specs.Repeating.{gap_again, lookup_again, change_again, resend_by, resend}
 use Rattle.replica_rows.specs.Rows as rows
 use Rattle.replica_rows.proofs.EachRow.{saying, change_in, EachRow}
@@ -78,7 +78,7 @@ module _ {S : Type 0} (m : Meaning S) (k : Keeping) (I : ReplicaState → Type 0
         → Kept I X (fill m k (hear s) r)
     pub overlay : (s : ReplicaState) (p : Peer) (l : Log) → I s → G (saying p (bodies.SyncPrepare l))
         → nat_le (s.next + (length_of k l - length_of k s.log)) NUMBER_END ≡ true → Kept I X (overlay m k (hear s) l)
-    pub synced : (s : ReplicaState) (p : Peer) → I s → G p → AllByRecursion X (tell_synced k s p.sender).1
+    pub synced : (s : ReplicaState) (p : Peer) → I s → G p → AllByRecursion X (send_synced k s p.sender).1
     pub found_again : (s : ReplicaState) (p : Peer) (n : ℕ) (r : Request) → I s → G (saying p (bodies.SlotLookup n))
         → answer_of k s.log (waits s.gap) n ≡ Found r → AllByRecursion X (to_replica s p.sender (bodies.Found n r))
     pub gap_told : (s : ReplicaState) (p : Peer) (n : ℕ) → I s → G (saying p (bodies.SlotLookup n))
@@ -88,7 +88,7 @@ module _ {S : Type 0} (m : Meaning S) (k : Keeping) (I : ReplicaState → Type 0
     pub vote : (s : ReplicaState) (g : Agreement) (q : ℕ) → I s → s.gap ≡ Some g → I (count_gap_vote s g q).0
     pub unheard : (s : ReplicaState) → I s → I (record s { heard = false })
     pub request_again : (s : ReplicaState) → I s → AllByRecursion X (to_all s bodies.ViewChangeReq)
-    pub change_again : (s : ReplicaState) → I s → AllByRecursion X (change_told s)
+    pub change_again : (s : ReplicaState) → I s → AllByRecursion X (change_sent s)
     pub gap_again : (s : ReplicaState) (g : Agreement) → I s → s.gap ≡ Some g → AllByRecursion X (to_all s (bodies.GapCommit g.slot))
     pub lookup_again : (s : ReplicaState) → I s → has_room k s ≡ true
         → AllByRecursion X (to_leader s (bodies.SlotLookup (length_of k s.log + 1)))

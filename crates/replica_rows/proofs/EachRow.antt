@@ -17,7 +17,7 @@ use Rattle.replica_state.specs.State.{leads, is_normal, is_other, is_from_leader
 use Rattle.replica_state.specs.Sends.{Effect, still, when}
 use Rattle.replica_state.specs.Repeating.{resend}
 use Rattle.replica_rows.specs.Rows as rows
-use Rattle.replica_rows.specs.Messages.{loads_in, Arrival, Packet, Told, Ticked, from_leader, from_follower, by_role, in_view, on_body}
+use Rattle.replica_rows.specs.Messages.{loads_in, Arrival, Packet, PeerMessage, Ticked, from_leader, from_follower, by_role, dispatch, on_body}
 use Rattle.replica_rows.specs.Messages.{on_message, ticked, arrive}
 
 -- a message with this body
@@ -77,7 +77,7 @@ module _ {S : Type 0} (m : Meaning S) (k : Keeping) (I : ReplicaState → Type 0
     by_role_row false true p body s i g = from_follower_row p body s i g
     by_role_row false false p body s i g = each.nothing s i
 
-    in_view_row : (p : Peer) (body : Body) (s : ReplicaState) → I s → G (saying p body) → Q s (in_view m k p.sender p.view body s)
+    in_view_row : (p : Peer) (body : Body) (s : ReplicaState) → I s → G (saying p body) → Q s (dispatch m k p.sender p.view body s)
     in_view_row p body s i g = by_role_row (is_from_leader s p.view p.sender) (is_to_leader s p.view) p body s i g
 
     body_row : (p : Peer) (body : Body) (s : ReplicaState) → I s → G (saying p body) → Q s (on_body m k p body s)
@@ -107,9 +107,9 @@ module _ {S : Type 0} (m : Meaning S) (k : Keeping) (I : ReplicaState → Type 0
     -- ---- all that arrives
 
     pub arrive_row : (s : ReplicaState) (a : Arrival) → I s → ((p : Stamped) → a ≡ Packet p → P p)
-        → ((p : Peer) → a ≡ Told p → is_other s p.sender ≡ true → G p)
+        → ((p : Peer) → a ≡ PeerMessage p → is_other s p.sender ≡ true → G p)
         → Q s (arrive m k s a)
     unfolding arrive
     arrive_row s (Packet p) i f g = each.stamped s p i (f p refl)
-    arrive_row s (Told p) i f g = when_row (loads_in m p.body) (on_message m k p) s i (λ _. message_row s p i (g p refl))
+    arrive_row s (PeerMessage p) i f g = when_row (loads_in m p.body) (on_message m k p) s i (λ _. message_row s p i (g p refl))
     arrive_row s (Ticked tick) i f g = tick_row s tick i

@@ -9,7 +9,7 @@ use Rattle.nop_types.specs.declared.view.View.{View}
 use Rattle.nop_types.specs.Logs.{Keeping}
 use Rattle.nop_types.specs.Meaning.{Meaning}
 use Rattle.replica_state.specs.declared.state.ReplicaState.{ReplicaState}
-use Rattle.replica_state.specs.Moves.{entered, enter, enter_as, change_told, queue, drain}
+use Rattle.replica_state.specs.Moves.{entered, enter, enter_as, change_sent, queue, drain}
 use Rattle.replica_state.specs.Sends.{Effect, to_all}
 use Rattle.replica_state.specs.State.{leads}
 use Rattle.replica_rows.specs.declared.member.Member.{Member}
@@ -23,16 +23,16 @@ enters_by b s t v is e = ap (λ (p : ReplicaState). enter_as (leads p) p) (sym i
 
 module _ {H U : Type 0} (host : Ghosts H U) where
   -- all others were told, and so was its leader
-  pub enters_told : (old mid new : Member H U) (v : View) → mid.state ≡ entered old.state v
+  pub enters_sending : (old mid new : Member H U) (v : View) → mid.state ≡ entered old.state v
       → mid.sends ≡ old.sends ++ to_all mid.state bodies.ViewChangeReq → leads mid.state ≡ false → IsRunning host new
-      → new.state ≡ mid.state → new.sends ≡ mid.sends ++ change_told mid.state → Does host old new (λ s. enter s v)
-  enters_told old mid new v is told follows runs same sent =
+      → new.state ≡ mid.state → new.sends ≡ mid.sends ++ change_sent mid.state → Does host old new (λ s. enter s v)
+  enters_sending old mid new v is asked follows runs same sent =
       let row = enters_by false old.state mid.state v is follows in
       record {
         runs = runs;
         state = same ∙ sym (ap (λ (e : Effect). e.0) row);
         sends =
-            sent_on old.sends (to_all mid.state bodies.ViewChangeReq) mid.sends (change_told mid.state) new.sends told sent
+            sent_on old.sends (to_all mid.state bodies.ViewChangeReq) mid.sends (change_sent mid.state) new.sends asked sent
             ∙ sym (ap (λ (e : Effect). old.sends ++ e.1) row);
       }
 
@@ -40,12 +40,12 @@ module _ {H U : Type 0} (host : Ghosts H U) where
   pub enters_gathering : (old mid new : Member H U) (v : View) → mid.state ≡ entered old.state v
       → mid.sends ≡ old.sends ++ to_all mid.state bodies.ViewChangeReq → leads mid.state ≡ true → IsRunning host mid
       → new.state ≡ (enter_as true mid.state).0 → new.executor ≡ mid.executor → new.sends ≡ mid.sends → Does host old new (λ s. enter s v)
-  enters_gathering old mid new v is told leading runs gathers same sent =
+  enters_gathering old mid new v is asked leading runs gathers same sent =
       let row = enters_by true old.state mid.state v is leading in
       record {
         runs = rw same (gathering_runs host mid.state new.state mid.executor gathers runs);
         state = gathers ∙ sym (ap (λ (e : Effect). e.0) row);
-        sends = sent ∙ told ∙ sym (ap (λ (e : Effect). old.sends ++ e.1) row);
+        sends = sent ∙ asked ∙ sym (ap (λ (e : Effect). old.sends ++ e.1) row);
       }
 
 -- ---- a stamped request, of a greater session or not

@@ -17,7 +17,7 @@ use Rattle.oum_receiver.specs.Receiving.{Receiving}
 use Rattle.sync_points.specs.Synchronisation.{Synchronisation, Round}
 use Rattle.sync_points.specs.Synchronisation as synchronisation
 use Rattle.replica_state.specs.declared.state.ReplicaState.{ReplicaState}
-use Rattle.replica_state.specs.Moves.{risen}
+use Rattle.replica_state.specs.Moves.{log_trimmed}
 use Rattle.replica_state.specs.Within.{IsIn}
 
 -- ---- the length of a log
@@ -110,10 +110,10 @@ with_sync k s x w fits same = record {
   changes = w.changes;
 }
 
--- or one with a greater sync point, and the log follows
+-- or one with a greater sync point, and the log is trimmed
 pub risen_within : {S : Type 0} (m : Meaning S) (k : Keeping) (s : ReplicaState) (x : Synchronisation) → IsIn k s
     → SyncFits (length_of k s.log) x → s.sync.sync_point ≤ x.sync_point → LogIsIn k (checkpointed.raised m k s.log x.sync_point)
-    → IsIn k (risen m k (record s { sync = x }))
+    → IsIn k (log_trimmed m k (record s { sync = x }))
 risen_within m k s x w fits low log =
     let points = w.points in
     let high = fits.sync_point in

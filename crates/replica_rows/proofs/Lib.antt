@@ -6,7 +6,7 @@ pub mod EachMove
 pub mod EachRow
 mod Entered
 pub mod Fields
-pub mod Following
+pub mod TrimmedLogs
 pub mod Gathered
 pub mod Loading
 pub mod Opening

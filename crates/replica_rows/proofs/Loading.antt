@@ -11,11 +11,11 @@ use Rattle.nop_types.specs.declared.peer.Peer.{Peer}
 use Rattle.log_merge.specs.Merging.{precedes, better, best, merged_from, merged}
 use Rattle.replica_state.specs.declared.state.ReplicaState.{ReplicaState}
 use Rattle.replica_state.specs.Sends.{still, when}
-use Rattle.replica_rows.specs.Messages.{Told, loads_in, on_message, arrive}
+use Rattle.replica_rows.specs.Messages.{PeerMessage, loads_in, on_message, arrive}
 use Rattle.replica_rows.specs.Within.{ChangeLoads}
 
 pub unloaded_rests : {S : Type 0} (m : Meaning S) (k : Keeping) (s : ReplicaState) (p : Peer) → loads_in m p.body ≡ false
-    → arrive m k s (Told p) ≡ still s
+    → arrive m k s (PeerMessage p) ≡ still s
 unfolding arrive
 unloaded_rests m k s p e = ap (λ (b : Bool). when b (on_message m k p) s) e
 

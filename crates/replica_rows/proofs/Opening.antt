@@ -17,15 +17,15 @@ use Rattle.nop_types.specs.PlainChanges.{plain}
 use Rattle.nop_types.specs.Ranges.{ChangeIsIn, ChangeFits, NextFits, LogIsIn, LogFits}
 use Rattle.nop_types.specs.Views.{is_view, outranks}
 use Rattle.nop_types.specs.Meaning.{Meaning}
-use Rattle.log_merge.specs.Merging.{kept_told, merged}
+use Rattle.log_merge.specs.Merging.{kept_changes, merged}
 use Rattle.log_merge.specs.Starting.{greatest, greatest_next, kept, start_of}
 use Rattle.log_merge.proofs.InRanges.{merged_fits}
-use Rattle.view_change.specs.Gathering.{Gathering, teller, started, counted, has_sender, step_of}
+use Rattle.view_change.specs.Gathering.{Gathering, change_sender, started, change_added, has_sender, step_of}
 use Rattle.view_change.specs.declared.starting.Step.TheVariants.{Started, Waiting}
 use Rattle.view_change.specs.declared.starting.Start.{Start}
 use Rattle.replica_state.specs.declared.sending.Sending.{Sending}
 use Rattle.replica_state.specs.declared.state.ReplicaState.{ReplicaState}
-use Rattle.replica_state.specs.State.{others, leads}
+use Rattle.replica_state.specs.State.{max_faults, leads}
 use Rattle.replica_state.specs.Sends.{Effect, still, then_do, when}
 use Rattle.replica_state.specs.Moves.{entered, enter, enter_as, open_with, open_view, open_if_enough, keep_change}
 use Rattle.replica_rows.specs.Rows.{enter_view, gather}
@@ -111,9 +111,9 @@ pub opened_next_fits : (k : Keeping) (w : View) (cs : List Change) → AllByRecu
 opened_next_fits k w [] h some = absurd (omega (arith, some))
 opened_next_fits k w (c ∷ cs) h some = next_fits w (map plain (c ∷ cs)) (nexts_fit k (c ∷ cs) h) (omega arith)
 
-pub opened_told_fits : (k : Keeping) (cs : List Change) → AllByRecursion (ChangeIsIn k) cs → LogIsIn k (merged k (kept_told cs))
-opened_told_fits k cs h =
-    merged_fits k (kept_told cs) (filter_all (ChangeIsIn k) (λ d. is_view d.last_normal (greatest (map plain cs))) cs h)
+pub opened_log_fits : (k : Keeping) (cs : List Change) → AllByRecursion (ChangeIsIn k) cs → LogIsIn k (merged k (kept_changes cs))
+opened_log_fits k cs h =
+    merged_fits k (kept_changes cs) (filter_all (ChangeIsIn k) (λ d. is_view d.last_normal (greatest (map plain cs))) cs h)
 
 -- ---- entering a view
 
@@ -122,7 +122,7 @@ none_after e f none = ap (λ (x : Effect). (x.0, e.1 ++ x.1)) none ∙ ap (λ (x
 
 -- a leader's gathering begins with its own change
 pub record IsOwn (s : ReplicaState) (g : Gathering Change) : Type 0 where
-  pub f : g.f ≡ others s
+  pub f : g.f ≡ max_faults s
   pub one : length g.changes ≡ 1
 
 own_as : (b : Bool) (s : ReplicaState) (g : Gathering Change) → (enter_as b s).0.changes ≡ Some g → s.changes ≡ None
@@ -139,7 +139,7 @@ own s v g is = own_as (leads (entered s v)) (entered s v) g is refl
 module _ {S : Type 0} (m : Meaning S) (k : Keeping) where
   by_gathering : (o : Option (Gathering Change)) (t : ReplicaState) → o ≡ t.changes
       → ((g : Gathering Change) → t.changes ≡ Some g → IsOwn t g)
-      → 0 < others t → open_if_enough m k o t ≡ still t
+      → 0 < max_faults t → open_if_enough m k o t ≡ still t
   by_gathering None t is owns more = refl
   by_gathering (Some g) t is owns more =
       let mine = owns g (sym is) in
@@ -147,7 +147,7 @@ module _ {S : Type 0} (m : Meaning S) (k : Keeping) where
       ap (λ b. when b (open_view m k g) t) (le-ltb _ _ many)
 
   -- with others the view does not start at once
-  pub enters_with_others : (s : ReplicaState) (v : View) → 0 < others (enter s v).0 → enter_view m k v s ≡ enter s v
+  pub enters_with_others : (s : ReplicaState) (v : View) → 0 < max_faults (enter s v).0 → enter_view m k v s ≡ enter s v
   unfolding enter_view
   enters_with_others s v more =
       none_after (enter s v) (λ t. open_if_enough m k t.changes t)
@@ -192,7 +192,7 @@ pub start_fits : (g : Gathering Change) (start : Start) → AllByRecursion Chang
     → start ≡ started g.view g.changes → NextFits start.next × LogFits start.log
 start_fits g start all some begins =
     let fits : NextFits (started g.view g.changes).next × LogFits (started g.view g.changes).log =
-    (opened_next_fits Trimmed g.view g.changes all some, opened_told_fits Trimmed g.changes all) in
+    (opened_next_fits Trimmed g.view g.changes all some, opened_log_fits Trimmed g.changes all) in
     subst (λ (b : Start). NextFits b.next × LogFits b.log) (sym begins) fits
 
 -- and loads
@@ -200,7 +200,7 @@ pub start_loads : {S : Type 0} (m : Meaning S) (g : Gathering Change) (start : S
     → start ≡ started g.view g.changes → loads m start.log ≡ true
 start_loads m g start all begins =
     ap (λ (b : Start). loads m b.log) begins
-    ∙ merged_loads m (kept_told g.changes)
+    ∙ merged_loads m (kept_changes g.changes)
     (filter_all (ChangeLoads m) (λ d. is_view d.last_normal (greatest (map plain g.changes))) g.changes all)
 
 -- what is put back after a look
@@ -215,8 +215,8 @@ all_behind P (d ∷ cs) c h fits = (h.0, all_behind P cs c h.1 fits)
 
 -- what holds of each change holds with one more
 pub counted_fits : (P : Change → Type 0) (g : Gathering Change) (c : Change) → AllByRecursion P g.changes → P c
-    → AllByRecursion P (counted teller g c).changes
-counted_fits P g c h fits = at (has_sender teller g.changes c.sender)
+    → AllByRecursion P (change_added change_sender g c).changes
+counted_fits P g c h fits = at (has_sender change_sender g.changes c.sender)
   where
     at : (b : Bool) → AllByRecursion P (cond b g.changes (g.changes ++ c ∷ []))
     at true = h
@@ -238,7 +238,7 @@ waiting_by false s e = refl
 -- what is gathered where a view starts with a change
 pub record Gathers {S : Type 0} (m : Meaning S) (s t : ReplicaState) (c : Change) (start : Start) : Type 0 where
   pub next : NextFits start.next
-  pub told : LogFits start.log
+  pub log_fits : LogFits start.log
   pub loads : loads m start.log ≡ true
   pub row : gather m Trimmed s.changes c s ≡ open_with m Trimmed t start.next start.log
 
@@ -249,18 +249,18 @@ module _ {S : Type 0} (m : Meaning S) where
   gathers s t (Some g) c start e w load fits one kept step =
       let all = subst (λ o. IfSome o (λ x. AllByRecursion ChangeFits x.changes)) (sym e) w.changes in
       let each = subst (λ o. IfSome o (λ x. AllByRecursion (ChangeLoads m) x.changes)) (sym e) load.gathered in
-      let enough = begins (counted teller g c) start step in
+      let enough = begins (change_added change_sender g c) start step in
       let fit =
-      start_fits (counted teller g c) start (counted_fits ChangeFits g c all fits) (omega (arith, enough.0)) enough.1 in
+      start_fits (change_added change_sender g c) start (counted_fits ChangeFits g c all fits) (omega (arith, enough.0)) enough.1 in
       let k : ReplicaState = (keep_change s g c).0 in
       record {
         next = fit.0;
-        told = fit.1;
-        loads = start_loads m (counted teller g c) start (counted_fits (ChangeLoads m) g c each one) enough.1;
+        log_fits = fit.1;
+        loads = start_loads m (change_added change_sender g c) start (counted_fits (ChangeLoads m) g c each one) enough.1;
         row =
             ap (λ (o : Option (Gathering Change)). gather m Trimmed o c s) (sym e)
-            ∙ ap (λ b. when b (open_view m Trimmed (counted teller g c)) k) (lt-ltb _ _ enough.0)
-            ∙ opens_started m k (counted teller g c) start enough.1
+            ∙ ap (λ b. when b (open_view m Trimmed (change_added change_sender g c)) k) (lt-ltb _ _ enough.0)
+            ∙ opens_started m k (change_added change_sender g c) start enough.1
             ∙ ap (λ (p : ReplicaState). open_with m Trimmed p start.next start.log) (sym kept);
       }
 
@@ -272,5 +272,5 @@ module _ {S : Type 0} (m : Meaning S) where
   gathers_more s t (Some g) c e kept step =
       let k : ReplicaState = (keep_change s g c).0 in
       ap (λ (o : Option (Gathering Change)). gather m Trimmed o c s) (sym e)
-      ∙ ap (λ b. when b (open_view m Trimmed (counted teller g c)) k) (waiting_by (nat_lt g.f (length (counted teller g c).changes)) _ step)
+      ∙ ap (λ b. when b (open_view m Trimmed (change_added change_sender g c)) k) (waiting_by (nat_lt g.f (length (change_added change_sender g c).changes)) _ step)
       ∙ ap still (sym kept)

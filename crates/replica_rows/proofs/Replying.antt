@@ -100,7 +100,7 @@ module _ {S : Type 0} (m : Meaning S) where
   none_left s i le =
       ap (replies_to m Trimmed s (i + 1)) (all_dropped (i - s.log.sync_point) s.log.entries (omega (arith, le)))
 
-  -- where a request stands in the slot, a leader replies with the result there
+  -- where a request is in the slot, a leader replies with the result there
   pub leader_replies : (s : ReplicaState) (slot : ℕ) (r : Request) → leads s ≡ true → entry_at Trimmed s.log slot ≡ Some (Req r)
       → leader_reply s slot r (slot_result m Trimmed s.log slot) ≡ reply_at m Trimmed s slot
   unfolding reply_to

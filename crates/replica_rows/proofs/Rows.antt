@@ -14,7 +14,7 @@ use Rattle.replica_state.specs.declared.state.ReplicaState.{ReplicaState}
 use Rattle.replica_state.specs.Replies.{reply_at}
 use Rattle.replica_state.specs.Moves.{appended, gap_opened, add_gap, fill}
 use Rattle.replica_state.specs.Sends.{to_leader, to_all, to_all_if}
-use Rattle.replica_state.specs.State.{others}
+use Rattle.replica_state.specs.State.{max_faults}
 use Rattle.replica_rows.proofs.Draining.{replies_filled}
 use Rattle.replica_rows.proofs.Fields.{length-appended}
 
@@ -32,9 +32,9 @@ add_gap_sends s t slot old mid new state last same sent =
     ∙ ap (λ (p : ReplicaState). old ++ to_leader p (bodies.GapRep slot)) state
     ∙ ap (λ n. old ++ to_leader s (bodies.GapRep n)) next
 
-told_opened : (b : Bool) (s : ReplicaState) (body : Body) → to_all_if b (gap_opened Trimmed s) body ≡ to_all_if b s body
-told_opened true s body = refl
-told_opened false s body = refl
+to_all_opened : (b : Bool) (s : ReplicaState) (body : Body) → to_all_if b (gap_opened Trimmed s) body ≡ to_all_if b s body
+to_all_opened true s body = refl
+to_all_opened false s body = refl
 
 -- and the same of a leader's gap
 pub open_gap_sends : (s t : ReplicaState) (slot : ℕ) (old new : List Sending) → t ≡ gap_opened Trimmed s → slot ≡ length_of Trimmed t.log
@@ -43,7 +43,7 @@ open_gap_sends s t slot old new state last sent =
     let next = after_last s t NoOp slot last (ap (λ (p : ReplicaState). p.log) state) in
     sent
     ∙ ap (λ (p : ReplicaState). old ++ to_all p (bodies.GapCommit slot)) state
-    ∙ ap (λ (xs : List Sending). old ++ xs) (told_opened (others s == 0) s (bodies.GapCommit slot))
+    ∙ ap (λ (xs : List Sending). old ++ xs) (to_all_opened (max_faults s == 0) s (bodies.GapCommit slot))
     ∙ ap (λ n. old ++ to_all s (bodies.GapCommit n)) next
 
 -- the request was appended, and replied for in its slot

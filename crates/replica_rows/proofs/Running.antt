@@ -31,23 +31,23 @@ use Rattle.oum_receiver.specs.Receiving.{Receiving, judged, offered, verdict_of}
 use Rattle.sync_points.specs.Synchronisation.{Synchronisation, with_round, committed}
 use Rattle.sync_points.specs.Synchronisation as synchronisation
 use Rattle.view_change.specs.Gathering as gathering
-use Rattle.view_change.specs.Gathering.{Gathering, counted, teller}
+use Rattle.view_change.specs.Gathering.{Gathering, change_added, change_sender}
 use Rattle.executor.specs.Running.{Running, reached}
 use Rattle.executor.specs.Undoing.{HasExecuted}
-use Rattle.executor.proofs.FrontLemmas.{executed_append, executed_noop, executed_other}
+use Rattle.executor.proofs.PrefixLemmas.{executed_append, executed_noop, executed_other}
 use Rattle.replica_log.proofs.Adopted.{adopted_point, overlaid_point}
 use Rattle.replica_log.proofs.InRanges.{append_fits, noop_fits, adopt_fits, overlay_fits, length-overlaid_in}
 use Rattle.replica_state.specs.declared.state.ReplicaState.{ReplicaState}
-use Rattle.replica_state.specs.State.{may_append, drains, has_room, has_risen, leads, others, waits, is_normal, unless_settled}
+use Rattle.replica_state.specs.State.{may_append, drains, has_room, may_trim, leads, max_faults, waits, is_normal, unless_settled}
 use Rattle.replica_state.specs.Moves.{begin_session, appended, gap_opened, gap_written, ask_if, ask, logged, adopted, overlaid}
-use Rattle.replica_state.specs.Moves.{queue, entered, enter_as, own_change, hear, obey, sync_commit, count_sync_vote, risen}
+use Rattle.replica_state.specs.Moves.{queue, entered, enter_as, own_change, hear, obey, sync_commit, count_sync_vote, log_trimmed}
 use Rattle.replica_state.specs.Repeating.{sync_if, sync}
 use Rattle.replica_rows.specs.Gathering.{kept_by}
 use Rattle.replica_state.specs.Within.{IsIn, IsWithin}
 use Rattle.replica_state.specs.Sends.{Effect, still, then_do, when}
 use Rattle.replica_state.specs.declared.sending.Sending.{Sending}
 use Rattle.replica_rows.specs.declared.member.Member.{Member}
-use Rattle.replica_rows.specs.Rising.{follows}
+use Rattle.replica_rows.specs.Trimming.{trim_log}
 use Rattle.replica_rows.specs.Within.{ChangeLoads, LogsLoad, Executes, Runs, IsRunning, Does}
 use Rattle.replica_rows.proofs.Opening.{counted_fits}
 use Rattle.replica_rows.proofs.Fields.{length-appended, SyncFits, sync_of, sync_longer, with_receiver, with_asked, with_heard, with_sync, risen_within}
@@ -176,9 +176,9 @@ open_gap_within k s w may =
       start = a.start;
       receiver = a.receiver;
       gap =
-          waiting_fits (begun (length_of k s.log + 1) (others s))
+          waiting_fits (begun (length_of k s.log + 1) (max_faults s))
           (record { low = omega arith; high = omega (arith, room) })
-          (vote_of (others s) []);
+          (vote_of (max_faults s) []);
       points = a.points;
       sync_point = a.sync_point;
       syncing = a.syncing;
@@ -223,12 +223,12 @@ length-noop Trimmed l n = ap (λ i. l.sync_point + i) (length-set_slot l.entries
 record Fits (k : Keeping) (n point : ℕ) (l : Log) : Type 0 where
   log : LogIsIn k l
   len : length_of k l ≡ n
-  told : l.sync_point ≡ point
+  log_point : l.sync_point ≡ point
 
 unless_fits : (k : Keeping) (b : Bool) (n : ℕ) (l : Log) → LogIsIn k l
     → Fits k (length_of k l) l.sync_point (cond b l (with_noop k l n))
-unless_fits k true n l fits = record { log = fits; len = refl; told = refl }
-unless_fits k false n l fits = record { log = noop_fits k l n fits; len = length-noop k l n; told = refl }
+unless_fits k true n l fits = record { log = fits; len = refl; log_point = refl }
+unless_fits k false n l fits = record { log = noop_fits k l n fits; len = length-noop k l n; log_point = refl }
 
 pub noop_within : (k : Keeping) (s : ReplicaState) (n : ℕ) → IsIn k s → IsIn k (gap_written k s n)
 noop_within k s n w =
@@ -248,7 +248,7 @@ noop_within k s n w =
       start = omega (arith, same, start);
       receiver = w.receiver;
       gap = w.gap;
-      points = new.told ∙ w.points;
+      points = new.log_point ∙ w.points;
       sync_point = sync.sync_point;
       syncing = sync.syncing;
       prepared = sync.prepared;
@@ -305,9 +305,9 @@ from_next false r q x e f = f
 
 pub adopted_within : (k : Keeping) (s : ReplicaState) (v : View) (x : ℕ) (l : Log) → IsIn k s → ViewFits v → NextFits x → LogIsIn k l
     → IsIn k (adopted k s v x l)
-adopted_within k s v x l w view next told =
+adopted_within k s v x l w view next log_fits =
     let low = next.low in
-    let log = adopt_fits k l s.log told w.log in
+    let log = adopt_fits k l s.log log_fits w.log in
     let points = w.points in
     let point : (logs.adopted k l s.log).sync_point ≡ max s.sync.sync_point l.sync_point =
     adopted_point l s.log ∙ ap (λ (n : ℕ). max n l.sync_point) points in
@@ -377,9 +377,9 @@ gathers_within k s g w fits = with_changes k s (Some g) w fits
 
 pub overlaid_within : (k : Keeping) (s : ReplicaState) (l : Log) → IsIn k s → LogIsIn k l
     → s.next + (length_of k l - length_of k s.log) ≤ NUMBER_END → IsIn k (overlaid k s l)
-overlaid_within k s l w told high =
-    let log = overlay_fits k l s.log told w.log in
-    let len = length-overlaid_in k l s.log told w.log in
+overlaid_within k s l w log_fits high =
+    let log = overlay_fits k l s.log log_fits w.log in
+    let len = length-overlaid_in k l s.log log_fits w.log in
     let points = w.points in
     let point : (logs.overlaid k l s.log).sync_point ≡ max s.sync.sync_point l.sync_point =
     overlaid_point l s.log ∙ ap (λ (n : ℕ). max n l.sync_point) points in
@@ -454,7 +454,7 @@ commit_moves k n s t is w = rw is (at (nat_le n s.sync.prepared))
 
 pub vote_moves : (k : Keeping) (q n : ℕ) (s t : ReplicaState) → t ≡ (count_sync_vote s q n).0 → IsIn k s → Moves k s t
 vote_moves k q n s t is w = record {
-  sync = synchronisation.counted s.sync q n;
+  sync = synchronisation.sync_vote_counted s.sync q n;
   heard = s.heard;
   is = is;
   fits = counted_in_fits (length_of k s.log) s.sync s.sync.syncing q n (sync_of k s w) w.syncing;
@@ -465,9 +465,9 @@ vote_moves k q n s t is w = record {
 
 -- one with a greater sync point comes with its checkpoint
 pub further_begun : (l own : Log) → LogFits l → own.sync_point < l.sync_point → IsSome (logs.further l own).checkpoint
-further_begun l own told less =
+further_begun l own log_fits less =
     ap (λ (b : Bool). is_some (cond b l own).checkpoint) (lt-ltb own.sync_point l.sync_point less)
-    ∙ told.checkpoint.0
+    ∙ log_fits.checkpoint.0
     ∙ lt-ltb 0 l.sync_point (omega (arith, less))
 
 -- ---- what was executed
@@ -540,9 +540,9 @@ module _ {H U : Type 0} (host : Ghosts H U) where
       → LogsLoad host.meaning s → LogFits l → loads host.meaning l ≡ true
       → s.next + (length_of Trimmed l - length_of Trimmed s.log) ≤ NUMBER_END
       → HasExecuted host.state host.meaning host.undo_of t.log x → Runs host t x
-  overlaid_runs s t x l is w load told loaded high run =
+  overlaid_runs s t x l is w load log_fits loaded high run =
       rw is (record {
-        within = overlaid_within Trimmed s l w told high;
+        within = overlaid_within Trimmed s l w log_fits high;
         loads = record { own = further_loads l s.log loaded load.own; gathered = load.gathered };
         run = subst (λ (p : ReplicaState). HasExecuted host.state host.meaning host.undo_of p.log x) is run;
       })
@@ -550,9 +550,9 @@ module _ {H U : Type 0} (host : Ghosts H U) where
   pub overlaid_near : (s t : ReplicaState) (x : Running H U) (l : Log) → t ≡ overlaid Trimmed s l → Runs host s x
       → LogFits l → loads host.meaning l ≡ true → s.next + (length_of Trimmed l - length_of Trimmed s.log) ≤ NUMBER_END
       → l.sync_point ≤ s.log.sync_point → reached x ≤ s.log.sync_point → Runs host t x
-  overlaid_near s t x l is r told loaded high le behind =
+  overlaid_near s t x l is r log_fits loaded high le behind =
       let own = near l s.log le in
-      overlaid_runs s t x l is r.within r.loads told loaded high
+      overlaid_runs s t x l is r.within r.loads log_fits loaded high
       (begins s.log t.log x r.run behind
       (ap (λ (p : ReplicaState). p.log.sync_point) is ∙ ap (λ (g : Log). g.sync_point) own)
       (ap (λ (p : ReplicaState). p.log.checkpoint) is ∙ ap (λ (g : Log). g.checkpoint) own))
@@ -560,9 +560,9 @@ module _ {H U : Type 0} (host : Ghosts H U) where
   pub adopted_runs : (s t : ReplicaState) (x : Running H U) (v : View) (n : ℕ) (l : Log) → t ≡ adopted Trimmed s v n l → IsWithin s
       → LogsLoad host.meaning s → ViewFits v → NextFits n → LogFits l → loads host.meaning l ≡ true
       → HasExecuted host.state host.meaning host.undo_of t.log x → Runs host t x
-  adopted_runs s t x v n l is w load view next told loaded run =
+  adopted_runs s t x v n l is w load view next log_fits loaded run =
       rw is (record {
-        within = adopted_within Trimmed s v n l w view next told;
+        within = adopted_within Trimmed s v n l w view next log_fits;
         loads = record { own = further_loads l s.log loaded load.own; gathered = tt };
         run = subst (λ (p : ReplicaState). HasExecuted host.state host.meaning host.undo_of p.log x) is run;
       })
@@ -570,9 +570,9 @@ module _ {H U : Type 0} (host : Ghosts H U) where
   pub adopted_near : (s t : ReplicaState) (x : Running H U) (v : View) (n : ℕ) (l : Log) → t ≡ adopted Trimmed s v n l → Runs host s x
       → ViewFits v → NextFits n → LogFits l → loads host.meaning l ≡ true → l.sync_point ≤ s.log.sync_point
       → reached x ≤ s.log.sync_point → Runs host t x
-  adopted_near s t x v n l is r view next told loaded le behind =
+  adopted_near s t x v n l is r view next log_fits loaded le behind =
       let own = near l s.log le in
-      adopted_runs s t x v n l is r.within r.loads view next told loaded
+      adopted_runs s t x v n l is r.within r.loads view next log_fits loaded
       (begins s.log t.log x r.run behind
       (ap (λ (p : ReplicaState). p.log.sync_point) is ∙ ap (λ (g : Log). g.sync_point) own)
       (ap (λ (p : ReplicaState). p.log.checkpoint) is ∙ ap (λ (g : Log). g.checkpoint) own))
@@ -608,9 +608,9 @@ module _ {H U : Type 0} (host : Ghosts H U) where
       let number = w.number in
       let few = w.few in
       let change : ChangeFits (own_change s) =
-      record { sender = omega (arith, number, few); rest = record { view = w.last_normal; number = w.next; told = w.log } } in
+      record { sender = omega (arith, number, few); rest = record { view = w.last_normal; number = w.next; log_fits = w.log } } in
       rw is (record {
-        within = gathers_within Trimmed s (gathering.entered s.view (others s) (own_change s)) w (change, tt);
+        within = gathers_within Trimmed s (gathering.entered s.view (max_faults s) (own_change s)) w (change, tt);
         loads = record { own = r.loads.own; gathered = (r.loads.own, tt) };
         run = r.run;
       })
@@ -632,7 +632,7 @@ module _ {H U : Type 0} (host : Ghosts H U) where
       subst (λ (o : Option (Gathering peer.Change)). IfSome o (λ g. AllByRecursion (ChangeLoads host.meaning) g.changes)) (sym e)
       r.loads.gathered in
       rw is (record {
-        within = gathers_within Trimmed s (counted teller g c) r.within (counted_fits ChangeFits g c all fits);
+        within = gathers_within Trimmed s (change_added change_sender g c) r.within (counted_fits ChangeFits g c all fits);
         loads = record { own = r.loads.own; gathered = counted_fits (ChangeLoads host.meaning) g c each load };
         run = r.run;
       })
@@ -648,7 +648,7 @@ module _ {H U : Type 0} (host : Ghosts H U) where
         run = r.run;
       }
 
-  -- ---- the sync point moves, and the log follows
+  -- ---- the sync point moves, and the log is trimmed
 
   pub moved_executes : (s t : ReplicaState) (x : Running H U) → Runs host s x → Moves Trimmed s t → Executes host t.log x
   moved_executes s t x r h =
@@ -660,28 +660,28 @@ module _ {H U : Type 0} (host : Ghosts H U) where
       subst (λ (p : ReplicaState). p.sync.sync_point ≤ length_of Trimmed p.log) (sym h.is) h.fits.sync_point
 
   -- by whether the sync point passed that of the log
-  follows_by : (s : ReplicaState) (x : Synchronisation) (y : Running H U) (b : Bool) → has_risen (record s { sync = x }) ≡ b → IsWithin s
+  trims_by : (s : ReplicaState) (x : Synchronisation) (y : Running H U) (b : Bool) → may_trim (record s { sync = x }) ≡ b → IsWithin s
       → LogsLoad host.meaning s → SyncFits (length_of Trimmed s.log) x → s.sync.sync_point ≤ x.sync_point
       → let p : ReplicaState = record s { sync = x } in
-      let u : ReplicaState = cond b (risen host.meaning Trimmed p) p in Executes host u.log y → Runs host u y
-  follows_by s x y true rose w load fits grows e = record {
+      let u : ReplicaState = cond b (log_trimmed host.meaning Trimmed p) p in Executes host u.log y → Runs host u y
+  trims_by s x y true rose w load fits grows e = record {
     within = risen_within host.meaning Trimmed s x w fits grows e.fits;
     loads = record { own = e.loads; gathered = load.gathered };
     run = e.run;
   }
-  follows_by s x y false stayed w load fits grows e = record {
+  trims_by s x y false stayed w load fits grows e = record {
     within = let points = w.points in with_sync Trimmed s x w fits (grind (arith, nat_tests, stayed, points, grows));
     loads = record { own = e.loads; gathered = load.gathered };
     run = e.run;
   }
 
-  pub followed_runs : (s t u : ReplicaState) (x y : Running H U) → Runs host s x → Moves Trimmed s t → u ≡ follows host.meaning t
+  pub trimmed_runs : (s t u : ReplicaState) (x y : Running H U) → Runs host s x → Moves Trimmed s t → u ≡ trim_log host.meaning t
       → Executes host u.log y → Runs host u y
-  followed_runs s t u x y r h is e =
+  trimmed_runs s t u x y r h is e =
       let q : ReplicaState = record s { heard = h.heard } in
       let p : ReplicaState = record q { sync = h.sync } in
-      let same : u ≡ follows host.meaning p = is ∙ ap (follows host.meaning) h.is in
+      let same : u ≡ trim_log host.meaning p = is ∙ ap (trim_log host.meaning) h.is in
       let load : LogsLoad host.meaning q = record { own = r.loads.own; gathered = r.loads.gathered } in
       rw same
-      (follows_by q h.sync y (has_risen p) refl (with_heard Trimmed s h.heard r.within) load h.fits h.grows
+      (trims_by q h.sync y (may_trim p) refl (with_heard Trimmed s h.heard r.within) load h.fits h.grows
       (subst (λ (v : ReplicaState). Executes host v.log y) same e))

@@ -1,4 +1,4 @@
--- Where logs are kept whole, what is synchronised stays, whatever arrives, unless a log is told with a greater sync point.
+-- Where logs are kept whole, what is synchronised stays, whatever arrives, unless a log is sent with a greater sync point.
 use Rattle.std.proofs.Common.{◌≡◌, ◌≤◌, ℕ, zero, suc, ◌+◌, ◌-◌, Bool, true, false, cond, Option, Some, refl, sym, ap, subst, ◌∙◌}
 use Rattle.std.proofs.Common.{arith, List, [], ◌∷◌, ◌++◌, length, take, drop, filter, length-append}
 use Rattle.std.specs.Prelude.{⊤, not, map, max, nat_le, nat_lt, ◌==◌, ◌&&◌, slice_set}
@@ -20,42 +20,42 @@ use Rattle.nop_types.specs.declared.request.Entry.TheVariants.{NoOp, Req}
 use Rattle.nop_types.specs.declared.peer.Change as peer
 use Rattle.nop_types.specs.declared.peer.Body.TheVariants as bodies
 use Rattle.lemmas.proofs.Slots.{length-set_slot}
-use Rattle.log_merge.specs.Merging.{kept_told, merged}
+use Rattle.log_merge.specs.Merging.{kept_changes, merged}
 use Rattle.log_merge.specs.Starting.{greatest, greatest_point, start_of}
 use Rattle.log_merge.proofs.WholeLogs.{kept_is_plain, merged_point}
 use Rattle.oum_receiver.specs.Front.{Front, Nothing, Message, Dropped}
 use Rattle.oum_receiver.specs.Receiving.{front_of}
 use Rattle.replica_log.proofs.Adopted.{adopted_near, adopted_point, overlaid_point, length-spliced}
-use Rattle.view_change.specs.Gathering.{Gathering, teller, counted, has_sender}
+use Rattle.view_change.specs.Gathering.{Gathering, change_sender, change_added, has_sender}
 use Rattle.replica_state.specs.declared.sending.Sending.{Sending}
 use Rattle.replica_state.specs.declared.state.ReplicaState.{ReplicaState}
 use Rattle.replica_state.specs.State.{PointsMeet, leads, is_normal, drains, waits}
-use Rattle.replica_state.specs.State.{has_risen}
+use Rattle.replica_state.specs.State.{may_trim}
 use Rattle.replica_state.specs.Sends.{Effect, then_do, when, to_all}
 use Rattle.replica_state.specs.Moves.{ask_if, gap_opened, open_gap, gap_written, write_gap, add_gap, drain_drop, drain_at, drain_by, drain}
 use Rattle.replica_state.specs.Moves.{entered, enter_as, enter, adopted, adopt, open_view, overlay}
 use Rattle.replica_state.specs.Moves.{queue, keep_change, count_gap_vote, count_sync_vote, logged, appended, begin_session}
-use Rattle.replica_state.specs.Moves.{hear, obey, sync_commit, risen, raise, session_view, fill}
+use Rattle.replica_state.specs.Moves.{hear, obey, sync_commit, log_trimmed, trim, session_view, fill}
 use Rattle.replica_state.specs.Repeating.{sync_if, sync}
 use Rattle.replica_rows.specs.Rows as rows
 use Rattle.replica_rows.specs.Messages.{Arrival, arrive}
-use Rattle.replica_rows.specs.Telling.{told_in, told_by, gathered_point}
+use Rattle.replica_rows.specs.MessagePoints.{point_in_body, point_in_arrival, gathered_point}
 use Rattle.replica_rows.proofs.EachRow.{change_in, arrive_row}
 use Rattle.replica_rows.proofs.EachMove.{Kept, EachMove, each_row}
 
 -- ---- fronts of lists
 
-front_of_front : (i n : ℕ) (l : List Entry) → i ≤ n → take i (take n l) ≡ take i l
-front_of_front zero n l h = refl
-front_of_front (suc i) zero l h = absurd (omega (arith, h))
-front_of_front (suc i) (suc n) [] h = refl
-front_of_front (suc i) (suc n) (x ∷ l) h = ap (λ (t : List Entry). x ∷ t) (front_of_front i n l (omega (arith, h)))
+take_of_prefix : (i n : ℕ) (l : List Entry) → i ≤ n → take i (take n l) ≡ take i l
+take_of_prefix zero n l h = refl
+take_of_prefix (suc i) zero l h = absurd (omega (arith, h))
+take_of_prefix (suc i) (suc n) [] h = refl
+take_of_prefix (suc i) (suc n) (x ∷ l) h = ap (λ (t : List Entry). x ∷ t) (take_of_prefix i n l (omega (arith, h)))
 
 -- what is kept in front of another log
-spliced_front : (i n : ℕ) (own l : List Entry) → i ≤ n → n ≤ length own → take i (take n own ++ drop n l) ≡ take i own
-spliced_front i n own l low high =
+spliced_prefix : (i n : ℕ) (own l : List Entry) → i ≤ n → n ≤ length own → take i (take n own ++ drop n l) ≡ take i own
+spliced_prefix i n own l low high =
     let one = length-take-le n own high in
-    take-append-le i (take n own) (drop n l) (omega (arith, one, low)) ∙ front_of_front i n own low
+    take-append-le i (take n own) (drop n l) (omega (arith, one, low)) ∙ take_of_prefix i n own low
 
 -- ---- steps that leave the sync point
 
@@ -63,7 +63,7 @@ spliced_front i n own l low high =
 record Keeps (s t : ReplicaState) : Type 0 where
   point : t.sync.sync_point ≡ s.sync.sync_point
   points : PointsMeet t
-  front : take s.sync.sync_point t.log.entries ≡ take s.sync.sync_point s.log.entries
+  prefix : take s.sync.sync_point t.log.entries ≡ take s.sync.sync_point s.log.entries
   within : s.sync.sync_point ≤ length t.log.entries
   gathered : gathered_point t.changes ≤ s.sync.sync_point
 
@@ -86,7 +86,7 @@ changed : (s t : ReplicaState) → t.sync.sync_point ≡ s.sync.sync_point → t
 changed s t p l g low = record {
   point = p;
   points = ap (λ (x : Log). x.sync_point) l ∙ low.points ∙ sym p;
-  front = ap (λ (x : Log). take s.sync.sync_point x.entries) l;
+  prefix = ap (λ (x : Log). take s.sync.sync_point x.entries) l;
   within = let e = ap (λ (x : Log). length x.entries) l in let w = low.within in omega (arith, e, w);
   gathered = g;
 }
@@ -102,7 +102,7 @@ both : (s t u : ReplicaState) → Keeps s t → Keeps t u → Keeps s u
 both s t u h g = record {
   point = g.point ∙ h.point;
   points = g.points;
-  front = subst (λ (n : ℕ). take n u.log.entries ≡ take n t.log.entries) h.point g.front ∙ h.front;
+  prefix = subst (λ (n : ℕ). take n u.log.entries ≡ take n t.log.entries) h.point g.prefix ∙ h.prefix;
   within = let p = h.point in let w = g.within in omega (arith, p, w);
   gathered = let p = h.point in let c = g.gathered in omega (arith, p, c);
 }
@@ -112,8 +112,8 @@ both s t u h g = record {
 -- entries are appended
 record Grows (s t : ReplicaState) : Type 0 where
   point : t.sync.sync_point ≡ s.sync.sync_point
-  told : t.log.sync_point ≡ s.log.sync_point
-  front : (n : ℕ) → n ≤ length s.log.entries → take n t.log.entries ≡ take n s.log.entries
+  log_point : t.log.sync_point ≡ s.log.sync_point
+  prefix : (n : ℕ) → n ≤ length s.log.entries → take n t.log.entries ≡ take n s.log.entries
   longer : length s.log.entries ≤ length t.log.entries
   changes : t.changes ≡ s.changes
 
@@ -124,8 +124,8 @@ record Always (f : ReplicaState → Effect) : Type 0 where
 grown : (s t : ReplicaState) → Low s → Grows s t → Keeps s t
 grown s t low g = record {
   point = g.point;
-  points = g.told ∙ low.points ∙ sym g.point;
-  front = g.front s.sync.sync_point low.within;
+  points = g.log_point ∙ low.points ∙ sym g.point;
+  prefix = g.prefix s.sync.sync_point low.within;
   within = let w = g.longer in let l = low.within in omega (arith, w, l);
   gathered = let e = ap (λ (o : Option (Gathering peer.Change)). gathered_point o) g.changes in let c = low.gathered in omega (arith, e, c);
 }
@@ -133,8 +133,8 @@ grown s t low g = record {
 grows_none : (s t : ReplicaState) → t.sync.sync_point ≡ s.sync.sync_point → t.log ≡ s.log → t.changes ≡ s.changes → Grows s t
 grows_none s t p l c = record {
   point = p;
-  told = ap (λ (x : Log). x.sync_point) l;
-  front = λ n low. ap (λ (x : Log). take n x.entries) l;
+  log_point = ap (λ (x : Log). x.sync_point) l;
+  prefix = λ n low. ap (λ (x : Log). take n x.entries) l;
   longer = let e = ap (λ (x : Log). length x.entries) l in omega (arith, e);
   changes = c;
 }
@@ -143,8 +143,8 @@ grows_more : (s t : ReplicaState) (x : Entry) → t.sync.sync_point ≡ s.sync.s
     → t.changes ≡ s.changes → Grows s t
 grows_more s t x p l c = record {
   point = p;
-  told = ap (λ (k : Log). k.sync_point) l;
-  front = λ n low. ap (λ (k : Log). take n k.entries) l ∙ take-append-le n s.log.entries (x ∷ []) low;
+  log_point = ap (λ (k : Log). k.sync_point) l;
+  prefix = λ n low. ap (λ (k : Log). take n k.entries) l ∙ take-append-le n s.log.entries (x ∷ []) low;
   longer =
       let e = ap (λ (k : Log). length k.entries) l in let len = length-append s.log.entries (x ∷ []) in omega (arith, e, len);
   changes = c;
@@ -153,8 +153,8 @@ grows_more s t x p l c = record {
 grows_both : (s t u : ReplicaState) → Grows s t → Grows t u → Grows s u
 grows_both s t u h g = record {
   point = g.point ∙ h.point;
-  told = g.told ∙ h.told;
-  front = λ n low. g.front n (let w = h.longer in omega (arith, low, w)) ∙ h.front n low;
+  log_point = g.log_point ∙ h.log_point;
+  prefix = λ n low. g.prefix n (let w = h.longer in omega (arith, low, w)) ∙ h.prefix n low;
   longer = let a = h.longer in let b = g.longer in omega (arith, a, b);
   changes = g.changes ∙ h.changes;
 }
@@ -205,7 +205,7 @@ enter_as_keeps : (b : Bool) (s t : ReplicaState) → Keeps s t → Keeps s (ente
 enter_as_keeps true s t h = record {
   point = h.point;
   points = h.points;
-  front = h.front;
+  prefix = h.prefix;
   within = h.within;
   gathered = let p = h.point in omega (arith, p);
 }
@@ -216,15 +216,15 @@ unfolding enter
 enter_keeps s v low = enter_as_keeps (leads (entered s v)) s (entered s v) (changed s (entered s v) refl refl (omega arith) low)
 
 -- the entries up to the sync point are in front
-record InFront (own : Log) (l : List Entry) : Type 0 where
-  front : take own.sync_point l ≡ take own.sync_point own.entries
+record HasPrefix (own : Log) (l : List Entry) : Type 0 where
+  prefix : take own.sync_point l ≡ take own.sync_point own.entries
   within : own.sync_point ≤ length l
 
 -- a log is taken above the own sync point, where that is no less than the one that is told
-adopted_in_front : (l own : Log) → l.sync_point ≤ own.sync_point → own.sync_point ≤ length own.entries
-    → InFront own (logs.adopted Whole l own).entries
-adopted_in_front l own le within = subst (InFront own) (sym (adopted_near l own le)) (record {
-  front = spliced_front own.sync_point own.sync_point own.entries l.entries (omega arith) within;
+adopted_has_prefix : (l own : Log) → l.sync_point ≤ own.sync_point → own.sync_point ≤ length own.entries
+    → HasPrefix own (logs.adopted Whole l own).entries
+adopted_has_prefix l own le within = subst (HasPrefix own) (sym (adopted_near l own le)) (record {
+  prefix = spliced_prefix own.sync_point own.sync_point own.entries l.entries (omega arith) within;
   within = let len = length-spliced own.sync_point own.entries l.entries within in omega (arith, len);
 })
 
@@ -233,12 +233,12 @@ adopted_keeps : (s : ReplicaState) (v : View) (x : ℕ) (l : Log) → l.sync_poi
 adopted_keeps s v x l le low =
     let points = low.points in
     let own = low.within in
-    let new = adopted_in_front l s.log (omega (arith, points, le)) (omega (arith, points, own)) in
+    let new = adopted_has_prefix l s.log (omega (arith, points, le)) (omega (arith, points, own)) in
     let within = new.within in
     record {
       point = omega (arith, le);
       points = adopted_point l s.log ∙ ap (λ (n : ℕ). max n l.sync_point) points;
-      front = subst (λ (n : ℕ). take n (logs.adopted Whole l s.log).entries ≡ take n s.log.entries) points new.front;
+      prefix = subst (λ (n : ℕ). take n (logs.adopted Whole l s.log).entries ≡ take n s.log.entries) points new.prefix;
       within = omega (arith, within, points);
       gathered = omega arith;
     }
@@ -261,9 +261,9 @@ kept_point test (c ∷ cs) = put (test c) (kept_point test cs)
     put false rest = omega (arith, rest)
 
 -- what a view starts with has no greater sync point than what is gathered
-opened_point : (cs : List peer.Change) → (merged Whole (kept_told cs)).sync_point ≤ greatest_point (map plain cs)
+opened_point : (cs : List peer.Change) → (merged Whole (kept_changes cs)).sync_point ≤ greatest_point (map plain cs)
 opened_point cs =
-    let point = merged_point (kept_told cs) in
+    let point = merged_point (kept_changes cs) in
     let same = ap (λ (ds : List plains.Change). greatest_point ds) (kept_is_plain cs) in
     let most = kept_point (λ c. is_view c.last_normal (greatest (map plain cs))) (map plain cs) in
     omega (arith, point, same, most)
@@ -274,8 +274,8 @@ more_point [] c n h le = omega (arith, le)
 more_point (d ∷ cs) c n h le = let rest = more_point cs c n (omega (arith, h)) le in omega (arith, h, rest)
 
 counted_point : (g : Gathering peer.Change) (c : peer.Change) (n : ℕ) → greatest_point (map plain g.changes) ≤ n → c.log.sync_point ≤ n
-    → greatest_point (map plain (counted teller g c).changes) ≤ n
-counted_point g c n h le = at (has_sender teller g.changes c.sender)
+    → greatest_point (map plain (change_added change_sender g c).changes) ≤ n
+counted_point g c n h le = at (has_sender change_sender g.changes c.sender)
   where
     at : (b : Bool) → greatest_point (map plain (cond b g.changes (g.changes ++ c ∷ []))) ≤ n
     at true = h
@@ -301,7 +301,7 @@ written_keeps s k low = at (nat_le k s.sync.sync_point) refl
     at false e = record {
       point = refl;
       points = low.points;
-      front = take_set_slot s.sync.sync_point k NoOp s.log.entries e;
+      prefix = take_set_slot s.sync.sync_point k NoOp s.log.entries e;
       within = let len = length-set_slot s.log.entries k NoOp in let w = low.within in omega (arith, len, w);
       gathered = low.gathered;
     }
@@ -311,16 +311,16 @@ overlaid_by l own b =
     let g : Log = cond b l own in take g.sync_point g.entries ++ laid (drop g.sync_point l.entries) (drop g.sync_point own.entries)
 
 -- so is one that is laid over the own one
-overlaid_in_front : (l own : Log) → l.sync_point ≤ own.sync_point → own.sync_point ≤ length own.entries
-    → InFront own (logs.overlaid Whole l own).entries
-overlaid_in_front l own le within =
+overlaid_has_prefix : (l own : Log) → l.sync_point ≤ own.sync_point → own.sync_point ≤ length own.entries
+    → HasPrefix own (logs.overlaid Whole l own).entries
+overlaid_has_prefix l own le within =
     let n : ℕ = own.sync_point in
     let rest : List Entry = laid (drop n l.entries) (drop n own.entries) in
     let near : (logs.overlaid Whole l own).entries ≡ take n own.entries ++ rest = ap (overlaid_by l own) (le-ltb n l.sync_point le) in
     let one = length-take-le n own.entries within in
     let len = length-append (take n own.entries) rest in
-    subst (InFront own) (sym near) (record {
-      front = take-append-le n (take n own.entries) rest (omega (arith, one)) ∙ front_of_front n n own.entries (omega arith);
+    subst (HasPrefix own) (sym near) (record {
+      prefix = take-append-le n (take n own.entries) rest (omega (arith, one)) ∙ take_of_prefix n n own.entries (omega arith);
       within = omega (arith, one, len);
     })
 
@@ -330,12 +330,12 @@ unfolding overlay
 overlay_keeps m s l le low =
     let points = low.points in
     let own = low.within in
-    let new = overlaid_in_front l s.log (omega (arith, points, le)) (omega (arith, points, own)) in
+    let new = overlaid_has_prefix l s.log (omega (arith, points, le)) (omega (arith, points, own)) in
     let within = new.within in
     record {
       point = omega (arith, le);
       points = overlaid_point l s.log ∙ ap (λ (n : ℕ). max n l.sync_point) points;
-      front = subst (λ (n : ℕ). take n (logs.overlaid Whole l s.log).entries ≡ take n s.log.entries) points new.front;
+      prefix = subst (λ (n : ℕ). take n (logs.overlaid Whole l s.log).entries ≡ take n s.log.entries) points new.prefix;
       within = omega (arith, within, points);
       gathered = low.gathered;
     }
@@ -367,31 +367,31 @@ abbrev Stays : ReplicaState → ReplicaState → Type 0
 Stays s t = take s.sync.sync_point t.log.entries ≡ take s.sync.sync_point s.log.entries
 
 risen_by : {S : Type 0} (m : Meaning S) (b : Bool) (s t : ReplicaState) → Low s → t.log ≡ s.log
-    → Stays s (when b (λ p. then_do (raise m Whole p) (drain m Whole)) t).0
+    → Stays s (when b (λ p. then_do (trim m Whole p) (drain m Whole)) t).0
 risen_by m true s t low l =
     let len = ap (λ (x : Log). length x.entries) l in
     let w = low.within in
-    (drain_grows m (risen m Whole t)).front s.sync.sync_point (omega (arith, len, w))
+    (drain_grows m (log_trimmed m Whole t)).prefix s.sync.sync_point (omega (arith, len, w))
     ∙ ap (λ (x : Log). take s.sync.sync_point x.entries) l
 risen_by m false s t low l = ap (λ (x : Log). take s.sync.sync_point x.entries) l
 
-commit_front : {S : Type 0} (m : Meaning S) (k : ℕ) (s : ReplicaState) → Low s → Stays s (rows.sync_commit m Whole k s).0
+commit_prefix : {S : Type 0} (m : Meaning S) (k : ℕ) (s : ReplicaState) → Low s → Stays s (rows.sync_commit m Whole k s).0
 unfolding rows.sync_commit
-commit_front m k s low =
+commit_prefix m k s low =
     let t : ReplicaState = (sync_commit k s).0 in
-    risen_by m (has_risen t) s t low (obeyed_log k s)
+    risen_by m (may_trim t) s t low (obeyed_log k s)
 
-reply_front : {S : Type 0} (m : Meaning S) (q k : ℕ) (s : ReplicaState) → Low s → Stays s (rows.sync_reply m Whole q k s).0
+reply_prefix : {S : Type 0} (m : Meaning S) (q k : ℕ) (s : ReplicaState) → Low s → Stays s (rows.sync_reply m Whole q k s).0
 unfolding rows.sync_reply
-reply_front m q k s low =
+reply_prefix m q k s low =
     let t : ReplicaState = (count_sync_vote s q k).0 in
-    risen_by m (has_risen t) s t low refl
+    risen_by m (may_trim t) s t low refl
 
-sync_front : {S : Type 0} (m : Meaning S) (s : ReplicaState) → Low s → Stays s (rows.sync m Whole s).0
+sync_prefix : {S : Type 0} (m : Meaning S) (s : ReplicaState) → Low s → Stays s (rows.sync m Whole s).0
 unfolding rows.sync
-sync_front m s low =
+sync_prefix m s low =
     let t : ReplicaState = (sync Whole s).0 in
-    risen_by m (has_risen t) s t low (synced_log s)
+    risen_by m (may_trim t) s t low (synced_log s)
 
 module _ {S : Type 0} (m : Meaning S) (o : ReplicaState) where
   -- of what is sent nothing is said
@@ -406,7 +406,7 @@ module _ {S : Type 0} (m : Meaning S) (o : ReplicaState) where
   unchanged s t h p l c = both o s t h (same s t p l c (low_after o s h))
 
   stays : (s t : ReplicaState) → Keeps o s → Stays s t → Stays o t
-  stays s t h e = subst (λ (n : ℕ). take n t.log.entries ≡ take n s.log.entries) h.point e ∙ h.front
+  stays s t h e = subst (λ (n : ℕ). take n t.log.entries ≡ take n s.log.entries) h.point e ∙ h.prefix
 
   told_low : (s : ReplicaState) (n : ℕ) → Keeps o s → n ≤ o.sync.sync_point → n ≤ s.sync.sync_point
   told_low s n h le = let p = h.point in omega (arith, p, le)
@@ -421,14 +421,14 @@ module _ {S : Type 0} (m : Meaning S) (o : ReplicaState) where
       → Keeps s (open_view m Whole g s).0
   open_keeps s g le low =
       let most = opened_point g.changes in
-      adopt_keeps m s s.view (start_of g.view (map plain g.changes)).next (merged Whole (kept_told g.changes)) (omega (arith, most, le)) low
+      adopt_keeps m s s.view (start_of g.view (map plain g.changes)).next (merged Whole (kept_changes g.changes)) (omega (arith, most, le)) low
 
-  move_keeps : EachMove m Whole (Keeps o) (λ p. ⊤) (λ p. told_in p.body ≤ o.sync.sync_point) (λ x. ⊤) (λ s e. Stays o e.0)
+  move_keeps : EachMove m Whole (Keeps o) (λ p. ⊤) (λ p. point_in_body p.body ≤ o.sync.sync_point) (λ x. ⊤) (λ s e. Stays o e.0)
   move_keeps = record {
-    ends = λ s e i h. h.state.front;
-    sync_commit = λ s p n i g. stays s (rows.sync_commit m Whole n s).0 i (commit_front m n s (low_after o s i));
-    sync_reply = λ s p n i g. stays s (rows.sync_reply m Whole p.sender n s).0 i (reply_front m p.sender n s (low_after o s i));
-    sync = λ s i. stays s (rows.sync m Whole s).0 i (sync_front m s (low_after o s i));
+    ends = λ s e i h. h.state.prefix;
+    sync_commit = λ s p n i g. stays s (rows.sync_commit m Whole n s).0 i (commit_prefix m n s (low_after o s i));
+    sync_reply = λ s p n i g. stays s (rows.sync_reply m Whole p.sender n s).0 i (reply_prefix m p.sender n s (low_after o s i));
+    sync = λ s i. stays s (rows.sync m Whole s).0 i (sync_prefix m s (low_after o s i));
     drain = λ s i. goes s (drain m Whole s) i (drain_keeps m s);
     queue = λ s p i f. unchanged s (queue s p).0 i refl refl refl;
     session = λ s p i f.
@@ -464,9 +464,9 @@ module _ {S : Type 0} (m : Meaning S) (o : ReplicaState) where
   }
 
 pub synchronised_stays : {S : Type 0} (m : Meaning S) (s : ReplicaState) (a : Arrival) → PointsMeet s
-    → s.sync.sync_point ≤ length s.log.entries → gathered_point s.changes ≤ s.sync.sync_point → told_by a ≤ s.sync.sync_point
+    → s.sync.sync_point ≤ length s.log.entries → gathered_point s.changes ≤ s.sync.sync_point → point_in_arrival a ≤ s.sync.sync_point
     → take s.sync.sync_point (arrive m Whole s a).0.log.entries ≡ take s.sync.sync_point s.log.entries
-synchronised_stays m s a points within gathered told =
+synchronised_stays m s a points within gathered log_point =
     let low : Low s = record { points = points; within = within; gathered = gathered } in
     arrive_row m Whole _ _ _ _ (each_row m Whole _ _ _ _ _ (move_keeps m s)) s a (same s s refl refl refl low) (λ p e. tt)
-    (λ p e is. subst (λ (x : Arrival). told_by x ≤ s.sync.sync_point) e told)
+    (λ p e is. subst (λ (x : Arrival). point_in_arrival x ≤ s.sync.sync_point) e log_point)

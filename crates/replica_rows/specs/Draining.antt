@@ -31,10 +31,10 @@ abbrev pub TakesOne : {S : Type 0} → Meaning S → Keeping → ReplicaState �
 TakesOne m k s sends t sends_new true = GoesOn m k s sends t sends_new
 TakesOne m k s sends t sends_new false = Stops m k s sends t sends_new
 
--- ---- what a drain does, by what stands in front
+-- ---- what a drain does, by what is in front
 
 pub record DrainsByFront {S : Type 0} (m : Meaning S) (k : Keeping) (s : ReplicaState) : Type 0 where
-  -- where nothing may be taken, as with a log without room, and where nothing stands in front
+  -- where nothing may be taken, as with a log without room, and where nothing is in front
   pub rests : drains k s ≡ false → drain m k s ≡ still s
   pub ends : drains k s ≡ true → front_of s.receiver ≡ Nothing → drain m k s ≡ still s
   -- it goes on after a request, and after a leader's gap

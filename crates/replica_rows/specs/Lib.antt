@@ -1,8 +1,8 @@
 pub mod Draining
 pub mod Gathering
 pub mod Messages
-pub mod Rising
+pub mod Trimming
 pub mod Rows
 pub mod Taking
-pub mod Telling
+pub mod MessagePoints
 pub mod Within

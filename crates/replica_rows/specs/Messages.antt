@@ -21,13 +21,13 @@ use Rattle.replica_rows.specs.Rows as rows
 -- what a replica takes: a stamped request, a message of another replica, or a tick
 pub data Arrival : Type 0 where
   Packet : Stamped → Arrival
-  Told : Peer → Arrival
+  PeerMessage : Peer → Arrival
   Ticked : Tick → Arrival
 
 -- what the code calls an arrival
 abbrev pub arrival_of : code.Arrival → Arrival
 arrival_of (arrivals.Stamped p) = Packet p
-arrival_of (arrivals.Told p) = Told p
+arrival_of (arrivals.PeerMessage p) = PeerMessage p
 arrival_of (arrivals.Ticked tick) = Ticked tick
 
 -- ---- messages of the view in which the replica is Normal
@@ -50,8 +50,8 @@ by_role m k true to_leader q body s = from_leader m k body s
 by_role m k false true q body s = from_follower m k q body s
 by_role m k false false q body s = still s
 
-abbrev pub in_view : {S : Type 0} → Meaning S → Keeping → ℕ → View → Body → ReplicaState → Effect
-in_view m k q v body s = by_role m k (is_from_leader s v q) (is_to_leader s v) q body s
+abbrev pub dispatch : {S : Type 0} → Meaning S → Keeping → ℕ → View → Body → ReplicaState → Effect
+dispatch m k q v body s = by_role m k (is_from_leader s v q) (is_to_leader s v) q body s
 
 -- ---- all messages
 
@@ -60,7 +60,7 @@ on_body m k p bodies.ViewChangeReq s = rows.view_change_request m k p.view s
 on_body m k p (bodies.ViewChange u x l) s =
     rows.view_change m k p.view (record { sender = p.sender; last_normal = u; next = x; log = l }) s
 on_body m k p (bodies.StartView x l) s = rows.start_view m k p.sender p.view x l s
-on_body m k p body s = in_view m k p.sender p.view body s
+on_body m k p body s = dispatch m k p.sender p.view body s
 
 unfoldable pub on_message : {S : Type 0} → Meaning S → Keeping → Peer → ReplicaState → Effect
 on_message m k p s = when (is_other s p.sender) (on_body m k p p.body) s
@@ -82,5 +82,5 @@ loads_in m _ = true
 -- a message whose checkpoint does not load does nothing
 unfoldable pub arrive : {S : Type 0} → Meaning S → Keeping → ReplicaState → Arrival → Effect
 arrive m k s (Packet p) = rows.stamped m k p s
-arrive m k s (Told p) = when (loads_in m p.body) (on_message m k p) s
+arrive m k s (PeerMessage p) = when (loads_in m p.body) (on_message m k p) s
 arrive m k s (Ticked tick) = ticked m k tick s

@@ -16,7 +16,7 @@ use Rattle.slot_lookup.specs.Answer.{Answer, Below, Found, GapAgain, Begin, answ
 use Rattle.slot_lookup.specs.Answer as answers
 use Rattle.view_change.specs.Gathering.{Gathering}
 use Rattle.replica_state.specs.declared.state.ReplicaState.{ReplicaState}
-use Rattle.replica_state.specs.State.{leads, is_normal, waits, has_risen, may_append, may_adopt}
+use Rattle.replica_state.specs.State.{leads, is_normal, waits, may_trim, may_append, may_adopt}
 use Rattle.replica_state.specs.Sends.{Effect, still, then_do, when, to_replica}
 use Rattle.replica_state.specs.Moves as moves
 use Rattle.replica_state.specs.Repeating as repeating
@@ -26,7 +26,7 @@ use Rattle.replica_state.specs.Moves.{
   session_view,
   hear,
   drain,
-  raise,
+  trim,
   enter,
   open_if_enough,
   keep_change,
@@ -39,14 +39,14 @@ use Rattle.replica_state.specs.Moves.{
   open_gap,
   count_gap_vote,
   count_sync_vote,
-  tell_synced,
+  send_synced,
 }
 
 -- ---- the sync point rises
 
--- where it passed that of the log, the log follows, and what waits is taken
-abbrev pub raise_and_drain : {S : Type 0} → Meaning S → Keeping → ReplicaState → Effect
-raise_and_drain m k s = when (has_risen s) (λ t. then_do (raise m k t) (drain m k)) s
+-- where it passed that of the log, the log is trimmed, and what waits is taken
+abbrev pub trim_and_drain : {S : Type 0} → Meaning S → Keeping → ReplicaState → Effect
+trim_and_drain m k s = when (may_trim s) (λ t. then_do (trim m k t) (drain m k)) s
 
 -- ---- a greater view
 
@@ -115,7 +115,7 @@ sync_prepare m k l s =
 
 -- up to a length that is prepared
 unfoldable pub sync_commit : {S : Type 0} → Meaning S → Keeping → ℕ → ReplicaState → Effect
-sync_commit m k n s = then_do (moves.sync_commit n s) (raise_and_drain m k)
+sync_commit m k n s = then_do (moves.sync_commit n s) (trim_and_drain m k)
 
 -- ---- messages of a follower to the leader
 
@@ -124,7 +124,7 @@ abbrev pub begin_gap : {S : Type 0} → Meaning S → Keeping → ReplicaState �
 begin_gap m k s = when (nat_lt s.next NUMBER_END) (λ t. then_do (open_gap k t) (drain m k)) s
 
 abbrev pub slot_lookup_by : {S : Type 0} → Meaning S → Keeping → Answer → ℕ → ℕ → ReplicaState → Effect
-slot_lookup_by m k Below q n s = tell_synced k s q
+slot_lookup_by m k Below q n s = send_synced k s q
 slot_lookup_by m k (Found r) q n s = (s, to_replica s q (bodies.Found n r))
 slot_lookup_by m k GapAgain q n s = (s, to_replica s q (bodies.GapCommit n))
 slot_lookup_by m k Begin q n s = begin_gap m k s
@@ -144,7 +144,7 @@ gap_reply m k q n s = gap_reply_at m k s.gap q n s
 
 -- a vote for the round under way
 unfoldable pub sync_reply : {S : Type 0} → Meaning S → Keeping → ℕ → ℕ → ReplicaState → Effect
-sync_reply m k q n s = then_do (count_sync_vote s q n) (raise_and_drain m k)
+sync_reply m k q n s = then_do (count_sync_vote s q n) (trim_and_drain m k)
 
 -- ---- ticks
 
@@ -169,4 +169,4 @@ watch m k s = watch_if m k (is_normal s.status && leads s) s.heard s
 
 -- a leader that is alone has its whole log synchronised at once
 unfoldable pub sync : {S : Type 0} → Meaning S → Keeping → ReplicaState → Effect
-sync m k s = then_do (repeating.sync k s) (raise_and_drain m k)
+sync m k s = then_do (repeating.sync k s) (trim_and_drain m k)

@@ -16,7 +16,7 @@ use Rattle.replica_rows.specs.declared.member.Member.{Member}
 use Rattle.replica_state.specs.declared.state.ReplicaState.{ReplicaState}
 use Rattle.replica_state.specs.Within.{IsWithin}
 use Rattle.replica_state.specs.Sends.{Effect}
-use Rattle.replica_rows.specs.Messages.{Arrival, Packet, Told, Ticked}
+use Rattle.replica_rows.specs.Messages.{Arrival, Packet, PeerMessage, Ticked}
 
 -- the log of a change has no checkpoint, or one that loads
 abbrev pub ChangeLoads : {S : Type 0} → Meaning S → Change → Type 0
@@ -53,7 +53,7 @@ pub record Does {H U : Type 0} (host : Ghosts H U) (old new : Member H U) (row :
 -- what arrives is in its ranges; the log of a message is whole or trimmed
 abbrev pub ArrivalIsIn : Keeping → Arrival → Type 0
 ArrivalIsIn k (Packet p) = StampedFits p
-ArrivalIsIn k (Told p) = PeerIsIn k p
+ArrivalIsIn k (PeerMessage p) = PeerIsIn k p
 ArrivalIsIn k (Ticked tick) = ⊤
 
 abbrev pub ArrivalFits : Arrival → Type 0

@@ -15,11 +15,11 @@ use view_change::Start;
 impl<H: Host> Member<H> {
     /// Takes part in a view with the log that it starts with. What is executed of it is its checkpoint, where its sync point is
     /// greater than the own one; else what is synchronised of the own log.
-    fn take_part(&mut self, view: View, next: u64, log: Log) -> Result<(), NoMemory>
+    fn adopt_log(&mut self, view: View, next: u64, log: Log) -> Result<(), NoMemory>
         requires runs { IsRunning H.Host self.old }
         requires view { ViewFits view }
         requires next { NextFits next }
-        requires told { LogFits log }
+        requires log_fits { LogFits log }
         requires loads { loads H.meaning log ≡ true }
         ensures state { OnOk result (self.new.state
             ≡ adopted Trimmed self.old.state view next log) }
@@ -30,18 +30,18 @@ impl<H: Host> Member<H> {
     {
         let synced = self.state.log.sync_point();
         if log.sync_point() > synced {
-            self.state.take_part(view, next, log);
+            self.state.adopt(view, next, log);
             return self.executor.restart(&self.state.log);
         }
         self.go_back(synced);
-        self.state.take_part(view, next, log);
+        self.state.adopt(view, next, log);
         Ok(())
     }
 
-    /// Takes the entries of the leader's log, of which so many are new. What is executed then is as in `take_part`.
+    /// Takes the entries of the leader's log, of which so many are new. What is executed then is as in `adopt_log`.
     pub(crate) fn lay_over(&mut self, log: Log, appended: u64) -> Result<(), NoMemory>
         requires runs { IsRunning H.Host self.old }
-        requires told { LogFits log }
+        requires log_fits { LogFits log }
         requires loads { loads H.meaning log ≡ true }
         requires appended { appended
             ≡ length_of Trimmed log - length_of Trimmed self.old.state.log }
@@ -66,12 +66,12 @@ impl<H: Host> Member<H> {
         requires runs { IsRunning H.Host self.old }
         requires view { ViewFits view }
         requires next { NextFits next }
-        requires told { LogFits log }
+        requires log_fits { LogFits log }
         requires loads { loads H.meaning log ≡ true }
         ensures { OnOk result (Does H.Host self.old self.new
             (λ s. adopt H.meaning Trimmed s view next log)) }
     {
-        self.take_part(view, next, log)?;
+        self.adopt_log(view, next, log)?;
         let synced = self.state.sync.sync_point();
         self.replies_above(synced)?;
         self.drain()
@@ -81,7 +81,7 @@ impl<H: Host> Member<H> {
     pub(crate) fn open_view(&mut self, start: Start) -> Result<(), NoMemory>
         requires runs { IsRunning H.Host self.old }
         requires next { NextFits start.next }
-        requires told { LogFits start.log }
+        requires log_fits { LogFits start.log }
         requires loads { loads H.meaning start.log ≡ true }
         ensures { OnOk result (Does H.Host self.old self.new
             (λ s. open_with H.meaning Trimmed s start.next start.log)) }

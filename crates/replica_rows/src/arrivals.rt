@@ -7,7 +7,7 @@ ghost use Rattle.nop_types.specs.Ranges.{StampedFits, PeerFits, BodyFits};
 ghost use Rattle.executor.specs.Running.{reached};
 ghost use Rattle.replica_state.specs.Moves.{begin_session, queue};
 ghost use Rattle.replica_rows.specs.Rows.{new_session, stamped};
-ghost use Rattle.replica_rows.specs.Messages.{from_leader, from_follower, in_view, on_body, on_message, ticked};
+ghost use Rattle.replica_rows.specs.Messages.{from_leader, from_follower, dispatch, on_body, on_message, ticked};
 ghost use Rattle.replica_rows.specs.Messages.{arrival_of, loads_in, arrive};
 ghost use Rattle.replica_state.specs.State.{executed_to, is_from_leader, is_to_leader, is_other};
 ghost use Rattle.replica_state.specs.Sends.{when};
@@ -21,7 +21,7 @@ use nop_types::{Body, Change, Checkpoint, Host, NoMemory, Peer, Stamped, Tick, V
 #[derive(Drop)]
 pub enum Arrival {
     Stamped(Stamped),
-    Told(Peer),
+    PeerMessage(Peer),
     Ticked(Tick),
 }
 
@@ -124,13 +124,13 @@ impl<H: Host> Member<H> {
     }
 
     /// A message that is taken in the view in which the replica is Normal.
-    fn in_view(&mut self, sender: u8, view: View, body: Body) -> Result<(), NoMemory>
+    fn dispatch(&mut self, sender: u8, view: View, body: Body) -> Result<(), NoMemory>
         requires runs { IsRunning H.Host self.old }
         requires sender { sender < MAX_REPLICAS }
         requires fits { BodyFits body }
         requires loads { loads_in H.meaning body ≡ true }
         ensures { OnOk result (Does H.Host self.old self.new
-            (in_view H.meaning Trimmed sender view body)) }
+            (dispatch H.meaning Trimmed sender view body)) }
     {
         if self.state.is_from_leader(view, sender) {
             return self.from_leader(body);
@@ -167,7 +167,7 @@ impl<H: Host> Member<H> {
                 self.view_change(view, change)
             }
             Body::StartView { next, log } => self.start_view(sender, view, next, log),
-            body => self.in_view(sender, view, body),
+            body => self.dispatch(sender, view, body),
         }
     }
 
@@ -186,7 +186,7 @@ impl<H: Host> Member<H> {
     }
 
     /// A message comes. Where its checkpoint does not load it does nothing.
-    fn told(&mut self, message: Peer) -> Result<(), NoMemory>
+    fn peer_message(&mut self, message: Peer) -> Result<(), NoMemory>
         requires runs { IsRunning H.Host self.old }
         requires fits { PeerFits message }
         ensures { OnOk result (Does H.Host self.old self.new
@@ -221,7 +221,7 @@ impl<H: Host> Member<H> {
     {
         match arrival {
             Arrival::Stamped(packet) => self.stamped(packet),
-            Arrival::Told(message) => self.told(message),
+            Arrival::PeerMessage(message) => self.peer_message(message),
             Arrival::Ticked(tick) => self.ticked(tick),
         }
     }

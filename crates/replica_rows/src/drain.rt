@@ -51,7 +51,7 @@ impl<H: Host> Member<H> {
         self.to_all(Body::GapCommit(slot))
     }
 
-    /// Takes what stands in front, where it may: a request is logged; at a drop a leader opens a gap, and a follower asks for
+    /// Takes what is in front, where it may: a request is logged; at a drop a leader opens a gap, and a follower asks for
     /// the slot. Says whether it goes on.
     fn drain_one(&mut self) -> Result<bool, NoMemory>
         requires runs { IsRunning H.Host self.old }
@@ -78,7 +78,7 @@ impl<H: Host> Member<H> {
         Ok(false)
     }
 
-    /// Takes what stands in front, one after the other.
+    /// Takes what is in front, one after the other.
     pub(crate) fn drain(&mut self) -> Result<(), NoMemory>
         requires runs { IsRunning H.Host self.old }
         ensures { OnOk result (Does H.Host self.old self.new (drain H.meaning Trimmed)) }

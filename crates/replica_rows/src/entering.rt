@@ -15,10 +15,10 @@ impl<H: Host> Member<H> {
         requires fits { ViewFits view }
         ensures { OnOk result (Does H.Host self.old self.new (λ s. enter s view)) }
     {
-        self.state.go_to(view);
+        self.state.enter(view);
         self.to_all(Body::ViewChangeReq)?;
         if !self.state.leads() {
-            return self.state.tell_change(&mut self.sends);
+            return self.state.send_change(&mut self.sends);
         }
         self.state.begin_gathering(self.alloc)
     }
@@ -30,7 +30,7 @@ impl<H: Host> Member<H> {
         ensures { OnOk result (Does H.Host self.old self.new (enter_view H.meaning Trimmed view)) }
     {
         self.enter(view)?;
-        if self.state.others() > 0 {
+        if self.state.max_faults() > 0 {
             return Ok(());
         }
         let Some(changes) = &mut self.state.changes else {

@@ -103,7 +103,7 @@ impl<H: Host> Member<H> {
     /// Takes the entries of the leader's log, replies for those that are new and above the sync point, and tells the leader so.
     fn overlay(&mut self, log: Log, appended: u64) -> Result<(), NoMemory>
         requires runs { IsRunning H.Host self.old }
-        requires told { LogFits log }
+        requires log_fits { LogFits log }
         requires loads { loads H.meaning log ≡ true }
         requires appended { appended
             ≡ length_of Trimmed log - length_of Trimmed self.old.state.log }
@@ -112,11 +112,11 @@ impl<H: Host> Member<H> {
             (λ s. overlay H.meaning Trimmed s log)) }
     {
         let len = self.state.log.len();
-        let told = log.len();
+        let leader_len = log.len();
         self.lay_over(log, appended)?;
         let answered = len.max(self.state.sync.sync_point());
         self.replies_above(answered)?;
-        self.to_leader(Body::SyncRep(told))
+        self.to_leader(Body::SyncRep(leader_len))
     }
 
     /// The leader says that the slots up to this one are synchronised.
@@ -125,14 +125,14 @@ impl<H: Host> Member<H> {
         ensures { OnOk result (Does H.Host self.old self.new (sync_commit H.meaning Trimmed slot)) }
     {
         self.state.sync_commit(slot);
-        let passed = self.follow()?;
-        self.let_go(passed)
+        let trimmed = self.trim_log()?;
+        self.send_trimmed(trimmed)
     }
 
-    /// The leader tells its log.
+    /// The leader sends its log.
     pub(crate) fn sync_prepare(&mut self, log: Log) -> Result<(), NoMemory>
         requires runs { IsRunning H.Host self.old }
-        requires told { LogFits log }
+        requires log_fits { LogFits log }
         requires loads { loads H.meaning log ≡ true }
         ensures { OnOk result (Does H.Host self.old self.new (sync_prepare H.meaning Trimmed log)) }
     {

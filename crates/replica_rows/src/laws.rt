@@ -5,9 +5,9 @@ ghost use Rattle.nop_types.specs.declared.peer.Peer.{Peer};
 ghost use Rattle.replica_state.specs.declared.state.ReplicaState.{ReplicaState};
 ghost use Rattle.replica_state.specs.Sends.{message_count, still};
 ghost use Rattle.replica_state.specs.State.{PointsMeet};
-ghost use Rattle.replica_rows.specs.Messages.{Arrival, Told, loads_in, arrive};
+ghost use Rattle.replica_rows.specs.Messages.{Arrival, PeerMessage, loads_in, arrive};
 ghost use Rattle.replica_rows.specs.Draining.{DrainsByFront};
-ghost use Rattle.replica_rows.specs.Telling.{told_by, gathered_point};
+ghost use Rattle.replica_rows.specs.MessagePoints.{point_in_arrival, gathered_point};
 
 /// Whatever arrives, a row sends at most eight messages to other replicas, and keeps the configuration. So message numbers
 /// never pass their end.
@@ -19,7 +19,7 @@ pub fn rows_send_few_messages<S>()
 {}
 
 /// Where logs are kept whole: whatever arrives, forged messages too, the entries up to the sync point stay as they are, unless a
-/// log is told with a greater sync point: in what arrives, or in the changes that are gathered. The own log is told with that sync
+/// log is sent with a greater sync point: in what arrives, or in the changes that are gathered. The own log is sent with that sync
 /// point, as that of a member that runs.
 #[tactic(auto, using(crate::proofs::Synchronised::synchronised_stays))]
 pub fn synchronised_entries_stay<S>()
@@ -27,12 +27,12 @@ pub fn synchronised_entries_stay<S>()
         → PointsMeet s
         → s.sync.sync_point ≤ length s.log.entries
         → gathered_point s.changes ≤ s.sync.sync_point
-        → told_by a ≤ s.sync.sync_point
+        → point_in_arrival a ≤ s.sync.sync_point
         → take s.sync.sync_point (arrive m Whole s a).0.log.entries
         ≡ take s.sync.sync_point s.log.entries }
 {}
 
-/// A drain takes a request, opens a gap, asks or ends, by what stands in front; of a log that its sync point is within, as that of
+/// A drain takes a request, opens a gap, asks or ends, by what is in front; of a log that its sync point is within, as that of
 /// a trimmed one always is.
 pub fn drains_by_front<S>()
     ensures { (m : Meaning S) (k : Keeping) (s : ReplicaState)
@@ -43,5 +43,5 @@ pub fn drains_by_front<S>()
 #[tactic(auto, using(crate::proofs::Loading::unloaded_rests))]
 pub fn messages_that_do_not_load_rest<S>()
     ensures { (m : Meaning S) (k : Keeping) (s : ReplicaState) (p : Peer)
-        → loads_in m p.body ≡ false → arrive m k s (Told p) ≡ still s }
+        → loads_in m p.body ≡ false → arrive m k s (PeerMessage p) ≡ still s }
 {}

@@ -2,13 +2,13 @@ ghost use Rattle.std.specs.Prelude.{◌≡◌, ◌<◌, true, OnOk, IfOk};
 ghost use Rattle.nop_types.specs.Logs.{Trimmed, has_room};
 ghost use Rattle.nop_types.specs.Ranges.{SlotFits};
 ghost use Rattle.nop_types.specs.declared.limits.TheConstants.{MAX_REPLICAS};
-ghost use Rattle.replica_state.specs.Moves.{count_gap_vote, count_sync_vote, tell_synced};
+ghost use Rattle.replica_state.specs.Moves.{count_gap_vote, count_sync_vote, send_synced};
 ghost use Rattle.replica_rows.specs.Rows.{begin_gap, slot_lookup, gap_reply, sync_reply};
-ghost use Rattle.replica_rows.specs.Rising.{raised_by, passed_by};
+ghost use Rattle.replica_rows.specs.Trimming.{then_trim, trimmed_by};
 ghost use Rattle.replica_rows.specs.Within.{IsRunning, Does};
 
 use crate::member::Member;
-use crate::passing::Passed;
+use crate::trimming::TrimmedEntries;
 use nop_types::{Body, Host, NUMBER_END, NoMemory, Vote};
 use slot_lookup::{Answer, answer};
 
@@ -27,11 +27,11 @@ impl<H: Host> Member<H> {
     }
 
     /// Tells a replica what is synchronised.
-    fn tell_synced(&mut self, replica: u8) -> Result<(), NoMemory>
+    fn send_synced(&mut self, replica: u8) -> Result<(), NoMemory>
         requires runs { IsRunning H.Host self.old }
-        ensures { OnOk result (Does H.Host self.old self.new (λ s. tell_synced Trimmed s replica)) }
+        ensures { OnOk result (Does H.Host self.old self.new (λ s. send_synced Trimmed s replica)) }
     {
-        self.state.tell_synced(replica, &mut self.sends)
+        self.state.send_synced(replica, &mut self.sends)
     }
 
     /// Another replica asks for a slot.
@@ -44,7 +44,7 @@ impl<H: Host> Member<H> {
     {
         let waits = self.state.waits();
         match answer(&self.state.log, waits, slot) {
-            Answer::Below => self.tell_synced(sender),
+            Answer::Below => self.send_synced(sender),
             Answer::Found(request) => {
                 let request = request.try_clone()?;
                 self.to_replica(sender, Body::Found(slot, request))
@@ -80,28 +80,28 @@ impl<H: Host> Member<H> {
         ensures { OnOk result (Does H.Host self.old self.new
             (sync_reply H.meaning Trimmed sender len)) }
     {
-        let passed = self.count_sync_vote(sender, len)?;
-        self.let_go(passed)
+        let trimmed = self.count_sync_vote(sender, len)?;
+        self.send_trimmed(trimmed)
     }
 
-    /// Counts a vote for a length of the log. At enough votes the sync point rises, the log follows, and all others are told. The
-    /// entries that were passed are handed out.
-    fn count_sync_vote(&mut self, sender: u8, len: u32) -> Result<Option<Passed>, NoMemory>
+    /// Counts a vote for a length of the log. At enough votes the sync point rises, the log is trimmed, and all others are told. The
+    /// entries that were trimmed are handed out.
+    fn count_sync_vote(&mut self, sender: u8, len: u32) -> Result<Option<TrimmedEntries>, NoMemory>
         requires runs { IsRunning H.Host self.old }
         requires sender { sender < MAX_REPLICAS }
         ensures does { OnOk result (Does H.Host self.old self.new
-            (raised_by H.meaning (λ s. count_sync_vote s sender len))) }
-        ensures passed { IfOk result (λ passed. passed
-            ≡ passed_by (count_sync_vote self.old.state sender len).0) }
+            (then_trim H.meaning (λ s. count_sync_vote s sender len))) }
+        ensures trimmed { IfOk result (λ trimmed. trimmed
+            ≡ trimmed_by (count_sync_vote self.old.state sender len).0) }
     {
         let vote = self.state.sync.on_rep(sender, len);
-        let passed = self.follow()?;
+        let trimmed = self.trim_log()?;
         match vote {
             Vote::Settled => {
                 self.to_all(Body::SyncCommit(len))?;
-                Ok(passed)
+                Ok(trimmed)
             }
-            Vote::Waiting => Ok(passed),
+            Vote::Waiting => Ok(trimmed),
         }
     }
 }

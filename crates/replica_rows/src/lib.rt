@@ -9,10 +9,10 @@
 //! `executed_to` says: a leader in Normal all of it, any other replica up to the sync point. After
 //! an error a member is not known to run.
 //!
-//! The log is trimmed: a checkpoint stands in place of the entries up to its sync point. A row that
-//! may move the sync point lets the log follow at once (`raised_by`), with a checkpoint of what is
-//! executed up to there; then it sends, hands out the entries that were passed, and takes what waits
-//! (`let_go`). Where a log with a greater sync point is taken, the execution begins anew from its
+//! The log is trimmed: a checkpoint is in place of the entries up to its sync point. A row that
+//! may move the sync point trims the log at once (`then_trim`), with a checkpoint of what is
+//! executed up to there; then it sends, hands out the entries that were trimmed, and takes what waits
+//! (`send_trimmed`). Where a log with a greater sync point is taken, the execution begins anew from its
 //! checkpoint; where it has none that is greater, what is executed above the own one is taken back.
 //! A message whose checkpoint does not load does nothing.
 //!
@@ -21,14 +21,14 @@
 //! receiver only in Normal, with no gap that waits and with room in the log, and what is next there
 //! decides what it does (`drains_by_front`); a message whose checkpoint does not load does nothing
 //! (`messages_that_do_not_load_rest`); whole logs keep the entries up to the sync point as they are,
-//! whatever arrives, unless a log is told with a greater sync point (`synchronised_entries_stay`).
+//! whatever arrives, unless a log is sent with a greater sync point (`synchronised_entries_stay`).
 //!
 //! Calls, for `replica_core`: `Member::new`; `Member::take`, which finds the row of an `Arrival`.
 //!
 //! Files: `member`, `arrivals` (which row), `leader`, `follower`, `view_changes`, `ticks`; what
-//! rows share is in `drain`, `entering`, `adopting`, `passing` (the log follows its sync point),
+//! rows share is in `drain`, `entering`, `adopting`, `trimming` (the log is trimmed to its sync point),
 //! `reply`, `execution`. Definitions: `specs/Rows`, one a row, `Messages` (`arrive`), `Within`
-//! (`IsRunning`, `Does`), `Rising`.
+//! (`IsRunning`, `Does`), `Trimming`.
 #![tactic(auto)]
 
 mod adopting;
@@ -40,9 +40,9 @@ mod follower;
 mod laws;
 mod leader;
 mod member;
-mod passing;
 mod reply;
 mod ticks;
+mod trimming;
 mod view_changes;
 
 pub use arrivals::Arrival;

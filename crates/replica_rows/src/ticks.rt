@@ -43,7 +43,7 @@ impl<H: Host> Member<H> {
         ensures { OnOk result (Does H.Host self.old self.new (sync H.meaning Trimmed)) }
     {
         self.state.sync(&mut self.sends)?;
-        let passed = self.follow()?;
-        self.let_go(passed)
+        let trimmed = self.trim_log()?;
+        self.send_trimmed(trimmed)
     }
 }

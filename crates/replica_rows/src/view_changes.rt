@@ -51,7 +51,7 @@ impl<H: Host> Member<H> {
         ensures { OnOk result (Does H.Host self.old self.new
             (λ s. resend_start Trimmed s replica)) }
     {
-        self.state.tell_start(replica, &mut self.sends)
+        self.state.send_start(replica, &mut self.sends)
     }
 
     /// Keeps a change, and starts the view where enough are there.
@@ -108,7 +108,7 @@ impl<H: Host> Member<H> {
         requires runs { IsRunning H.Host self.old }
         requires view { ViewFits view }
         requires next { NextFits next }
-        requires told { LogFits log }
+        requires log_fits { LogFits log }
         requires loads { loads H.meaning log ≡ true }
         ensures { OnOk result (Does H.Host self.old self.new
             (start_view H.meaning Trimmed sender view next log)) }

@@ -18,8 +18,8 @@ use Rattle.nop_types.specs.declared.request.Entry.TheVariants.{NoOp, Req}
 use Rattle.nop_types.specs.declared.datagram.Stamped.{Stamped}
 use Rattle.nop_types.specs.declared.peer.Change.{Change}
 use Rattle.nop_types.specs.declared.peer.Body.TheVariants as bodies
-use Rattle.gap_agree.specs.Agreement.{Agreement, counted}
-use Rattle.log_merge.specs.Merging.{kept_told, merged}
+use Rattle.gap_agree.specs.Agreement.{Agreement, gap_vote_counted}
+use Rattle.log_merge.specs.Merging.{kept_changes, merged}
 use Rattle.log_merge.specs.Starting.{start_of}
 use Rattle.oum_receiver.specs.Front.{Front, Nothing, Message, Dropped}
 use Rattle.oum_receiver.specs.Receiving as receiving
@@ -27,11 +27,11 @@ use Rattle.oum_receiver.specs.Receiving.{Receiving, offered, front_of, front_tak
 use Rattle.sync_points.specs.Synchronisation as synchronisation
 use Rattle.sync_points.specs.Synchronisation.{cleared, raised, with_round, committed, vote_for}
 use Rattle.view_change.specs.Gathering as gathering
-use Rattle.view_change.specs.Gathering.{Gathering, teller}
+use Rattle.view_change.specs.Gathering.{Gathering, change_sender}
 use Rattle.replica_state.specs.declared.sending.Sending.{Sending}
 use Rattle.replica_state.specs.declared.sending.Sending.TheVariants.{Trims}
 use Rattle.replica_state.specs.declared.state.ReplicaState.{ReplicaState}
-use Rattle.replica_state.specs.State.{others, leads, drains, waiting, waiting_in}
+use Rattle.replica_state.specs.State.{max_faults, leads, drains, waiting, waiting_in}
 use Rattle.replica_state.specs.Sends.{Effect, still, then_do, when, to_replica, to_leader, to_all}
 use Rattle.replica_state.specs.Replies.{reply_to, replies_above}
 
@@ -84,7 +84,7 @@ ask k s = ask_if k (s.asked == length_of k s.log + 1) s
 
 -- a leader puts a NO-OP into the next slot, and tells all
 abbrev pub gap_opened : Keeping → ReplicaState → ReplicaState
-gap_opened k s = record (appended s NoOp) { gap = waiting_in (length_of k s.log + 1) (others s) }
+gap_opened k s = record (appended s NoOp) { gap = waiting_in (length_of k s.log + 1) (max_faults s) }
 
 unfoldable pub open_gap : Keeping → ReplicaState → Effect
 open_gap k s = (gap_opened k s, to_all s (bodies.GapCommit (length_of k s.log + 1)))
@@ -102,9 +102,9 @@ add_gap k s = (appended s NoOp, to_leader s (bodies.GapRep (length_of k s.log + 
 
 -- a leader counts a vote; the gap is closed at enough of them
 abbrev pub count_gap_vote : ReplicaState → Agreement → ℕ → Effect
-count_gap_vote s g q = still (record s { gap = waiting (counted g q) })
+count_gap_vote s g q = still (record s { gap = waiting (gap_vote_counted g q) })
 
--- ---- what stands in front is taken
+-- ---- what is in front is taken
 
 -- a leader opens a gap at a drop and goes on; a follower asks and stops
 abbrev pub drain_drop : Keeping → (ReplicaState → Effect) → Bool → ReplicaState → Effect
@@ -142,12 +142,12 @@ entered s v = record (left s) { view = v; status = phases.Change; receiver = lis
 abbrev pub own_change : ReplicaState → Change
 own_change s = record { sender = s.number; last_normal = s.last_normal; next = s.next; log = s.log }
 
-abbrev pub change_told : ReplicaState → List Sending
-change_told s = to_leader s (bodies.ViewChange s.last_normal s.next s.log)
+abbrev pub change_sent : ReplicaState → List Sending
+change_sent s = to_leader s (bodies.ViewChange s.last_normal s.next s.log)
 
 abbrev pub enter_as : Bool → ReplicaState → Effect
-enter_as true s = (record s { changes = Some (gathering.entered s.view (others s) (own_change s)) }, to_all s bodies.ViewChangeReq)
-enter_as false s = (s, to_all s bodies.ViewChangeReq ++ change_told s)
+enter_as true s = (record s { changes = Some (gathering.entered s.view (max_faults s) (own_change s)) }, to_all s bodies.ViewChangeReq)
+enter_as false s = (s, to_all s bodies.ViewChangeReq ++ change_sent s)
 
 -- the leader keeps its own change, another sends it
 unfoldable pub enter : ReplicaState → View → Effect
@@ -182,7 +182,7 @@ abbrev pub open_with : {S : Type 0} → Meaning S → Keeping → ReplicaState �
 open_with m k s x l = then_do (s, to_all s (bodies.StartView x l)) (λ t. adopt m k t t.view x l)
 
 abbrev pub open_view : {S : Type 0} → Meaning S → Keeping → Gathering Change → ReplicaState → Effect
-open_view m k g s = open_with m k s (start_of g.view (map plain g.changes)).next (merged k (kept_told g.changes))
+open_view m k g s = open_with m k s (start_of g.view (map plain g.changes)).next (merged k (kept_changes g.changes))
 
 -- the view is opened where enough changes are there
 abbrev pub open_if_enough : {S : Type 0} → Meaning S → Keeping → Option (Gathering Change) → ReplicaState → Effect
@@ -191,9 +191,9 @@ open_if_enough m k (Some g) s = when (nat_lt g.f (length g.changes)) (open_view 
 
 -- the leader keeps the change of another
 abbrev pub keep_change : ReplicaState → Gathering Change → Change → Effect
-keep_change s g c = still (record s { changes = Some (gathering.counted teller g c) })
+keep_change s g c = still (record s { changes = Some (gathering.change_added change_sender g c) })
 
--- how many entries a late replica is told: those that the view started with, and those that are synchronised
+-- how many entries a late replica is sent: those that the view started with, and those that are synchronised
 abbrev pub start_len : ReplicaState → ℕ
 start_len s = max s.base s.sync.sync_point
 
@@ -229,7 +229,7 @@ obey s n = still (record s { sync = committed s.sync n })
 unfoldable pub sync_commit : ℕ → ReplicaState → Effect
 sync_commit n s = when (nat_le n s.sync.prepared) (λ t. obey (hear t) n) s
 
--- a leader tells its log, and waits for votes
+-- a leader sends its log, and waits for votes
 abbrev pub open_sync : Keeping → ReplicaState → Effect
 open_sync k s = (record s { sync = with_round s.sync (length_of k s.log) }, to_all s (bodies.SyncPrepare s.log))
 
@@ -238,25 +238,25 @@ abbrev pub repeat_commit : ReplicaState → Effect
 repeat_commit s = (s, to_all s (bodies.SyncCommit s.sync.sync_point))
 
 -- a leader tells a replica that asks for a synchronised slot all that is synchronised
-abbrev pub tell_synced : Keeping → ReplicaState → ℕ → Effect
-tell_synced k s q = (s, to_replica s q (bodies.SyncPrepare (first k s.log s.sync.sync_point)))
+abbrev pub send_synced : Keeping → ReplicaState → ℕ → Effect
+send_synced k s q = (s, to_replica s q (bodies.SyncPrepare (first k s.log s.sync.sync_point)))
 
 abbrev pub commit_if : ReplicaState → ℕ → Vote → List Sending
 commit_if s n Settled = to_all s (bodies.SyncCommit n)
 commit_if s n Waiting = []
 
 -- the sync point of the log becomes that for which votes are counted
-abbrev pub risen : {S : Type 0} → Meaning S → Keeping → ReplicaState → ReplicaState
-risen m k s = record s { log = checkpointed.raised m k s.log s.sync.sync_point }
+abbrev pub log_trimmed : {S : Type 0} → Meaning S → Keeping → ReplicaState → ReplicaState
+log_trimmed m k s = record s { log = checkpointed.raised m k s.log s.sync.sync_point }
 
 -- the entries between the two, as a log without a checkpoint
-abbrev pub passed_entries : Keeping → ReplicaState → Log
-passed_entries k s = whole 0 (between k s.log s.sync.sync_point)
+abbrev pub trimmed_entries : Keeping → ReplicaState → Log
+trimmed_entries k s = whole 0 (between k s.log s.sync.sync_point)
 
 -- and these entries move out of the log, where it is trimmed
-abbrev pub raise : {S : Type 0} → Meaning S → Keeping → ReplicaState → Effect
-raise m k s = (risen m k s, Trims (s.log.sync_point + 1) (passed_entries k s) ∷ [])
+abbrev pub trim : {S : Type 0} → Meaning S → Keeping → ReplicaState → Effect
+trim m k s = (log_trimmed m k s, Trims (s.log.sync_point + 1) (trimmed_entries k s) ∷ [])
 
 -- a leader counts a vote; at enough of them its sync point rises, and it tells all
 abbrev pub count_sync_vote : ReplicaState → ℕ → ℕ → Effect
-count_sync_vote s q n = (record s { sync = synchronisation.counted s.sync q n }, commit_if s n (vote_for s.sync q n))
+count_sync_vote s q n = (record s { sync = synchronisation.sync_vote_counted s.sync q n }, commit_if s n (vote_for s.sync q n))

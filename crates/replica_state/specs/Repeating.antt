@@ -10,7 +10,7 @@ use Rattle.oum_receiver.specs.Receiving.{front_of}
 use Rattle.replica_state.specs.declared.state.ReplicaState.{ReplicaState}
 use Rattle.replica_state.specs.State.{leads, is_normal, waits, has_room}
 use Rattle.replica_state.specs.Sends.{Effect, still, then_do, when, to_leader, to_all}
-use Rattle.replica_state.specs.Moves.{change_told, open_sync, repeat_commit}
+use Rattle.replica_state.specs.Moves.{change_sent, open_sync, repeat_commit}
 
 -- ---- what was not answered
 
@@ -25,7 +25,7 @@ lookup_again k Dropped s = when (has_room k s) (λ t. (t, to_leader t (bodies.Sl
 
 abbrev pub change_again : Bool → ReplicaState → Effect
 change_again true s = still s
-change_again false s = (s, change_told s)
+change_again false s = (s, change_sent s)
 
 -- by the status, and whether the replica leads
 abbrev pub resend_by : Keeping → Phase → Bool → ReplicaState → Effect

@@ -9,7 +9,7 @@ use Rattle.nop_types.specs.declared.peer.Body.{Body}
 use Rattle.replica_state.specs.declared.sending.Sending.{Sending}
 use Rattle.replica_state.specs.declared.sending.Sending.TheVariants.{ToClient, ToReplicas, Trims}
 use Rattle.replica_state.specs.declared.state.ReplicaState.{ReplicaState}
-use Rattle.replica_state.specs.State.{others, leader}
+use Rattle.replica_state.specs.State.{max_faults, leader}
 
 -- the state afterwards, and what is sent
 abbrev pub Effect : Type 0
@@ -45,7 +45,7 @@ to_all_if false s body = ToReplicas Replicas (message s body) ∷ []
 
 -- where a replica is alone, this is sent to nobody
 abbrev pub to_all : ReplicaState → Body → List Sending
-to_all s body = to_all_if (others s == 0) s body
+to_all s body = to_all_if (max_faults s == 0) s body
 
 -- ---- ranges and numbers
 

@@ -37,8 +37,8 @@ opening config number =
     }
 
 -- how many others make a quorum with a replica
-abbrev pub others : ReplicaState → ℕ
-others s = s.config.replicas / 2
+abbrev pub max_faults : ReplicaState → ℕ
+max_faults s = s.config.replicas / 2
 
 -- the replica that leads the view
 abbrev pub leader : ReplicaState → ℕ
@@ -74,15 +74,15 @@ has_room k s = logs.has_room k s.log
 abbrev pub may_append : Keeping → ReplicaState → Bool
 may_append k s = has_room k s && nat_lt s.next NUMBER_END
 
--- what stands in front of the receiver may be taken
+-- what is in front of the receiver may be taken
 abbrev pub drains : Keeping → ReplicaState → Bool
 drains k s = is_normal s.status && (not (waits s.gap) && has_room k s)
 
 -- the sync point passed that of the log
-abbrev pub has_risen : ReplicaState → Bool
-has_risen s = nat_lt s.log.sync_point s.sync.sync_point
+abbrev pub may_trim : ReplicaState → Bool
+may_trim s = nat_lt s.log.sync_point s.sync.sync_point
 
--- the log is told with the sync point for which votes are counted
+-- the log is sent with the sync point for which votes are counted
 abbrev pub PointsMeet : ReplicaState → Type 0
 PointsMeet s = s.log.sync_point ≡ s.sync.sync_point
 

@@ -22,7 +22,7 @@ pub record IsIn (k : Keeping) (s : ReplicaState) : Type 0 where
   -- in Normal the receiver hands up the next number
   pub receiver : s.status ≡ Normal → s.receiver.next ≡ s.next
   pub gap : IfSome s.gap (λ g. SlotFits g.slot)
-  -- what is synchronised, under way or prepared is in the log, which is told with its sync point
+  -- what is synchronised, under way or prepared is in the log, which is sent with its sync point
   pub points : PointsMeet s
   pub sync_point : s.sync.sync_point ≤ length_of k s.log
   pub syncing : IfSome s.sync.syncing (λ x. x.len ≤ length_of k s.log)

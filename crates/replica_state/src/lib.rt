@@ -7,29 +7,29 @@
 //! nothing more is sent. What is sent of a state that is in its ranges (`IsWithin`) is in its
 //! ranges. `may_adopt` takes what a view starts with only from the leader of that view.
 //!
-//! The log is trimmed: a checkpoint stands in place of its entries up to its sync point, which is
+//! The log is trimmed: a checkpoint is in place of its entries up to its sync point, which is
 //! that for which votes are counted (`PointsMeet`). Of a log that is taken, all is taken where its
 //! sync point is greater than the own one, and is the own one then; else its entries above the own
-//! one (`adopted`, `overlaid` of logs). Where the sync point rose otherwise, `raise_log` lets the log
+//! one (`adopted`, `overlaid` of logs). Where the sync point rose otherwise, `trim` lets the log
 //! follow, with a checkpoint that the caller has, and hands out the entries that leave it.
 //!
 //! Calls, for `replica_rows`: `ReplicaState::opening`; `append`, `put_gap`, `ask`,
-//! `count_gap_vote`, `lay_over`, `raise_log` (the log); `begin_session`, `queue`, `go_to`,
-//! `begin_gathering`, `take_part` (views); `send_to`, `send_to_all`, `tell_change`, `tell_start`,
-//! `tell_synced`, `send_short`, `send_result` (messages); `sync_commit` and `sync`, which move the
+//! `count_gap_vote`, `lay_over`, `trim` (the log); `begin_session`, `queue`, `enter`,
+//! `begin_gathering`, `adopt` (views); `send_to`, `send_to_all`, `send_change`, `send_start`,
+//! `send_synced`, `send_short`, `send_result` (messages); `sync_commit` and `sync`, which move the
 //! sync point; and the row `resend`. None of them executes or drains. `Sends` is what one step
 //! sends, in order, the entries that left the log (`push_trimmed`) among it; `take` hands it out.
 //!
-//! Files: `state`, `sending`, `number`; `logging`, `views`, `telling`, `repeating`. Definitions:
+//! Files: `state`, `sending`, `number`; `logging`, `views`, `messages`, `repeating`. Definitions:
 //! `specs/State`, `Sends` (`Effect`, `then_do`), `Moves`, `Repeating`, `Replies`, `Within`.
 #![tactic(auto)]
 
 mod logging;
+mod messages;
 mod number;
 mod repeating;
 mod sending;
 mod state;
-mod telling;
 mod views;
 
 pub use number::NextNumber;

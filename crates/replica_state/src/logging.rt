@@ -7,7 +7,7 @@ ghost use Rattle.oum_receiver.specs.Front.{Dropped};
 ghost use Rattle.oum_receiver.specs.Receiving.{front_of};
 ghost use Rattle.replica_state.specs.State.{has_room, may_append, waiting_in};
 ghost use Rattle.replica_state.specs.Moves.{appended, gap_opened, ask, count_gap_vote, overlaid, obey, sync_commit};
-ghost use Rattle.replica_state.specs.Moves.{passed_entries};
+ghost use Rattle.replica_state.specs.Moves.{trimmed_entries};
 ghost use Rattle.replica_state.specs.Within.{IsWithin};
 
 use crate::{ReplicaState, Sends};
@@ -46,7 +46,7 @@ impl ReplicaState {
         ensures err { OnErr result (self.new ≡ self.old) }
     {
         self.append(Entry::NoOp)?;
-        self.gap = gap_in(self.log.len(), self.others());
+        self.gap = gap_in(self.log.len(), self.max_faults());
         Ok(())
     }
 
@@ -94,7 +94,7 @@ impl ReplicaState {
     /// Takes the entries of the leader's log, of which so many are new. Own ones above its end stay.
     pub fn lay_over(&mut self, log: Log, appended: u64) -> Result<(), NoMemory>
         requires own { IsWithin self.old }
-        requires told { LogFits log }
+        requires log_fits { LogFits log }
         requires appended { appended ≡ length_of Trimmed log - length_of Trimmed self.old.log }
         requires within { self.old.next + appended ≤ NUMBER_END }
         ensures ok { OnOk result (self.new ≡ overlaid Trimmed self.old log) }
@@ -113,7 +113,7 @@ impl ReplicaState {
 
     /// The log's sync point becomes that for which votes are counted, with the checkpoint of the slots up to there. The entries
     /// between move out of the log.
-    pub fn raise_log(&mut self, checkpoint: Checkpoint) -> Result<Log, NoMemory>
+    pub fn trim(&mut self, checkpoint: Checkpoint) -> Result<Log, NoMemory>
         requires low { self.old.log.sync_point ≤ self.old.sync.sync_point }
         requires there { self.old.sync.sync_point ≤ length_of Trimmed self.old.log }
         ensures ok { OnOk result (self.new ≡ record self.old {
@@ -123,7 +123,7 @@ impl ReplicaState {
             entries = above Trimmed self.old.log self.old.sync.sync_point;
           };
         }) }
-        ensures entries { IfOk result (λ log. log ≡ passed_entries Trimmed self.old) }
+        ensures entries { IfOk result (λ log. log ≡ trimmed_entries Trimmed self.old) }
         ensures err { OnErr result (self.new ≡ self.old) }
     {
         let sync_point = self.sync.sync_point();

@@ -47,7 +47,7 @@ impl ReplicaState {
         if self.leads() {
             return Ok(());
         }
-        self.tell_change(sends)
+        self.send_change(sends)
     }
 
     /// A replica asks once more for the view that it enters, and tells its change.
@@ -90,7 +90,7 @@ impl ReplicaState {
         ensures sends { OnOk result (sends.new ≡ sends.old ++ (open_sync Trimmed self.old).1) }
         ensures err { OnErr result ((self.new ≡ self.old) × (sends.new ≡ sends.old)) }
     {
-        self.tell_log(sends)?;
+        self.send_log(sends)?;
         self.sync.prepare(self.log.len());
         Ok(())
     }

@@ -1,6 +1,6 @@
 ghost use Rattle.std.specs.Prelude.{◌≡◌, ◌≤◌, ◌<◌, ◌-◌};
 ghost use Rattle.nop_types.specs.Logs.{Trimmed, length_of};
-ghost use Rattle.replica_state.specs.State.{others, leader, leads, is_normal, may_append, drains};
+ghost use Rattle.replica_state.specs.State.{max_faults, leader, leads, is_normal, may_append, drains};
 ghost use Rattle.replica_state.specs.State.{is_other, is_current, is_from_leader, is_to_leader, may_adopt};
 ghost use Rattle.replica_state.specs.State as words;
 ghost use Rattle.replica_state.specs.Moves.{start_len};
@@ -37,8 +37,8 @@ pub struct ReplicaState {
 
 impl ReplicaState {
     /// f: how many others make a quorum with a replica.
-    pub fn others(&self) -> u8
-        ensures { result ≡ others self.now }
+    pub fn max_faults(&self) -> u8
+        ensures { result ≡ max_faults self.now }
     {
         self.config.replicas() / 2
     }
@@ -79,14 +79,14 @@ impl ReplicaState {
         self.log.has_room() && self.next.get() < NUMBER_END
     }
 
-    /// Whether what stands in front of the receiver may be taken.
+    /// Whether what is in front of the receiver may be taken.
     pub fn drains(&self) -> bool
         ensures { result ≡ drains Trimmed self.now }
     {
         self.is_normal() && !self.waits() && self.log.has_room()
     }
 
-    /// How many slots a late replica is told: those that the view started with, and those that
+    /// How many slots a late replica is sent: those that the view started with, and those that
     /// are synchronised.
     pub(crate) fn start_len(&self) -> u32
         requires { IsWithin self.now }

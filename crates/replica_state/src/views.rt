@@ -77,7 +77,7 @@ impl ReplicaState {
     }
 
     /// Goes to a greater view, and waits for it to start.
-    pub fn go_to(&mut self, view: View)
+    pub fn enter(&mut self, view: View)
         ensures { self.new ≡ entered self.old view }
     {
         if self.view.session < view.session && self.receiver.session() != view.session {
@@ -106,13 +106,13 @@ impl ReplicaState {
         ensures err { OnErr result (self.new ≡ self.old) }
     {
         let own = self.own_change()?;
-        let changes = Changes::enter(alloc, self.view, self.others(), own)?;
+        let changes = Changes::enter(alloc, self.view, self.max_faults(), own)?;
         self.changes = Some(changes);
         Ok(())
     }
 
     /// Takes part in a view from what it starts with.
-    pub fn take_part(&mut self, view: View, next: u64, log: Log)
+    pub fn adopt(&mut self, view: View, next: u64, log: Log)
         requires next { next ≤ NUMBER_END }
         ensures { self.new ≡ adopted Trimmed self.old view next log }
     {

@@ -50,7 +50,7 @@ fn check(rt: &impl Abort, given: &Outcome, status: Status, text: &str) {
 }
 
 /// The run ends with this status, and has written a front of the text and not all of it.
-fn check_front(rt: &impl Abort, given: &Outcome, status: Status, text: &str) {
+fn check_prefix(rt: &impl Abort, given: &Outcome, status: Status, text: &str) {
     assert!(rt; given.status == status);
     assert!(rt; given.written.len() < text.len() && text.as_bytes().starts_with(&given.written));
 }
@@ -64,7 +64,7 @@ fn check_writes(rt: &impl Abort, alloc: Global, head: &str, text: &str) {
             check(rt, &given, Status::Done, text);
             break;
         }
-        check_front(rt, &given, Status::WriteFault, text);
+        check_prefix(rt, &given, Status::WriteFault, text);
         failed = k;
     }
     assert!(rt; failed >= text.len() as u64 / 16 && failed < 100);
@@ -90,7 +90,7 @@ fn check_read_of_a_check(rt: &impl Abort, alloc: Global, number: u64, status: St
 fn each_read_fails(rt: HostRuntime) {
     for k in 1..=10 {
         let given = failing(&rt, rt.alloc(), "nopaxos replay", "reads 16", k);
-        check_front(&rt, &given, Status::ReadFault, TRANSCRIPT);
+        check_prefix(&rt, &given, Status::ReadFault, TRANSCRIPT);
     }
     let given = failing(&rt, rt.alloc(), "nopaxos replay", "reads 16", 11);
     check(&rt, &given, Status::Done, TRANSCRIPT);
@@ -103,7 +103,7 @@ fn each_write_fails(rt: HostRuntime) {
     let text = format!(in rt.alloc(); "{LINES}served 3 lost 0 stray 0\n").expect(&rt, "memory");
     check_writes(&rt, rt.alloc(), SMALL, &text);
     let given = failing(&rt, rt.alloc(), REPLAY, "writes 0", 0);
-    check_front(&rt, &given, Status::WriteFault, TRANSCRIPT);
+    check_prefix(&rt, &given, Status::WriteFault, TRANSCRIPT);
 }
 
 /// 20 reads of a check give the transcript's 308 bytes, and the next one tells the end. Where one fails nothing is written.

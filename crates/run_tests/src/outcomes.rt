@@ -182,7 +182,7 @@ pub fn outcome_of(rt: &impl Abort, alloc: Global, head: &str, schedule: &str) ->
 }
 
 /// The status, what was written, with a bar behind it, and what was sent.
-fn told(rt: &impl Abort, alloc: Global, outcome: &Outcome) -> String {
+fn text_of(rt: &impl Abort, alloc: Global, outcome: &Outcome) -> String {
     let written = std::str::from_utf8(&outcome.written).expect(rt, "text");
     let text = format!(in alloc; "{:?}\n{written}|\n{}", outcome.status, outcome.sent);
     text.expect(rt, "memory")
@@ -190,6 +190,6 @@ fn told(rt: &impl Abort, alloc: Global, outcome: &Outcome) -> String {
 
 /// Compares what a run ends with.
 pub fn check_outcome(rt: &impl Abort, alloc: Global, head: &str, schedule: &str, wanted: &str) {
-    let given = told(rt, alloc, &outcome_of(rt, alloc, head, schedule));
+    let given = text_of(rt, alloc, &outcome_of(rt, alloc, head, schedule));
     assert_eq!(rt; given.as_str(), wanted, "{head}");
 }

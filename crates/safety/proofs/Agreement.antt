@@ -46,9 +46,9 @@ module _ {S : Type 0} (m : Meaning S) (t : WorldState) (w : WholeWorld) (alike :
         ∙ agreed.pairs i j slot p.seat q.seat p.there q.there (subst (λ (n : ℕ). slot ≤ n) p.points low)
         (subst (λ (n : ℕ). slot ≤ n) q.points high) ∙ sym (q.at_slot slot));
     main = λ i a x. (let p = as_whole i a x in
-        let front : take a.state.state.sync.sync_point (with_archive t.archive a.state.state.log)
+        let prefix : take a.state.state.sync.sync_point (with_archive t.archive a.state.state.log)
         ≡ take p.seat.state.state.sync.sync_point p.seat.state.state.log.entries = λ k. take (p.points k) (p.log k) in
-        subst (λ (es : List Entry). IsPrefixOf es (main_log t)) (sym front)
+        subst (λ (es : List Entry). IsPrefixOf es (main_log t)) (sym prefix)
         (subst (λ (log : List Entry). IsPrefixOf (take p.seat.state.state.sync.sync_point p.seat.state.state.log.entries) log) (sym main)
         (agreed.main i p.seat p.there)));
   }

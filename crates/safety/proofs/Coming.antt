@@ -1,4 +1,4 @@
--- What an event brings to its actor was sent, or is no datagram.
+-- What an event delivers to its actor was sent, or is no datagram.
 use Rattle.std.proofs.Common.{◌≡◌, ℕ, Bool, true, false, Option, Some, None, refl, subst, inl, inr, List, length}
 use Rattle.std.specs.Prelude.{⊤, nat_lt, Result, Ok, Err, slice_get}
 use Rattle.nop_types.specs.Configuration.{Configuration}
@@ -18,7 +18,7 @@ use Rattle.network_laws.specs.Network.{MayCome}
 use Rattle.safety.specs.Following.{bytes_of}
 use Rattle.safety.proofs.Outputs.{bytes_there}
 
--- the input may come where these datagrams were sent; a crash brings nothing
+-- the input may come where these datagrams were sent; a crash delivers nothing
 abbrev pub AllMayCome : List (List ℕ) → Stimulus → Type 0
 AllMayCome sent (Takes i) = MayCome sent i
 AllMayCome sent Crashes = ⊤

@@ -17,7 +17,7 @@ use Rattle.schedule_text.specs.declared.event.Event.{Event}
 use Rattle.schedule_text.specs.Fits.{EventFits, EventsFit}
 use Rattle.world.specs.Seats.{Seated, seated}
 use Rattle.world.specs.WorldSteps as world
-use Rattle.world.specs.WorldSteps.{WorldState, Happened, Refusal, actor_of, counted, step, go_on, run_from}
+use Rattle.world.specs.WorldSteps.{WorldState, Happened, Refusal, actor_of, numbered_seats, step, go_on, run_from}
 use Rattle.network_laws.specs.Steps.{InNetwork}
 use Rattle.network_laws.proofs.Networks.{opening_network}
 use Rattle.network_laws.proofs.Replicas.{opening_in_network}
@@ -38,12 +38,12 @@ use Rattle.safety.proofs.Steps.{Followed, brought_fits, event_follows}
 -- ---- the opening
 
 same_opening : {S : Type 0} (m : Meaning S) (c : Configuration) (n : ℕ)
-    → map plain (counted (replica.opening c) n) ≡ map (trimmed_seat m) (counted (opening_replica c) n)
+    → map plain (numbered_seats (replica.opening c) n) ≡ map (trimmed_seat m) (numbered_seats (opening_replica c) n)
 same_opening m c zero = refl
 same_opening m c (suc n) =
-    map-append plain (counted (replica.opening c) n) (seated (replica.opening c n) ∷ [])
+    map-append plain (numbered_seats (replica.opening c) n) (seated (replica.opening c n) ∷ [])
     ∙ ap (λ (xs : List (Seated WholeReplica)). xs ++ seated (opening_replica c n) ∷ []) (same_opening m c n)
-    ∙ sym (map-append (trimmed_seat m) (counted (opening_replica c) n) (seated (opening_replica c n) ∷ []))
+    ∙ sym (map-append (trimmed_seat m) (numbered_seats (opening_replica c) n) (seated (opening_replica c n) ∷ []))
 
 none_carried : (x : fragments.Sent) → Has opening_network.carried.sent x → ⊥
 none_carried x h = Has-none _ (opening_network.carried.spelled x h).has
@@ -61,7 +61,7 @@ opening_beside m config is = record {
   travels = record {
     used = λ (r : ℕ). 0;
     posts = record {
-      told = [];
+      peer_messages = [];
       network = opening_network;
       peers = record { to = λ p h. h; from = λ p h. h };
       messages = record { to = λ x h. absurd (none_carried x h); from = λ x h. absurd (Has-none x h) };
@@ -91,17 +91,17 @@ module _ {S : Type 0} (m : Meaning S) (config : Configuration) where
     pub beside : Beside m t ls (world_after bs)
 
   -- some events led to this, and what they brought led the whole world beside it
-  pub record Front (t : WorldState) (ls : List Line) (bs : List (Actor × Brings)) (es front : List Event) : Type 0 where
+  pub record Front (t : WorldState) (ls : List Line) (bs : List (Actor × Brings)) (es prefix : List Event) : Type 0 where
     pub happened : Happened
-    pub is : run_from m ls t front ≡ Ok happened
-    pub both : Both happened.world happened.lines (bs ++ brought_from m t front)
+    pub is : run_from m ls t prefix ≡ Ok happened
+    pub both : Both happened.world happened.lines (bs ++ brought_from m t prefix)
     pub rest : List (Actor × Brings)
-    pub parts : brought_from m t es ≡ brought_from m t front ++ rest
+    pub parts : brought_from m t es ≡ brought_from m t prefix ++ rest
 
   -- all of them, and so it was at each time before
   pub record Follows (t : WorldState) (ls : List Line) (bs : List (Actor × Brings)) (es : List Event) (h : Happened) : Type 0 where
     pub both : Both h.world h.lines (bs ++ brought_from m t es)
-    pub before : (front rest : List Event) → es ≡ front ++ rest → Front t ls bs es front
+    pub before : (prefix rest : List Event) → es ≡ prefix ++ rest → Front t ls bs es prefix
 
 fits_more : (bs : List (Actor × Brings)) (b : Actor × Brings) → AllFit bs → BringsFits b.1 → AllFit (bs ++ b ∷ [])
 fits_more [] b all one = (one, tt)
@@ -148,21 +148,21 @@ module _ {S : Type 0} (m : Meaning S) (IsSound : S → Type 0) (keeps : KeepsTo 
 
   none_followed : (t : WorldState) (ls : List Line) (bs : List (Actor × Brings)) → Both m config t ls bs
       → Follows m config t ls bs [] (record { world = t; lines = ls })
-  none_followed t ls bs both = record { both = at_end; before = λ front rest split. by front rest split }
+  none_followed t ls bs both = record { both = at_end; before = λ prefix rest split. by prefix rest split }
     where
       at_end : Both m config t ls (bs ++ [])
       at_end = subst (Both m config t ls) (sym (append-nil bs)) both
 
-      by : (front rest : List Event) → [] ≡ front ++ rest → Front m config t ls bs [] front
+      by : (prefix rest : List Event) → [] ≡ prefix ++ rest → Front m config t ls bs [] prefix
       by [] rest split = record { happened = record { world = t; lines = ls }; is = refl; both = at_end; rest = []; parts = refl }
-      by (y ∷ front) rest split = absurd cc
+      by (y ∷ prefix) rest split = absurd cc
 
   one_followed : (x : Event) (es : List Event) (t : WorldState) (ls : List Line) (bs : List (Actor × Brings)) (g h : Happened)
       → step m t x ≡ Ok g → Both m config t ls bs
       → Follows m config g.world (ls ++ g.lines) (bs ++ (actor_of x, brought t x) ∷ []) es h → Follows m config t ls bs (x ∷ es) h
   one_followed x es t ls bs g h is both on = record {
     both = subst (Both m config h.world h.lines) (sym (joined es)) on.both;
-    before = λ front rest split. by front rest split;
+    before = λ prefix rest split. by prefix rest split;
   }
     where
       b : Actor × Brings
@@ -172,7 +172,7 @@ module _ {S : Type 0} (m : Meaning S) (IsSound : S → Type 0) (keeps : KeepsTo 
       joined fs = ap (λ (xs : List (Actor × Brings)). bs ++ xs) (brought_rest x fs t g is)
           ∙ sym (append_assoc bs (b ∷ []) (brought_from m g.world fs))
 
-      by : (front rest : List Event) → x ∷ es ≡ front ++ rest → Front m config t ls bs (x ∷ es) front
+      by : (prefix rest : List Event) → x ∷ es ≡ prefix ++ rest → Front m config t ls bs (x ∷ es) prefix
       by [] rest split = record {
         happened = record { world = t; lines = ls };
         is = refl;
@@ -180,17 +180,17 @@ module _ {S : Type 0} (m : Meaning S) (IsSound : S → Type 0) (keeps : KeepsTo 
         rest = brought_from m t (x ∷ es);
         parts = refl;
       }
-      by (y ∷ front) rest split =
+      by (y ∷ prefix) rest split =
           let same : x ≡ y = cc in
-          let others : es ≡ front ++ rest = cc in
-          let f = on.before front rest others in
-          subst (λ (z : Event). Front m config t ls bs (x ∷ es) (z ∷ front)) same (record {
+          let others : es ≡ prefix ++ rest = cc in
+          let f = on.before prefix rest others in
+          subst (λ (z : Event). Front m config t ls bs (x ∷ es) (z ∷ prefix)) same (record {
             happened = f.happened;
-            is = run_rest x front t ls g is ∙ f.is;
-            both = subst (Both m config f.happened.world f.happened.lines) (sym (joined front)) f.both;
+            is = run_rest x prefix t ls g is ∙ f.is;
+            both = subst (Both m config f.happened.world f.happened.lines) (sym (joined prefix)) f.both;
             rest = f.rest;
             parts = brought_rest x es t g is ∙ ap (λ (xs : List (Actor × Brings)). b ∷ xs) f.parts
-                ∙ ap (λ (xs : List (Actor × Brings)). xs ++ f.rest) (sym (brought_rest x front t g is));
+                ∙ ap (λ (xs : List (Actor × Brings)). xs ++ f.rest) (sym (brought_rest x prefix t g is));
           })
 
   followed_then : (x : Event) (es : List Event) (t : WorldState) (ls : List Line) (bs : List (Actor × Brings)) (h : Happened)

@@ -28,7 +28,7 @@ use Rattle.safety.proofs.Beside.{Alike}
 pub record IsKept (archive : List Entry) (q : Seated WholeReplica) : Type 0 where
   pub points : PointsMeet q.state.state
   pub within : q.state.state.sync.sync_point ≤ length q.state.state.log.entries
-  pub front : take q.state.state.sync.sync_point archive ≡ take q.state.state.sync.sync_point q.state.state.log.entries
+  pub prefix : take q.state.state.sync.sync_point archive ≡ take q.state.state.sync.sync_point q.state.state.log.entries
 
 module _ {S : Type 0} (m : Meaning S) (archive : List Entry) where
   -- the archive in front of a trimmed log is the whole log
@@ -37,7 +37,7 @@ module _ {S : Type 0} (m : Meaning S) (archive : List Entry) where
   whole_again q h =
       let l : Log = q.state.state.log in
       ap (λ (n : ℕ). take n archive ++ drop l.sync_point l.entries) h.points
-      ∙ ap (λ (xs : List Entry). xs ++ drop l.sync_point l.entries) h.front
+      ∙ ap (λ (xs : List Entry). xs ++ drop l.sync_point l.entries) h.prefix
       ∙ ap (λ (n : ℕ). take q.state.state.sync.sync_point l.entries ++ drop n l.entries) h.points
       ∙ take-append-drop q.state.state.sync.sync_point l.entries
 
@@ -57,7 +57,7 @@ module _ {S : Type 0} (m : Meaning S) (archive : List Entry) where
       ap (λ (n : ℕ). replica_line i q.crashed q.state.state.status q.state.state.view n q.state.state.sync.sync_point
       ++ entries_text i 1 (take q.state.state.sync.sync_point archive)) len
       ∙ ap (λ (xs : List Entry). replica_line i q.crashed q.state.state.status q.state.state.view (length q.state.state.log.entries)
-      q.state.state.sync.sync_point ++ entries_text i 1 xs) h.front
+      q.state.state.sync.sync_point ++ entries_text i 1 xs) h.prefix
 
   -- a real replica's text, by what of it is in the whole one
   abbrev text_by : ℕ → Seated WholeReplica → List ℕ

@@ -65,7 +65,7 @@ use Rattle.whole_world.specs.Trimming.{RowsTrim}
 use Rattle.world.specs.Archive.{with_entries, with_outs, archived}
 use Rattle.whole_world.specs.Whole as whole
 use Rattle.whole_world.specs.Whole.{WholeReplica, WholeWorld, Letter, Brings, given_if, junk_if, is_crash, lines_of, letters_in, replies_in}
-use Rattle.whole_world.specs.Whole.{whole_step, step_replica, effect_of, arrival_of, arrival_given, arrival_read, told_if}
+use Rattle.whole_world.specs.Whole.{whole_step, step_replica, effect_of, arrival_of, arrival_given, arrival_read, message_if}
 use Rattle.safety.proofs.Others.{other_was_sent, lines_go_on, sends_go_on}
 use Rattle.safety.proofs.Posted.{posted_others}
 use Rattle.safety.proofs.Sends.{lines_spoken}
@@ -210,15 +210,15 @@ module _ {S : Type 0} (m : Meaning S) where
         → DoesOf (replica.read m (record s { reassembly = waiting }) f.replica (peers.reading bytes)) (whole.Message f.replica f.message)
     letter_does f bytes waiting j =
         let p : Peer = trimmed_peer m j.peer in
-        let told : real_arrival w (whole.Message f.replica f.message) ≡ Some (messages.Told p) =
-        ap (λ (o : Option Peer). option_map (trimmed_arrival m) (told_if o)) j.letter in
+        let arrived : real_arrival w (whole.Message f.replica f.message) ≡ Some (messages.PeerMessage p) =
+        ap (λ (o : Option Peer). option_map (trimmed_arrival m) (message_if o)) j.letter in
         let took : replica.read m (record s { reassembly = waiting }) f.replica (peers.reading bytes)
-        ≡ replica.row m (record s { reassembly = waiting }) (messages.Told p) =
+        ≡ replica.row m (record s { reassembly = waiting }) (messages.PeerMessage p) =
         ap (λ (r : Result Peer BadPeer). replica.read m (record s { reassembly = waiting }) f.replica r) j.read
         ∙ ap (λ (x : Bool). replica.of_sender_if m x (record s { reassembly = waiting }) p) (eq-eqb j.peer.sender f.replica j.sender) in
         subst (λ (r : Replica × List Out). DoesOf r (whole.Message f.replica f.message)) (sym took)
-        (subst (λ (o : Option messages.Arrival). Does s (replica.row m (record s { reassembly = waiting }) (messages.Told p))
-        (real_effect s o)) (sym told) (row_does s waiting (messages.Told p)))
+        (subst (λ (o : Option messages.Arrival). Does s (replica.row m (record s { reassembly = waiting }) (messages.PeerMessage p))
+        (real_effect s o)) (sym arrived) (row_does s waiting (messages.PeerMessage p)))
 
     joined_does : (f : Fragment) (waiting : List Waiting) (o : Option (List ℕ))
         → ((bytes : List ℕ) → o ≡ Some bytes → JoinsTrimmed m w f bytes)
@@ -353,7 +353,7 @@ module _ {S : Type 0} (m : Meaning S) (t : WorldState) (ls : List Line) (v : Who
     event_goes (events.Junk actor bytes) at joins g is = junk_goes bytes (reading bytes) refl g is
     event_goes _ at joins g is = absurd cc
 
-  -- a crash brings a crash
+  -- a crash delivers a crash
   sent_crashes : (k : ℕ) (n : ℕ) (o : Option Sent) → datagram_at k n o ≡ Ok Crashes → ⊥
   sent_crashes k n None is = absurd cc
   sent_crashes k n (Some x) is = absurd cc
@@ -460,7 +460,7 @@ module _ {S : Type 0} (m : Meaning S) (t : WorldState) (ls : List Line) (v : Who
     row_after g e does fits may =
         let r : Replica × List Out = replica.next m s g in
         let ts : List Sending = map (trimmed_sending m) e.1 in
-        let delivers = step_delivers m bounds carried.posts.told (bytes_of t.sent) carried.used i s g carried.posts.network
+        let delivers = step_delivers m bounds carried.posts.peer_messages (bytes_of t.sent) carried.used i s g carried.posts.network
         (carried.members i p found) may in
         let counts : r.0.messages ≡ q.state.messages + message_count e.1 =
         does.messages ∙ ap (λ (n : ℕ). s.messages + n) (trimmed_count m e.1) ∙ ap (λ (n : ℕ). n + message_count e.1) count_is in

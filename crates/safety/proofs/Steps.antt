@@ -46,7 +46,7 @@ use Rattle.world.specs.Seats.{Seated}
 use Rattle.world.specs.WorldSteps.{WorldState, Happened, actor_of, at_replica, step, step_at, step_of, stimulus_of, then_at}
 use Rattle.network_laws.specs.Network.{IsDatagram}
 use Rattle.whole_world.specs.Safe.{BringsFits}
-use Rattle.whole_world.specs.Shows.{Carries, Tells, peers_of}
+use Rattle.whole_world.specs.Shows.{Carries, MessagesSay, peers_of}
 use Rattle.nop_types.specs.declared.request.Entry.{Entry}
 use Rattle.whole_world.specs.Whole as whole
 use Rattle.whole_world.specs.Whole.{WholeWorld, Letter, Brings, arrival_of, step_other, whole_step}
@@ -64,7 +64,7 @@ use Rattle.safety.proofs.Outputs.{bytes_there}
 use Rattle.safety.proofs.Replicas.{real_if, real_effect, RowFits, WholeSeat, whole_seat, replica_follows}
 use Rattle.safety.proofs.Travels.{travels_others, joins_trimmed}
 
--- ---- what an event brings is in its ranges
+-- ---- what an event delivers is in its ranges
 
 completes_fit : (f : Fragment) (o : Option (List ℕ)) → BringsFits (completes f o)
 completes_fit f None = tt
@@ -101,14 +101,14 @@ module _ (t : WorldState) where
 module _ {S : Type 0} (m : Meaning S) (IsSound : S → Type 0) (keeps : KeepsTo m IsSound) where
   body_is_in : (b : Body) → BodyIsIn Whole b → BodyIsIn Trimmed (trimmed_body m b)
   body_is_in bodies.ViewChangeReq h = tt
-  body_is_in (bodies.ViewChange u x l) h = record { view = h.view; number = h.number; told = trimmed_is_in m IsSound keeps l h.told }
-  body_is_in (bodies.StartView x l) h = record { number = h.number; told = trimmed_is_in m IsSound keeps l h.told }
+  body_is_in (bodies.ViewChange u x l) h = record { view = h.view; number = h.number; log_fits = trimmed_is_in m IsSound keeps l h.log_fits }
+  body_is_in (bodies.StartView x l) h = record { number = h.number; log_fits = trimmed_is_in m IsSound keeps l h.log_fits }
   body_is_in (bodies.SyncPrepare l) h = trimmed_is_in m IsSound keeps l h
   body_is_in _ h = h
 
   arrival_is_in : (a : messages.Arrival) → ArrivalIsIn Whole a → ArrivalIsIn Trimmed (trimmed_arrival m a)
   arrival_is_in (messages.Packet p) h = h
-  arrival_is_in (messages.Told p) h = record { sender = h.sender; view = h.view; body = body_is_in p.body h.body }
+  arrival_is_in (messages.PeerMessage p) h = record { sender = h.sender; view = h.view; body = body_is_in p.body h.body }
   arrival_is_in (messages.Ticked tick) h = tt
 
   -- a row of a replica in the network is in its ranges
@@ -140,7 +140,7 @@ pub record Followed {S : Type 0} (m : Meaning S) (t : WorldState) (ls : List Lin
   pub archive : h.world.archive ≡ archive_after m t.archive w (actor_of e) (brought t e)
 
 module _ {S : Type 0} (m : Meaning S) (IsSound : S → Type 0) (keeps : KeepsTo m IsSound) (t : WorldState) (ls : List Line) (w : WholeWorld)
-    (c : Conf) (carries : Carries w.sent c) (tells : Tells (peers_of w.letters) c.said) (trims : RowsTrim m w) (beside : Beside m t ls w)
+    (c : Conf) (carries : Carries w.sent c) (tells : MessagesSay (peers_of w.letters) c.said) (trims : RowsTrim m w) (beside : Beside m t ls w)
     (e : Event) (h : Happened) (is : step m t e ≡ Ok h) where
   abbrev travels : Travels t.sent t.replicas (real_letters m w)
   travels = beside.travels
@@ -213,7 +213,7 @@ module _ {S : Type 0} (m : Meaning S) (w : WholeWorld) (b : Brings) where
 
 -- each event is followed, where what the whole world sends for it is in its ranges
 pub event_follows : {S : Type 0} (m : Meaning S) (IsSound : S → Type 0) → KeepsTo m IsSound → (t : WorldState) (ls : List Line)
-    (w : WholeWorld) (c : Conf) → Carries w.sent c → Tells (peers_of w.letters) c.said → RowsTrim m w → Beside m t ls w
+    (w : WholeWorld) (c : Conf) → Carries w.sent c → MessagesSay (peers_of w.letters) c.said → RowsTrim m w → Beside m t ls w
     → (e : Event) (h : Happened) → step m t e ≡ Ok h
     → ((s : Sent) → Has (whole_step m w (actor_of e) (brought t e)).sent s → IsDatagram s.bytes) → Followed m t ls w e h
 event_follows m IsSound keeps t ls w c carries tells trims beside e h is spelled = by (actor_of e) refl

@@ -91,23 +91,23 @@ none_among (s ∷ more) all =
     ∙ none_among more (λ x h. all x (Has-rest x s more h))
 
 -- the network, and what was sent under which number
-record Under (told : List Peer) (bytes : List (List ℕ)) (used : ℕ → ℕ) (sent : List fragments.Sent) : Type 0 where
-  network : Network told bytes used
+record Under (peer_messages : List Peer) (bytes : List (List ℕ)) (used : ℕ → ℕ) (sent : List fragments.Sent) : Type 0 where
+  network : Network peer_messages bytes used
   is : network.carried.sent ≡ sent
 
 -- what is carried, likewise
-record CarriedAs (told : List Peer) (net : List Fragment) (used : ℕ → ℕ) (sent : List fragments.Sent) : Type 0 where
-  carried : Carried told net used
+record CarriedAs (peer_messages : List Peer) (net : List Fragment) (used : ℕ → ℕ) (sent : List fragments.Sent) : Type 0 where
+  carried : Carried peer_messages net used
   is : carried.sent ≡ sent
 
-under : (told : List Peer) (bytes : List (List ℕ)) (used : ℕ → ℕ) (sent : List fragments.Sent)
-    → ((b : List ℕ) → Has bytes b → IsDatagram b) → CarriedAs told (fragments_among bytes) used sent → Under told bytes used sent
-under told bytes used sent all h = record { network = record { datagrams = all; carried = h.carried }; is = h.is }
+under : (peer_messages : List Peer) (bytes : List (List ℕ)) (used : ℕ → ℕ) (sent : List fragments.Sent)
+    → ((b : List ℕ) → Has bytes b → IsDatagram b) → CarriedAs peer_messages (fragments_among bytes) used sent → Under peer_messages bytes used sent
+under peer_messages bytes used sent all h = record { network = record { datagrams = all; carried = h.carried }; is = h.is }
 
-posts_by : (bytes : List (List ℕ)) (used : ℕ → ℕ) (letters : List Letter) (told : List Peer) (sent : List fragments.Sent)
-    → Under told bytes used sent → SameMembers told (peers_of letters) → SameMembers sent (map message_of letters) → CarriesLetters bytes used letters
-posts_by bytes used letters told sent h peers messages = record {
-  told = told;
+posts_by : (bytes : List (List ℕ)) (used : ℕ → ℕ) (letters : List Letter) (peer_messages : List Peer) (sent : List fragments.Sent)
+    → Under peer_messages bytes used sent → SameMembers peer_messages (peers_of letters) → SameMembers sent (map message_of letters) → CarriesLetters bytes used letters
+posts_by bytes used letters peer_messages sent h peers messages = record {
+  peer_messages = peer_messages;
   network = h.network;
   peers = peers;
   messages = subst (λ (xs : List fragments.Sent). SameMembers xs (map message_of letters)) (sym h.is) messages;
@@ -120,10 +120,10 @@ module _ (bytes : List (List ℕ)) (used : ℕ → ℕ) (letters : List Letter) 
   posts_others more none all =
       let same : fragments_among (bytes ++ more) ≡ fragments_among bytes =
       among_append bytes more ∙ ap (λ (fs : List Fragment). fragments_among bytes ++ fs) none ∙ append-nil (fragments_among bytes) in
-      posts_by (bytes ++ more) used letters h.told h.network.carried.sent
-      (under h.told (bytes ++ more) used h.network.carried.sent
+      posts_by (bytes ++ more) used letters h.peer_messages h.network.carried.sent
+      (under h.peer_messages (bytes ++ more) used h.network.carried.sent
       (λ b i. elim (Has-append_cases bytes more b i) [ inl old ↦ h.network.datagrams b old | inr fresh ↦ all b fresh ])
-      (subst (λ (fs : List Fragment). CarriedAs h.told fs used h.network.carried.sent) (sym same)
+      (subst (λ (fs : List Fragment). CarriedAs h.peer_messages fs used h.network.carried.sent) (sym same)
       (record { carried = h.network.carried; is = refl }))) h.peers h.messages
 
   -- what a replica posts
@@ -132,18 +132,18 @@ module _ (bytes : List (List ℕ)) (used : ℕ → ℕ) (letters : List Letter) 
       → CarriesLetters (bytes ++ bytes_in (posted (used r) sends)) (put used r (used r + message_count sends)) (letters ++ letters_in (used r) sends)
   posts_row r sends fits by high =
       let os : List Out = posted (used r) sends in
-      let told : List Peer = peers_in sends ++ h.told in
+      let peer_messages : List Peer = peers_in sends ++ h.peer_messages in
       let used_then : ℕ → ℕ = put used r (used r + message_count sends) in
       let sent : List fragments.Sent = messages_from (used r) sends ++ h.network.carried.sent in
       let all : List Letter = letters ++ letters_in (used r) sends in
       let more : fragments_among (bytes ++ bytes_in os) ≡ fragments_among bytes ++ fragments_in os =
       among_append bytes (bytes_in os) ∙ ap (λ (fs : List Fragment). fragments_among bytes ++ fs) (among_outs os) in
-      let c = posting_carries_under h.told (fragments_among bytes) used r sends h.network.carried fits by high in
-      posts_by (bytes ++ bytes_in os) used_then all told sent
-      (under told (bytes ++ bytes_in os) used_then sent
-      (posting_network h.told bytes used r sends h.network fits by high).datagrams
-      (subst (λ (fs : List Fragment). CarriedAs told fs used_then sent) (sym more) (record { carried = c.0; is = c.1 })))
-      (joined_members (peers_in sends) h.told (peers_of letters) (peers_of all)
+      let c = posting_carries_under h.peer_messages (fragments_among bytes) used r sends h.network.carried fits by high in
+      posts_by (bytes ++ bytes_in os) used_then all peer_messages sent
+      (under peer_messages (bytes ++ bytes_in os) used_then sent
+      (posting_network h.peer_messages bytes used r sends h.network fits by high).datagrams
+      (subst (λ (fs : List Fragment). CarriedAs peer_messages fs used_then sent) (sym more) (record { carried = c.0; is = c.1 })))
+      (joined_members (peers_in sends) h.peer_messages (peers_of letters) (peers_of all)
       (map-append (λ (x : Letter). x.peer) letters (letters_in (used r) sends)
       ∙ ap (λ (ps : List Peer). peers_of letters ++ ps) (letters_peers (used r) sends)) h.peers)
       (joined_members (messages_from (used r) sends) h.network.carried.sent (map message_of letters) (map message_of all)
@@ -287,7 +287,7 @@ pub joins_letter : (letters : List Letter) (bytes : List (List ℕ)) (used : ℕ
 joins_letter letters bytes used waiting f joined posts fit came here is =
     let net : List Fragment = fragments_among bytes in
     let parts = (keeps_what_came net waiting f here came).gave joined is in
-    let carried : Carried posts.told net used = posts.network.carried in
+    let carried : Carried posts.peer_messages net used = posts.network.carried in
     let sent = joins_what_was_sent carried.sent net f joined carried.distinct carried.cut here parts in
     let x = found_message letters f.replica f.message joined (posts.messages.to _ sent) in
     let fits : PeerFits x.letter.peer = fit x.letter.peer (Has-map (λ (y : Letter). y.peer) letters x.letter x.has) in

@@ -59,7 +59,7 @@ module _ {S : Type 0} (m : Meaning S) (IsSound : S → Type 0) (keeps : KeepsTo 
   kept bs t ls both i q e =
       let can : CanTrim m (world_after m config bs) = safe_can_trim m config bs is (safe_at bs t ls both) in
       let within = can.within.replicas i q e in
-      record { points = within.points; within = within.sync_point; front = both.beside.archive.fronts i q e }
+      record { points = within.points; within = within.sync_point; prefix = both.beside.archive.prefixes i q e }
 
   follows_at : (bs : List (Actor × Brings)) (t : WorldState) (ls : List Line) → Both m config t ls bs
       → FollowsWhole m (record { world = t; lines = ls }) (world_after m config bs)
@@ -97,14 +97,14 @@ module _ {S : Type 0} (m : Meaning S) (IsSound : S → Type 0) (keeps : KeepsTo 
     follows_whole = subst (FollowsWhole m h) (is_after (all_brought m config es))
         (follows_at (all_brought m config es) h.world h.lines follows.both)
 
-    followed : (front rest : List Event) → es ≡ front ++ rest → Followed m config es front
-    followed front rest split =
-        let f : Front m config (world.opening config) [] [] es front = follows.before front rest split in
+    followed : (prefix rest : List Event) → es ≡ prefix ++ rest → Followed m config es prefix
+    followed prefix rest split =
+        let f : Front m config (world.opening config) [] [] es prefix = follows.before prefix rest split in
         record {
           happened = f.happened;
           is = f.is;
-          follows = subst (FollowsWhole m f.happened) (is_after (all_brought m config front))
-              (follows_at (all_brought m config front) f.happened.world f.happened.lines f.both);
+          follows = subst (FollowsWhole m f.happened) (is_after (all_brought m config prefix))
+              (follows_at (all_brought m config prefix) f.happened.world f.happened.lines f.both);
           rest = f.rest;
           parts = f.parts;
         }

@@ -36,9 +36,9 @@ use Rattle.whole_world.specs.Whole as whole
 use Rattle.whole_world.specs.Whole.{WholeReplica, WholeWorld, Letter, Brings, Nothing, Op, Timer, Junk, Equal}
 use Rattle.whole_world.specs.Whole.{Message, Crash, letter_of, whole_run}
 
--- ---- what an event brings
+-- ---- what an event delivers
 
--- a fragment brings the message that it completes, if it does
+-- a fragment delivers the message that it completes, if it does
 abbrev pub completes : Fragment → Option (List ℕ) → Brings
 completes f None = Nothing
 completes f (Some bytes) = Message f.replica f.message
@@ -151,9 +151,9 @@ pub record JoinsTrimmed {S : Type 0} (m : Meaning S) (w : WholeWorld) (f : Fragm
 
 -- the fragments among the datagrams carry these letters, each under its number, and nothing else
 pub record CarriesLetters (bytes : List (List ℕ)) (used : ℕ → ℕ) (letters : List Letter) : Type 0 where
-  pub told : List Peer
-  pub network : Network told bytes used
-  pub peers : SameMembers told (peers_of letters)
+  pub peer_messages : List Peer
+  pub network : Network peer_messages bytes used
+  pub peers : SameMembers peer_messages (peers_of letters)
   pub messages : SameMembers network.carried.sent (map message_of letters)
 
 -- ---- all of it

@@ -21,19 +21,19 @@ pub record Safe {S : Type 0} (m : Meaning S) (h : Happened) : Type 0 where
   pub legal : Legal m h.lines (history h.world)
 
 -- after the first events the real world followed the whole one, and all that they brought comes first of what all bring
-pub record Followed {S : Type 0} (m : Meaning S) (config : Configuration) (es front : List Event) : Type 0 where
+pub record Followed {S : Type 0} (m : Meaning S) (config : Configuration) (es prefix : List Event) : Type 0 where
   pub happened : Happened
-  pub is : run m config front ≡ Ok happened
-  pub follows : FollowsWhole m happened (whole_after m config front)
+  pub is : run m config prefix ≡ Ok happened
+  pub follows : FollowsWhole m happened (whole_after m config prefix)
   pub rest : List (Actor × Brings)
-  pub parts : all_brought m config es ≡ all_brought m config front ++ rest
+  pub parts : all_brought m config es ≡ all_brought m config prefix ++ rest
 
 -- what the events brought led the whole world, safely at each time: a configuration of the protocol shows it, in which all that was
 -- stamped, said, logged, replied and accepted is sound, and nothing of that was taken back; the real world followed it at each time
 pub record SafelyPassed {S : Type 0} (m : Meaning S) (config : Configuration) (es : List Event) (h : Happened) : Type 0 where
   pub whole : IsSafeThroughout m config (all_brought m config es)
   pub follows : FollowsWhole m h (whole_after m config es)
-  pub before : (front rest : List Event) → es ≡ front ++ rest → Followed m config es front
+  pub before : (prefix rest : List Event) → es ≡ prefix ++ rest → Followed m config es prefix
   pub safe : Safe m h
 
 -- for every list of events that are not refused

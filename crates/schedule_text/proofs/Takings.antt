@@ -55,16 +55,16 @@ module _ (old mid new : Reading) (answer : Result (Option Event) NextError) wher
   }
 
 -- the same of a source that tells nothing
-untold : (old new : Reading) (taken left : List ℕ) (answer : Result (Option Event) NextError) → Takes old new taken left answer
+unobserved : (old new : Reading) (taken left : List ℕ) (answer : Result (Option Event) NextError) → Takes old new taken left answer
     → Takes old new taken [] answer
-untold old new taken left answer takes = record { end = λ going ended. refl; after_end = takes.after_end; turn = takes.turn }
+unobserved old new taken left answer takes = record { end = λ going ended. refl; after_end = takes.after_end; turn = takes.turn }
 
 pub reads : (old new : Reading) (before left : Option (List ℕ)) (answer : Result (Option Event) NextError)
     → TakesFrom old new before left answer → Reads old new answer
 unfolding TakesFrom Reads
 reads old new None left answer from = from
 reads old new (Some before) None answer from = elim from [ ]
-reads old new (Some before) (Some left) answer from = (from.0, untold old new from.0 left answer from.2)
+reads old new (Some before) (Some left) answer from = (from.0, unobserved old new from.0 left answer from.2)
 
 pub takes : (old new : Reading) (before left : Option (List ℕ)) (answer : Result (Option Event) NextError)
     → TakesFrom old new before left answer → TakesOf old new before left answer
@@ -76,9 +76,9 @@ takes old new (Some before) (Some left) answer from = from
 pub takes_from : (old new : Reading) (before left : Option (List ℕ)) (answer : Result (Option Event) NextError)
     → TakesOf old new before left answer → Reads old new answer → TakesFrom old new before left answer
 unfolding TakesFrom Reads
-takes_from old new None left answer told any = any
-takes_from old new (Some before) None answer told any = elim told [ ]
-takes_from old new (Some before) (Some left) answer told any = told
+takes_from old new None left answer observed any = any
+takes_from old new (Some before) None answer observed any = elim observed [ ]
+takes_from old new (Some before) (Some left) answer observed any = observed
 
 -- both steps may take bytes
 pub then_takes : (old mid new : Reading) (answer : Result (Option Event) NextError) (before middle left : Option (List ℕ))

@@ -101,7 +101,7 @@ pub record Takes (old new : Reading) (taken left : List ℕ) (answer : Result (O
   pub after_end : old.ended ≡ true → (taken ≡ []) × (new.ended ≡ true)
   pub turn : (ended : Bool) (more : List ℕ) → MayFollow new ended more → IsTurn new ended more answer (turn_of old ended (taken ++ more))
 
--- the same of a source that tells its bytes, or not
+-- the same of a source that is observable, or not
 abbrev pub TakesOf : Reading → Reading → Option (List ℕ) → Option (List ℕ) → Result (Option Event) NextError → Type 0
 TakesOf old new None after answer = ⊤
 TakesOf old new (Some before) None answer = ⊥

@@ -27,7 +27,7 @@ abbrev pub after_step : {A : Type 0} → Result A NextError → Result (Option E
 after_step (Ok x) = Err NoMemory
 after_step (Err e) = Err e
 
--- there are bytes that a call took from a source, whether the source tells its bytes or not
+-- there are bytes that a call took from a source, whether the source is observable or not
 unfoldable pub TakesFrom : Reading → Reading → Option (List ℕ) → Option (List ℕ) → Result (Option Event) NextError → Type 0
 TakesFrom old new None after answer = (taken : List ℕ) × Takes old new taken [] answer
 TakesFrom old new (Some before) None answer = ⊥

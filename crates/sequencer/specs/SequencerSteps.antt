@@ -78,12 +78,12 @@ abbrev pub in_session : SequencerState → ℕ → SequencerState
 in_session s session = cond (nat_lt s.session session) (record s { session = session; next = 1 }) s
 
 -- a datagram is sent to a controller
-abbrev pub tell : ℕ → Datagram → List Out
-tell k d = Send (One (Controller k)) (spelling d) ∷ []
+abbrev pub to_controller : ℕ → Datagram → List Out
+to_controller k d = Send (One (Controller k)) (spelling d) ∷ []
 
 -- the controller is told the session that this sequencer has then, which may be a later one
 abbrev pub installed_in : SequencerState → ℕ → SequencerState × List Out
-installed_in s k = (s, tell k (datagrams.Installed k s.number s.session))
+installed_in s k = (s, to_controller k (datagrams.Installed k s.number s.session))
 
 abbrev pub install_if : Bool → SequencerState → ℕ → ℕ → SequencerState × List Out
 install_if true s k session = installed_in (in_session s session) k
@@ -95,7 +95,7 @@ install s k sequencer session = install_if (sequencer == s.number) s k session
 -- ---- a controller asks whether it is there
 
 abbrev pub ping_if : Bool → SequencerState → ℕ → ℕ → SequencerState × List Out
-ping_if true s k round = (s, tell k (datagrams.Pong k s.number round))
+ping_if true s k round = (s, to_controller k (datagrams.Pong k s.number round))
 ping_if false s k round = (s, [])
 
 abbrev pub ping : SequencerState → ℕ → ℕ → ℕ → SequencerState × List Out

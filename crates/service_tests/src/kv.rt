@@ -90,21 +90,21 @@ fn spelled(rt: &impl Abort, alloc: Global, letter: u8, fields: &[(u8, u64)]) -> 
 }
 
 /// The host gives this answer to an op.
-pub fn answers<H: Host>(rt: &impl Abort, host: &mut H, op: &[u8], told: &[u8]) -> bool {
+pub fn answers<H: Host>(rt: &impl Abort, host: &mut H, op: &[u8], expected: &[u8]) -> bool {
     let (answer, _undo) = host.apply(op).expect(rt, "memory");
-    answer.as_slice() == told
+    answer.as_slice() == expected
 }
 
 fn check_ops<H: Host>(rt: &impl Abort, host: &mut H) {
-    for (row, (op, told)) in OPS.iter().enumerate() {
-        assert!(rt; answers(rt, host, op, told), "row {row}");
+    for (row, (op, expected)) in OPS.iter().enumerate() {
+        assert!(rt; answers(rt, host, op, expected), "row {row}");
     }
 }
 
 fn check_long<H: Host>(rt: &impl Abort, alloc: Global, host: &mut H) {
-    for (row, (letter, fields, told)) in LONG.iter().enumerate() {
+    for (row, (letter, fields, expected)) in LONG.iter().enumerate() {
         let op = spelled(rt, alloc, *letter, fields);
-        assert!(rt; answers(rt, host, &op, told), "row {row}");
+        assert!(rt; answers(rt, host, &op, expected), "row {row}");
     }
 }
 

@@ -199,10 +199,10 @@ const FULL: [(u8, u16, &[u8], &[u8], bool); 18] = [
 fn check_full<H: Host>(rt: &impl Abort, alloc: Global) {
     let mut host = full::<H>(rt, alloc);
     let saved = host.save().expect(rt, "memory");
-    for (row, (letter, number, fields, told, is_undone)) in FULL.iter().enumerate() {
+    for (row, (letter, number, fields, expected, is_undone)) in FULL.iter().enumerate() {
         let op = op_of(rt, alloc, *letter, *number, fields);
         let (answer, undo) = host.apply(&op).expect(rt, "memory");
-        assert!(rt; answer.as_slice() == *told, "row {row}");
+        assert!(rt; answer.as_slice() == *expected, "row {row}");
         if *is_undone {
             host.undo(undo);
         }

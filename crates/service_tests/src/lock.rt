@@ -57,8 +57,8 @@ const OPS: [(&[u8], &[u8]); 42] = [
 
 fn check_ops<H: Host>(rt: &impl Abort, alloc: Global) {
     let mut host = H::fresh(alloc).expect(rt, "memory");
-    for (row, (op, told)) in OPS.iter().enumerate() {
-        assert!(rt; answers(rt, &mut host, op, told), "row {row}");
+    for (row, (op, expected)) in OPS.iter().enumerate() {
+        assert!(rt; answers(rt, &mut host, op, expected), "row {row}");
     }
 }
 
@@ -90,12 +90,12 @@ fn check_lengths<H: Host>(rt: &impl Abort, alloc: Global) {
         let mut op = Vec::from_slice(alloc, b"A").expect(rt, "memory");
         put_name(rt, *name, &mut op);
         put_name(rt, *owner, &mut op);
-        let told: &[u8] = if *granted {
+        let expected: &[u8] = if *granted {
             b"granted\0\0\0\0\0\0\0\x01"
         } else {
             b"bad"
         };
-        assert!(rt; answers(rt, &mut host, &op, told), "row {row}");
+        assert!(rt; answers(rt, &mut host, &op, expected), "row {row}");
     }
 }
 
@@ -264,10 +264,10 @@ fn one_more(rt: &impl Abort, alloc: Global, saved: &[u8]) -> Vec<u8> {
 
 fn check_full<H: Host>(rt: &impl Abort, alloc: Global) {
     let (mut host, mut loaded) = full::<H>(rt, alloc);
-    for (row, (letter, number, rest, told)) in FULL.iter().enumerate() {
+    for (row, (letter, number, rest, expected)) in FULL.iter().enumerate() {
         let op = op_of(rt, alloc, *letter, *number, rest);
-        assert!(rt; answers(rt, &mut host, &op, told), "row {row}");
-        assert!(rt; answers(rt, &mut loaded, &op, told), "row {row}");
+        assert!(rt; answers(rt, &mut host, &op, expected), "row {row}");
+        assert!(rt; answers(rt, &mut loaded, &op, expected), "row {row}");
     }
 }
 

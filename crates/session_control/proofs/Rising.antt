@@ -106,14 +106,14 @@ ticked_on s ticks.Resend = resent_on s.confirmed s
 ticked_on s (ticks.Install j) = ordered_on (nat_lt j s.config.sequencers) s j
 ticked_on s _ = same s
 
-told_on : (s : ControllerState) (d : Result Datagram Bad) → GoesOn s (on_datagram s d).0
-told_on s (Ok (datagrams.Pong controller sequencer round)) = heard_on _ s
-told_on s (Ok (datagrams.Installed controller sequencer session)) = installed_on (controller == s.number) s sequencer session
-told_on s _ = same s
+on_read : (s : ControllerState) (d : Result Datagram Bad) → GoesOn s (on_datagram s d).0
+on_read s (Ok (datagrams.Pong controller sequencer round)) = heard_on _ s
+on_read s (Ok (datagrams.Installed controller sequencer session)) = installed_on (controller == s.number) s sequencer session
+on_read s _ = same s
 
 pub goes_on : (s : ControllerState) (i : Given) → GoesOn s (next s i).0
 unfolding next
-goes_on s (Packet bytes) = told_on s (reading bytes)
+goes_on s (Packet bytes) = on_read s (reading bytes)
 goes_on s (Ticked tick) = ticked_on s tick
 goes_on s (Submit op) = same s
 

@@ -33,7 +33,7 @@ fn drained(peer: &UdpSocket) -> usize {
 }
 
 /// Whether a link takes the fragment with this count and this payload for a part.
-fn is_told(rt: &impl Abort, alloc: Global, count: u16, payload: &[u8]) -> bool {
+fn is_expected(rt: &impl Abort, alloc: Global, count: u16, payload: &[u8]) -> bool {
     let mut bytes = Vec::new(alloc);
     put_fragment(&mut bytes, 2, 0x0101, 0, count, payload).expect(rt, "memory");
     is_part(&bytes)
@@ -44,9 +44,11 @@ fn is_told(rt: &impl Abort, alloc: Global, count: u16, payload: &[u8]) -> bool {
 fn fragments_of_several_are_parts(rt: HostRuntime) {
     let alloc = rt.alloc();
     for count in [2, 3, 255, 256, 257, 4096u16] {
-        assert!(rt; is_told(&rt, alloc, count, b"x") && is_told(&rt, alloc, count, &[0; 1400]));
+        assert!(rt;
+            is_expected(&rt, alloc, count, b"x") && is_expected(&rt, alloc, count, &[0; 1400])
+        );
     }
-    assert!(rt; !is_told(&rt, alloc, 1, b"x") && !is_told(&rt, alloc, 1, &[2; 1400]));
+    assert!(rt; !is_expected(&rt, alloc, 1, b"x") && !is_expected(&rt, alloc, 1, &[2; 1400]));
     let request = Request {
         client: 0,
         id: 1,

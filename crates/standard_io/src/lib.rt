@@ -1,7 +1,7 @@
 //! Standard input as a `Source` and standard output as a `Sink`: `StandardIn` around any reader of
 //! std, `StandardOut` around any writer.
 //!
-//! Both meet the traits of `outside`. They hand on what std tells contracts of the content, and
+//! Both meet the traits of `outside`. They pass on what std tells contracts of the content, and
 //! count errors; a write that takes nothing of a piece is one. docs/THEOREMS.md says under "A run
 //! in a shell" what std tells of the real standard input and output.
 //!

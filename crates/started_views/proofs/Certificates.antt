@@ -21,30 +21,30 @@ use Rattle.log_merge.proofs.Kept.{greatest_in, greatest_most, kept_from, kept_ha
 -- ---- any certificate
 
 -- one of the changes is of the replica
-abbrev Told : List Change → ℕ → Type 0
-Told cs r = (c : Change) × Has cs c × (c.sender ≡ r)
+abbrev HasChangeOf : List Change → ℕ → Type 0
+HasChangeOf cs r = (c : Change) × Has cs c × (c.sender ≡ r)
 
 -- the replica had in w a log of which Q holds
 abbrev HadOne : Past → View → (List Entry → Type 0) → ℕ → Type 0
 HadOne past w Q r = (l : List Entry) × HadLog past r w l × Q l
 
-counted_has_told : (cs : List Change) (k : ℕ) → 1 ≤ counts k (map (λ c. c.sender) cs) → Told cs k
-counted_has_told [] k h = absurd (omega (arith, h))
-counted_has_told (c ∷ cs) k h =
+counted_has_change : (cs : List Change) (k : ℕ) → 1 ≤ counts k (map (λ c. c.sender) cs) → HasChangeOf cs k
+counted_has_change [] k h = absurd (omega (arith, h))
+counted_has_change (c ∷ cs) k h =
     elim (counts_cases k c.sender (map (λ d. d.sender) cs) h) [
       | inl e ↦ (c, Has-first c c cs refl, e)
-      | inr g ↦ let r = counted_has_told cs k g in (r.0, Has-rest r.0 c cs r.1, r.2)
+      | inr g ↦ let r = counted_has_change cs k g in (r.0, Has-rest r.0 c cs r.1, r.2)
     ]
 
 -- the senders are a quorum
-senders_are_quorum : (f : ℕ) (past : Past) (v : View) (cs : List Change) → Certificate f past v cs → Quorum f (Told cs)
+senders_are_quorum : (f : ℕ) (past : Past) (v : View) (cs : List Change) → Certificate f past v cs → Quorum f (HasChangeOf cs)
 senders_are_quorum f past v cs c =
     record {
       members = map (λ d. d.sender) cs;
       enough = omega (arith, c.enough, length-map cs (λ (d : Change). d.sender));
       once = c.once;
-      within = λ k h. let r = counted_has_told cs k h in subst (λ i. i < 2 * f + 1) r.2 (c.within r.0 r.1);
-      holds = λ k h. counted_has_told cs k h;
+      within = λ k h. let r = counted_has_change cs k h in subst (λ i. i < 2 * f + 1) r.2 (c.within r.0 r.1);
+      holds = λ k h. counted_has_change cs k h;
     }
 
 -- a quorum of logs of a view has one of a member
@@ -52,7 +52,7 @@ pub shared_member : (f : ℕ) (past : Past) (v w : View) (cs : List Change) (Q :
     → Quorum f (λ r. (l : List Entry) × HadLog past r w l × Q l)
     → (c : Change) × Has cs c × ((l : List Entry) × HadLog past c.sender w l × Q l)
 shared_member f past v w cs Q c q =
-    let r = quorums_share f (Told cs) (HadOne past w Q) (senders_are_quorum f past v cs c) q in
+    let r = quorums_share f (HasChangeOf cs) (HadOne past w Q) (senders_are_quorum f past v cs c) q in
     (r.2.0, r.2.1, (r.3.0, subst (λ i. HadLog past i w r.3.0) (sym r.2.2) r.3.1, r.3.2))
 
 some_member : (f : ℕ) (past : Past) (v : View) (cs : List Change) → Certificate f past v cs
@@ -71,7 +71,7 @@ module _ (f : ℕ) (stamps : List Stamped) (last_normal : ℕ → View) (past : 
           | inr g ↦
               let c = h.certificate v a.0 a.1 d in
               let k = h.certificate w b.0 b.1 g in
-              let r = quorums_share f (Told c.0) (Told k.0) (senders_are_quorum f past v c.0 c.1) (senders_are_quorum f past w k.0 k.1) in
+              let r = quorums_share f (HasChangeOf c.0) (HasChangeOf k.0) (senders_are_quorum f past v c.0 c.1) (senders_are_quorum f past w k.0 k.1) in
               let x = r.2.0 in
               let y = r.3.0 in
               let same : y.sender ≡ x.sender = r.3.2 ∙ sym r.2.2 in

@@ -30,7 +30,7 @@ accept_fixes f past w m s h =
       noops = λ k x is above le e. others_and_leader f w (HadNoOp past w k) (m, h.leads, e) (h.noops k x is above (below k le e) e);
     }
   where
-    -- no NO-OP stands in the slot of the request
+    -- no NO-OP is in the slot of the request
     below : (k : ℕ) → k ≤ s → slot_of m k ≡ Some NoOp → k < length m
     below k le e =
         elim (cases_lt k s) [

@@ -13,10 +13,10 @@ use Rattle.started_views.specs.Agreement.{SomeHas, AgreeOn}
 
 some_has_slot : (cs : List Change) (k : ℕ) (x : Entry) → SomeHas cs k x → (s : ℕ) × HasInSlot cs k s x
 some_has_slot cs k x (c, h, e) =
-    (c.sender, record { log = c.log; told = record { change = c; member = h; sender = refl; log = refl }; entry = e })
+    (c.sender, record { log = c.log; source = record { change = c; member = h; sender = refl; log = refl }; entry = e })
 
 slot_has_some : (cs : List Change) (k s : ℕ) (x : Entry) → HasInSlot cs k s x → SomeHas cs k x
-slot_has_some cs k s x h = (h.told.change, h.told.member, ap (λ (l : List Entry). slot_of l k) h.told.log ∙ h.entry)
+slot_has_some cs k s x h = (h.source.change, h.source.member, ap (λ (l : List Entry). slot_of l k) h.source.log ∙ h.entry)
 
 agreed_slot : (cs : List Change) (k : ℕ) (x : Entry) → AgreeOn cs k x → slot_of (merge cs) k ≡ Some x
 agreed_slot cs k x (inl (is, some)) = (noop_in_merge cs k).1 (some_has_slot cs k NoOp some) ∙ ap (λ (t : Entry). Some t) (sym is)

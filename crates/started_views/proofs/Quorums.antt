@@ -9,21 +9,21 @@ use Rattle.nop_types.specs.Views.{leader_of}
 use Rattle.started_views.specs.Quorums.{counts, Quorum, Others}
 
 -- how many of the numbers below n the list has, each as often as it stands there
-abbrev counted : ℕ → List ℕ → ℕ
-counted zero xs = 0
-counted (suc n) xs = counts n xs + counted n xs
+abbrev count_below : ℕ → List ℕ → ℕ
+count_below zero xs = 0
+count_below (suc n) xs = counts n xs + count_below n xs
 
-counted_more : (n x : ℕ) (xs : List ℕ) → counted n (x ∷ xs) ≡ cond (ltb x n) 1 0 + counted n xs
+counted_more : (n x : ℕ) (xs : List ℕ) → count_below n (x ∷ xs) ≡ cond (ltb x n) 1 0 + count_below n xs
 counted_more zero x xs = grind (arith, nat_tests)
 counted_more (suc n) x xs =
-    step (eqb x n) (ltb x n) (ltb x (suc n)) (grind (arith, nat_tests)) (counts n xs) (counted n xs) (counted n (x ∷ xs))
+    step (eqb x n) (ltb x n) (ltb x (suc n)) (grind (arith, nat_tests)) (counts n xs) (count_below n xs) (count_below n (x ∷ xs))
     (counted_more n x xs)
   where
     step : (a b c : Bool) → cond a 1 0 + cond b 1 0 ≡ cond c 1 0 → (m n k : ℕ) → k ≡ cond b 1 0 + n
         → cond a 1 0 + m + k ≡ cond c 1 0 + (m + n)
     step a b c e m n k f = omega (arith, e, f)
 
--- the first stands in its list
+-- the first is in its list
 pub counts_first : (x : ℕ) (xs : List ℕ) → 1 ≤ counts x (x ∷ xs)
 counts_first x xs = grind (arith, nat_tests)
 
@@ -33,21 +33,21 @@ counts_rest k x xs h = omega (arith, h)
 pub counts_cases : (k x : ℕ) (xs : List ℕ) → 1 ≤ counts k (x ∷ xs) → (x ≡ k) ⊎ (1 ≤ counts k xs)
 counts_cases k x xs h = grind (arith, nat_tests)
 
-all_counted : (n : ℕ) (xs : List ℕ) → ((k : ℕ) → 1 ≤ counts k xs → k < n) → counted n xs ≡ length xs
+all_counted : (n : ℕ) (xs : List ℕ) → ((k : ℕ) → 1 ≤ counts k xs → k < n) → count_below n xs ≡ length xs
 all_counted n [] h = none n
   where
-    none : (m : ℕ) → counted m [] ≡ 0
+    none : (m : ℕ) → count_below m [] ≡ 0
     none zero = refl
     none (suc m) = omega (arith, none m)
 all_counted n (x ∷ xs) h =
     counted_more n x xs ∙ rw (lt-ltb x n (h x (counts_first x xs)), all_counted n xs (λ k g. h k (counts_rest k x xs g))) (omega arith)
 
 -- where no number below n stands more than once in both lists together, they are no more than n
-counted_fit : (n : ℕ) (xs ys : List ℕ) → ((k : ℕ) → k < n → counts k xs + counts k ys ≤ 1) → counted n xs + counted n ys ≤ n
+counted_fit : (n : ℕ) (xs ys : List ℕ) → ((k : ℕ) → k < n → counts k xs + counts k ys ≤ 1) → count_below n xs + count_below n ys ≤ n
 counted_fit zero xs ys h = omega arith
 counted_fit (suc n) xs ys h = omega (arith, h n (omega arith), counted_fit n xs ys (λ k lt. h k (omega arith)))
 
--- a number below n that stands in both, or none does
+-- a number below n that is in both, or none does
 shared_or_apart : (n : ℕ) (xs ys : List ℕ) → ((k : ℕ) → counts k xs ≤ 1) → ((k : ℕ) → counts k ys ≤ 1)
     → ((k : ℕ) × (k < n) × (1 ≤ counts k xs) × (1 ≤ counts k ys)) ⊎ ((k : ℕ) → k < n → counts k xs + counts k ys ≤ 1)
 shared_or_apart zero xs ys p q = inr (λ k lt. absurd (omega (arith, lt)))

@@ -21,7 +21,7 @@ use Rattle.started_views.specs.Started.{Grounds}
 use Rattle.started_views.specs.Worked.{second_view, request_of, stamp_of, worked_stamps, leader_log, follower_log, second_start}
 use Rattle.started_views.specs.Worked.{worked_logs, worked_starts, worked_entries, worked_past, worked_last_normal}
 
--- what stands in slot 2 of replica 1: a NO-OP, or the request of that number
+-- what is in slot 2 of replica 1: a NO-OP, or the request of that number
 abbrev pub Second : Entry → Type 0
 Second x = (x ≡ NoOp) ⊎ (x ≡ Req (request_of 2))
 
@@ -111,7 +111,7 @@ stamped_is n k q (suc (suc (suc i)), e) = absurd cc
 stamped_once : (n k : ℕ) (a b : Request) → WasStamped worked_stamps n k a → WasStamped worked_stamps n k b → a ≡ b
 stamped_once n k a b h g = stamped_is n k a h ∙ sym (stamped_is n k b g)
 
--- each request of the log l stands in the slot of its number
+-- each request of the log l is in the slot of its number
 abbrev Numbered : View → Start → List Entry → Type 0
 Numbered w s l =
     (k : ℕ) (q : Request) → length s.log < k → slot_of l k ≡ Some (Req q)
@@ -143,7 +143,7 @@ numbered_at v w s t l m e g h n = rw (e, g, h) n
 
 -- ---- NO-OPs
 
--- each NO-OP of l stands in m too
+-- each NO-OP of l is in m too
 abbrev NoOpsIn : List Entry → List Entry → Type 0
 NoOpsIn m l = (k : ℕ) → slot_of l k ≡ Some NoOp → slot_of m k ≡ Some NoOp
 
@@ -158,17 +158,17 @@ noops_at m l k n e g h = rw (e, g) h
 
 -- ---- what the followers told
 
-abbrev told_by : ℕ → Entry → Change
-told_by r x = record { sender = r; last_normal = first_view; next = 3; sync_point = 0; log = follower_log x }
+abbrev change_of : ℕ → Entry → Change
+change_of r x = record { sender = r; last_normal = first_view; next = 3; sync_point = 0; log = follower_log x }
 
 abbrev changes : Entry → List Change
-changes x = told_by 1 x ∷ told_by 2 (Req (request_of 2)) ∷ []
+changes x = change_of 1 x ∷ change_of 2 (Req (request_of 2)) ∷ []
 
-change_cases : (x : Entry) (d : Change) → Has (changes x) d → (d ≡ told_by 1 x) ⊎ (d ≡ told_by 2 (Req (request_of 2)))
+change_cases : (x : Entry) (d : Change) → Has (changes x) d → (d ≡ change_of 1 x) ⊎ (d ≡ change_of 2 (Req (request_of 2)))
 change_cases x d h =
-    elim (Has-cases d (told_by 1 x) (told_by 2 (Req (request_of 2)) ∷ []) h) [
+    elim (Has-cases d (change_of 1 x) (change_of 2 (Req (request_of 2)) ∷ []) h) [
       | inl e ↦ inl e
-      | inr g ↦ elim (Has-cases d (told_by 2 (Req (request_of 2))) [] g) [ inl e ↦ inr e | inr n ↦ absurd (Has-none d n) ]
+      | inr g ↦ elim (Has-cases d (change_of 2 (Req (request_of 2))) [] g) [ inl e ↦ inr e | inr n ↦ absurd (Has-none d n) ]
     ]
 
 certified : (x : Entry) → Certificate 1 (worked_past x) second_view (changes x)

@@ -1,7 +1,7 @@
 -- Quorums of 2 f + 1 replicas, with their members as witnesses.
 use Rattle.std.specs.Prelude.{◌≡◌, ℕ, ◌+◌, ◌*◌, ◌<◌, ◌≤◌, List, [], ◌∷◌, length, ◌==◌, if◌then◌else◌}
 
--- how often a number stands in a list
+-- how often a number is in a list
 abbrev pub counts : ℕ → List ℕ → ℕ
 counts k [] = 0
 counts k (x ∷ xs) = (if x == k then 1 else 0) + counts k xs

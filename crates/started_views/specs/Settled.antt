@@ -26,7 +26,7 @@ Reached past w s r = (l : List Entry) × HadLog past r w l × (s ≤ length l)
 abbrev pub HadNoOp : Past → View → ℕ → ℕ → Type 0
 HadNoOp past w k r = (l : List Entry) × HadLog past r w l × (slot_of l k ≡ Some NoOp)
 
--- the first s slots of m, the log of the leader of w: a quorum has as many, and each NO-OP above the start of w stands in a quorum
+-- the first s slots of m, the log of the leader of w: a quorum has as many, and each NO-OP above the start of w is in a quorum
 pub record Fixed (f : ℕ) (past : Past) (w : View) (m : List Entry) (s : ℕ) : Type 0 where
   pub leads : LeaderHad f past w m
   pub within : s ≤ length m

@@ -4,7 +4,7 @@ use Rattle.nop_types.specs.declared.replica_state.Vote.{Vote}
 use Rattle.nop_types.specs.declared.replica_state.Vote.TheVariants.{Settled, Waiting}
 use Rattle.gap_agree.specs.Votes.{with_vote, vote_of}
 
--- a leader waits for votes: the length of the log that it told, and the replicas that voted for it
+-- a leader waits for votes: the length of the log that it sent, and the replicas that voted for it
 pub record Round : Type 0 where
   pub len : ℕ
   pub votes : List ℕ
@@ -31,7 +31,7 @@ abbrev pub begun : Bool → Synchronisation → ℕ → Synchronisation
 begun alone s len =
     cond alone (record s { sync_point = len; syncing = None }) (record s { syncing = Some (record { len = len; votes = [] }) })
 
--- a leader tells a log of this length: a round begins where that is longer than the sync point
+-- a leader sends a log of this length: a round begins where that is longer than the sync point
 abbrev pub with_round : Synchronisation → ℕ → Synchronisation
 with_round s len = cond (nat_lt s.sync_point len) (begun (s.f == 0) s len) s
 
@@ -61,8 +61,8 @@ counted_in s None q len = s
 counted_in s (Some x) q len = closed s (with_vote_for x q len) (round_vote s.f x q len)
 
 -- a leader counts the vote of the replica q for a length
-abbrev pub counted : Synchronisation → ℕ → ℕ → Synchronisation
-counted s q len = counted_in s s.syncing q len
+abbrev pub sync_vote_counted : Synchronisation → ℕ → ℕ → Synchronisation
+sync_vote_counted s q len = counted_in s s.syncing q len
 
 abbrev pub vote_in : ℕ → Option Round → ℕ → ℕ → Vote
 vote_in f None q len = Waiting

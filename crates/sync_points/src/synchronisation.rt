@@ -5,7 +5,7 @@ ghost use Rattle.sync_points.specs.Synchronisation.{
   with_round,
   raised,
   taken,
-  counted,
+  sync_vote_counted,
   vote_for,
   committed,
   commit_of,
@@ -40,7 +40,7 @@ impl Round {
 }
 
 /// A replica's sync point, and what moves it: at a follower the length of the longest log that it took from the leader of its
-/// view, at a leader the votes of the others for the log that it told them.
+/// view, at a leader the votes of the others for the log that it sent them.
 #[derive(Debug, Drop)]
 pub struct SyncPoints {
     f: u8,
@@ -92,7 +92,7 @@ impl SyncPoints {
         self.syncing = None;
     }
 
-    /// A leader tells a log of this length. Where it is longer than the sync point, a round without votes begins, in the place
+    /// A leader sends a log of this length. Where it is longer than the sync point, a round without votes begins, in the place
     /// of an earlier one; at `f` = 0, where no votes are needed, none begins, and the sync point is that length at once.
     pub fn prepare(&mut self, len: u32)
         ensures { self.new ≡ with_round self.old len }
@@ -129,7 +129,7 @@ impl SyncPoints {
     /// to that length, and no round is under way.
     pub fn on_rep(&mut self, sender: u8, len: u32) -> Vote
         requires { sender < MAX_REPLICAS }
-        ensures after { self.new ≡ counted self.old sender len }
+        ensures after { self.new ≡ sync_vote_counted self.old sender len }
         ensures vote { result ≡ vote_for self.old sender len }
     {
         let vote = match &mut self.syncing {

@@ -92,34 +92,34 @@ same_texts (x ∷ xs) (y ∷ ys) e =
     ap (λ (c : Cut). c.text ∷ xs) first ∙ ap (λ (zs : List (List ℕ)). y ∷ zs) (same_texts xs ys rest)
 
 -- a line behind some lines
-record Next (all front : List (List ℕ)) (cut : Cut) : Type 0 where
+record Next (all prefix : List (List ℕ)) (cut : Cut) : Type 0 where
   text : List ℕ
   behind : List (List ℕ)
-  are : all ≡ front ++ text ∷ behind
+  are : all ≡ prefix ++ text ∷ behind
   is : cut ≡ with_end text
 
-one_line_more : (x y : List ℕ) (all front : List (List ℕ)) (cut : Cut) → with_end x ≡ with_end y → Next all front cut
-    → Next (x ∷ all) (y ∷ front) cut
-one_line_more x y all front cut e n = record {
+one_line_more : (x y : List ℕ) (all prefix : List (List ℕ)) (cut : Cut) → with_end x ≡ with_end y → Next all prefix cut
+    → Next (x ∷ all) (y ∷ prefix) cut
+one_line_more x y all prefix cut e n = record {
   text = n.text;
   behind = n.behind;
   are = ap (λ (c : Cut). c.text ∷ all) e ∙ ap (λ (zs : List (List ℕ)). y ∷ zs) n.are;
   is = n.is;
 }
 
-next_line : (all front : List (List ℕ)) (cut : Cut) (rest : List Cut) → map with_end all ≡ map with_end front ++ cut ∷ rest → Next all front cut
+next_line : (all prefix : List (List ℕ)) (cut : Cut) (rest : List Cut) → map with_end all ≡ map with_end prefix ++ cut ∷ rest → Next all prefix cut
 next_line [] [] cut rest e = absurd cc
-next_line [] (y ∷ front) cut rest e = absurd cc
+next_line [] (y ∷ prefix) cut rest e = absurd cc
 next_line (x ∷ all) [] cut rest e =
     let first : with_end x ≡ cut = cc in record { text = x; behind = all; are = refl; is = sym first }
-next_line (x ∷ all) (y ∷ front) cut rest e =
+next_line (x ∷ all) (y ∷ prefix) cut rest e =
     let first : with_end x ≡ with_end y = cc in
-    let later : map with_end all ≡ map with_end front ++ cut ∷ rest = cc in
-    one_line_more x y all front cut first (next_line all front cut rest later)
+    let later : map with_end all ≡ map with_end prefix ++ cut ∷ rest = cc in
+    one_line_more x y all prefix cut first (next_line all prefix cut rest later)
 
-line_there : (front : List (List ℕ)) (text : List ℕ) (behind : List (List ℕ)) → AllLines (front ++ text ∷ behind) → IsLine text
+line_there : (prefix : List (List ℕ)) (text : List ℕ) (behind : List (List ℕ)) → AllLines (prefix ++ text ∷ behind) → IsLine text
 line_there [] text behind all = all.0
-line_there (x ∷ front) text behind all = line_there front text behind all.1
+line_there (x ∷ prefix) text behind all = line_there prefix text behind all.1
 
 -- ---- lists of rows
 
@@ -135,15 +135,15 @@ same_rows (x ∷ xs) (y ∷ ys) fit_x fit_y e =
     let rest : map row_text xs ≡ map row_text ys = cc in
     ap (λ (r : Row). r ∷ xs) (one_row x y fit_x.0 fit_y.0 first) ∙ ap (λ (zs : List Row). y ∷ zs) (same_rows xs ys fit_x.1 fit_y.1 rest)
 
-record NextRow (all front : List Row) (text : List ℕ) : Type 0 where
+record NextRow (all prefix : List Row) (text : List ℕ) : Type 0 where
   row : Row
   behind : List Row
-  are : all ≡ front ++ row ∷ behind
+  are : all ≡ prefix ++ row ∷ behind
   fits : RowFits row
   is : row_text row ≡ whole text
 
-one_row_more : (x y : Row) (all front : List Row) (text : List ℕ) → x ≡ y → NextRow all front text → NextRow (x ∷ all) (y ∷ front) text
-one_row_more x y all front text e n = record {
+one_row_more : (x y : Row) (all prefix : List Row) (text : List ℕ) → x ≡ y → NextRow all prefix text → NextRow (x ∷ all) (y ∷ prefix) text
+one_row_more x y all prefix text e n = record {
   row = n.row;
   behind = n.behind;
   are = ap (λ (r : Row). r ∷ all) e ∙ ap (λ (zs : List Row). y ∷ zs) n.are;
@@ -151,16 +151,16 @@ one_row_more x y all front text e n = record {
   is = n.is;
 }
 
-next_row : (all front : List Row) (text : List ℕ) (rest : List (List ℕ)) → AllFit all → AllFit front
-    → map row_text all ≡ map row_text front ++ whole text ∷ rest → NextRow all front text
-next_row [] [] text rest fit_all fit_front e = absurd cc
-next_row [] (y ∷ front) text rest fit_all fit_front e = absurd cc
-next_row (x ∷ all) [] text rest fit_all fit_front e =
+next_row : (all prefix : List Row) (text : List ℕ) (rest : List (List ℕ)) → AllFit all → AllFit prefix
+    → map row_text all ≡ map row_text prefix ++ whole text ∷ rest → NextRow all prefix text
+next_row [] [] text rest fit_all fit_prefix e = absurd cc
+next_row [] (y ∷ prefix) text rest fit_all fit_prefix e = absurd cc
+next_row (x ∷ all) [] text rest fit_all fit_prefix e =
     let first : row_text x ≡ whole text = cc in record { row = x; behind = all; are = refl; fits = fit_all.0; is = first }
-next_row (x ∷ all) (y ∷ front) text rest fit_all fit_front e =
+next_row (x ∷ all) (y ∷ prefix) text rest fit_all fit_prefix e =
     let first : row_text x ≡ row_text y = cc in
-    let later : map row_text all ≡ map row_text front ++ whole text ∷ rest = cc in
-    one_row_more x y all front text (one_row x y fit_all.0 fit_front.0 first) (next_row all front text rest fit_all.1 fit_front.1 later)
+    let later : map row_text all ≡ map row_text prefix ++ whole text ∷ rest = cc in
+    one_row_more x y all prefix text (one_row x y fit_all.0 fit_prefix.0 first) (next_row all prefix text rest fit_all.1 fit_prefix.1 later)
 
 -- ---- nothing is refused
 

@@ -1,4 +1,4 @@
 pub mod RowLines
 pub mod RowTexts
-pub mod Told
+pub mod LineRows
 pub mod Wholes

@@ -1,4 +1,4 @@
--- The line of a row has as few bytes as a line may have, and no line end stands in it.
+-- The line of a row has as few bytes as a line may have, and no line end is in it.
 use Rattle.std.proofs.Common.{◌≡◌, ◌∙◌, ℕ, ◌+◌, ◌<◌, ◌≤◌, Bool, true, false, List, [], ◌∷◌, ◌++◌, length, refl, arith, length-append, codes, decimal}
 use Rattle.std.proofs.Common.{nat_lt, nat_le, ◌^◌}
 use Rattle.std.specs.Prelude.{◌==◌, if◌then◌else◌}
@@ -152,7 +152,7 @@ word_short _ = omega arith
 
 -- ---- lines
 
--- it is no longer than a line may be, and no line end stands in it
+-- it is no longer than a line may be, and no line end is in it
 pub record IsLine (text : List ℕ) : Type 0 where
   pub short : length text ≤ MAX_LINE_BYTES
   pub inside : list_all is_inside text ≡ true

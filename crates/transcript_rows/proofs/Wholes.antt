@@ -11,10 +11,10 @@ matched false p f g = λ q. p (g q)
 pub by_end : (text line : List ℕ) (b : Bool) → take (length line) text ≡ line
     → MatchBool b (drop (length line) text ≡ 10 ∷ []) (drop (length line) text ≡ 10 ∷ [] → ⊥)
     → MatchBool b (text ≡ line ++ 10 ∷ []) (text ≡ line ++ 10 ∷ [] → ⊥)
-by_end text line b front end =
+by_end text line b prefix end =
     matched b end
-    (λ e. sym (take-append-drop (length line) text) ∙ ap (λ (xs : List ℕ). xs ++ drop (length line) text) front ∙ ap (λ (xs : List ℕ). line ++ xs) e)
+    (λ e. sym (take-append-drop (length line) text) ∙ ap (λ (xs : List ℕ). xs ++ drop (length line) text) prefix ∙ ap (λ (xs : List ℕ). line ++ xs) e)
     (λ e. ap (drop (length line)) e ∙ drop-append_seam line (10 ∷ []))
 
-pub front_is : (text line : List ℕ) → text ≡ line ++ 10 ∷ [] → take (length line) text ≡ line
-front_is text line e = ap (take (length line)) e ∙ take-append_seam line (10 ∷ [])
+pub prefix_is : (text line : List ℕ) → text ≡ line ++ 10 ∷ [] → take (length line) text ≡ line
+prefix_is text line e = ap (take (length line)) e ∙ take-append_seam line (10 ∷ [])

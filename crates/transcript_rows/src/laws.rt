@@ -3,7 +3,7 @@ ghost use Rattle.line_fields.specs.Fields.{fields};
 ghost use Rattle.nop_types.specs.Lines.{Line};
 ghost use Rattle.transcript_rows.specs.Reading.{row_of_fields};
 ghost use Rattle.transcript_rows.specs.Rows.{RowFits, row_text};
-ghost use Rattle.transcript_rows.specs.Told.{row_of};
+ghost use Rattle.transcript_rows.specs.LineRows.{row_of};
 ghost use Rattle.transcript_rows.specs.declared.row.Row.{Row};
 ghost use Rattle.transcript_text.specs.Transcript.{line_text};
 
@@ -15,6 +15,6 @@ pub fn written_rows_are_read()
 {}
 
 /// What is written of an event in a run is the text of a row.
-pub fn told_lines_are_rows()
+pub fn lines_are_rows()
     ensures { (line : Line) → row_text (row_of line) ≡ line_text line }
 {}

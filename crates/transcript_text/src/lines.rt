@@ -169,7 +169,7 @@ fn request_line(replica: u8, slot: u32, request: &Request, to: &mut Vec<u8>) -> 
     write_line("entry", &fields, to)
 }
 
-/// What stands in a slot of a replica's log.
+/// What is in a slot of a replica's log.
 pub fn entry_line(replica: u8, slot: u32, entry: &Entry, to: &mut Vec<u8>) -> Result<(), NoMemory>
     ensures ok { OnOk result (to.new.items ≡ to.old.items
         ++ texts.entry_line replica slot entry.now) }

@@ -8,12 +8,12 @@ use Rattle.nop_types.specs.PlainChanges as plain
 use Rattle.nop_types.specs.Views.{outranks, is_view}
 use Rattle.nop_types.specs.declared.peer.Change.{Change}
 use Rattle.nop_types.specs.declared.view.View.{View}
-use Rattle.log_merge.specs.Merging.{kept_told, merged}
+use Rattle.log_merge.specs.Merging.{kept_changes, merged}
 use Rattle.log_merge.specs.Starting.{greatest, greatest_next, start_of}
 use Rattle.trimming.specs.Merging.{trim_change, Agree}
 use Rattle.trimming.specs.Trimming.{trim}
 use Rattle.trimming.proofs.Merging.{merges_trim}
-use Rattle.view_change.specs.Gathering.{Gathering, teller, has_sender, with_change, counted}
+use Rattle.view_change.specs.Gathering.{Gathering, change_sender, has_sender, with_change, change_added}
 use Rattle.trimmed_rows.specs.Trimmed.{trimmed_gathering}
 
 module _ {S : Type 0} (m : Meaning S) where
@@ -36,7 +36,7 @@ module _ {S : Type 0} (m : Meaning S) where
       on true e = ap (λ (t : List Change). tc c ∷ t) e
       on false e = e
 
-  kept_trims : (cs : List Change) → kept_told (map tc cs) ≡ map tc (kept_told cs)
+  kept_trims : (cs : List Change) → kept_changes (map tc cs) ≡ map tc (kept_changes cs)
   kept_trims cs =
       ap (λ (w : View). filter (λ (c : Change). is_view c.last_normal w) (map tc cs)) (greatest_trims cs)
       ∙ filter_trims (greatest (map plain cs)) cs
@@ -64,12 +64,12 @@ module _ {S : Type 0} (m : Meaning S) where
       (greatest_next (filter (λ (c : plain.Change). is_view c.last_normal u) (map plain (map tc cs)))) 1) (greatest_trims cs)
       ∙ ap (λ (n : ℕ). cond ((greatest (map plain cs)).session == w.session) n 1) (kept_next (greatest (map plain cs)) cs)
 
-  pub start_trims : (cs : List Change) → Agree (kept_told cs) → merged Trimmed (kept_told (map tc cs)) ≡ trim m (merged Whole (kept_told cs))
-  start_trims cs agree = ap (merged Trimmed) (kept_trims cs) ∙ merges_trim m (kept_told cs) agree
+  pub start_trims : (cs : List Change) → Agree (kept_changes cs) → merged Trimmed (kept_changes (map tc cs)) ≡ trim m (merged Whole (kept_changes cs))
+  start_trims cs agree = ap (merged Trimmed) (kept_trims cs) ∙ merges_trim m (kept_changes cs) agree
 
   -- ---- a change is kept
 
-  sender_trims : (cs : List Change) (q : ℕ) → has_sender teller (map tc cs) q ≡ has_sender teller cs q
+  sender_trims : (cs : List Change) (q : ℕ) → has_sender change_sender (map tc cs) q ≡ has_sender change_sender cs q
   sender_trims [] q = refl
   sender_trims (c ∷ cs) q = ap (λ (b : Bool). (c.sender == q) || b) (sender_trims cs q)
 
@@ -77,14 +77,14 @@ module _ {S : Type 0} (m : Meaning S) where
   map_push [] c = refl
   map_push (d ∷ cs) c = ap (λ (t : List Change). tc d ∷ t) (map_push cs c)
 
-  with_trims : (cs : List Change) (c : Change) → with_change teller (map tc cs) (tc c) ≡ map tc (with_change teller cs c)
+  with_trims : (cs : List Change) (c : Change) → with_change change_sender (map tc cs) (tc c) ≡ map tc (with_change change_sender cs c)
   with_trims cs c =
-      ap (λ (b : Bool). cond b (map tc cs) (map tc cs ++ tc c ∷ [])) (sender_trims cs c.sender) ∙ on (has_sender teller cs c.sender)
+      ap (λ (b : Bool). cond b (map tc cs) (map tc cs ++ tc c ∷ [])) (sender_trims cs c.sender) ∙ on (has_sender change_sender cs c.sender)
     where
       on : (b : Bool) → cond b (map tc cs) (map tc cs ++ tc c ∷ []) ≡ map tc (cond b cs (cs ++ c ∷ []))
       on true = refl
       on false = map_push cs c
 
   pub counted_trims : (g : Gathering Change) (c : Change)
-      → counted teller (trimmed_gathering m g) (tc c) ≡ trimmed_gathering m (counted teller g c)
+      → change_added change_sender (trimmed_gathering m g) (tc c) ≡ trimmed_gathering m (change_added change_sender g c)
   counted_trims g c = ap (λ (cs : List Change). record g { changes = cs }) (with_trims g.changes c)

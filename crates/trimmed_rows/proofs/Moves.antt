@@ -22,7 +22,7 @@ use Rattle.nop_types.specs.Logs.{Log, Whole, Trimmed, whole, IsWithin, length_of
 use Rattle.nop_types.specs.Meaning.{Meaning}
 use Rattle.nop_types.specs.PlainChanges.{plain}
 use Rattle.gap_agree.specs.Votes.{with_vote}
-use Rattle.log_merge.specs.Merging.{kept_told, merged}
+use Rattle.log_merge.specs.Merging.{kept_changes, merged}
 use Rattle.log_merge.specs.Starting.{start_of}
 use Rattle.oum_receiver.specs.Front.{Front, Nothing, Message, Dropped}
 use Rattle.oum_receiver.specs.Receiving.{advanced, front_taken, front_of}
@@ -40,14 +40,14 @@ use Rattle.replica_state.specs.declared.sending.Sending.{Sending}
 use Rattle.replica_state.specs.declared.sending.Sending.TheVariants.{Trims}
 use Rattle.replica_state.specs.declared.state.ReplicaState.{ReplicaState}
 use Rattle.replica_state.specs.Moves as moves
-use Rattle.replica_state.specs.Moves.{entered, enter, enter_as, change_told, left, listening_from, hear, start_len}
+use Rattle.replica_state.specs.Moves.{entered, enter, enter_as, change_sent, left, listening_from, hear, start_len}
 use Rattle.replica_state.specs.Replies as replies
 use Rattle.replica_state.specs.Sends.{Effect, still, then_do, when, to_all, to_replica, to_leader}
 use Rattle.replica_state.specs.State as state
-use Rattle.replica_state.specs.State.{PointsMeet, others, leads, waits, is_normal, has_risen, has_room, drains}
+use Rattle.replica_state.specs.State.{PointsMeet, max_faults, leads, waits, is_normal, may_trim, has_room, drains}
 use Rattle.replica_state.specs.Repeating as repeating
 use Rattle.replica_rows.specs.Rows as rows
-use Rattle.replica_rows.specs.Rows.{raise_and_drain}
+use Rattle.replica_rows.specs.Rows.{trim_and_drain}
 use Rattle.trimmed_rows.specs.Premises.{PointsWithin, Opens}
 use Rattle.trimmed_rows.specs.Trimmed.{trimmed_sending, trimmed_gathering}
 use Rattle.trimmed_rows.proofs.Composing.{Stands, st, ts, ef, Goes, map-both, still_goes, then_goes, then_same, when_goes, all_trims}
@@ -97,14 +97,14 @@ module _ {S : Type 0} (m : Meaning S) where
       record {
         same =
             ap (λ (u : ReplicaState). (
-              record u { gap = state.waiting_in (length_of Trimmed (st m s).log + 1) (others s) },
+              record u { gap = state.waiting_in (length_of Trimmed (st m s).log + 1) (max_faults s) },
               to_all (st m s) (bodies.GapCommit (length_of Trimmed (st m s).log + 1)),
             )) (appended_trims s NoOp h)
             ∙ ap (λ (k : ℕ). (
-              record (st m (moves.appended s NoOp)) { gap = state.waiting_in (k + 1) (others s) },
+              record (st m (moves.appended s NoOp)) { gap = state.waiting_in (k + 1) (max_faults s) },
               to_all (st m s) (bodies.GapCommit (k + 1)),
             )) (length_trims m s.log h.within)
-            ∙ ap (λ (xs : List Sending). (st m (moves.gap_opened Whole s), xs)) (all_trims m (others s == 0) s (bodies.GapCommit (n + 1)));
+            ∙ ap (λ (xs : List Sending). (st m (moves.gap_opened Whole s), xs)) (all_trims m (max_faults s == 0) s (bodies.GapCommit (n + 1)));
         stands =
             record { within = appended_within s.log NoOp h.within; points = h.points };
       }
@@ -138,10 +138,10 @@ module _ {S : Type 0} (m : Meaning S) where
   -- ---- a greater view is entered
 
   enter_as_trims : (b : Bool) (s : ReplicaState) → enter_as b (st m s) ≡ ef m (enter_as b s)
-  enter_as_trims true s = ap (λ (xs : List Sending). (st m (enter_as true s).0, xs)) (all_trims m (others s == 0) s bodies.ViewChangeReq)
+  enter_as_trims true s = ap (λ (xs : List Sending). (st m (enter_as true s).0, xs)) (all_trims m (max_faults s == 0) s bodies.ViewChangeReq)
   enter_as_trims false s =
-      ap (λ (xs : List Sending). (st m s, xs ++ change_told (st m s))) (all_trims m (others s == 0) s bodies.ViewChangeReq)
-      ∙ ap (λ (xs : List Sending). (st m s, xs)) (sym (map-both (trimmed_sending m) (to_all s bodies.ViewChangeReq) (change_told s)))
+      ap (λ (xs : List Sending). (st m s, xs ++ change_sent (st m s))) (all_trims m (max_faults s == 0) s bodies.ViewChangeReq)
+      ∙ ap (λ (xs : List Sending). (st m s, xs)) (sym (map-both (trimmed_sending m) (to_all s bodies.ViewChangeReq) (change_sent s)))
 
   enter_as_stands : (b : Bool) (s : ReplicaState) → Stands s → Stands (enter_as b s).0
   enter_as_stands true s h = record { within = h.within; points = h.points }
@@ -219,15 +219,15 @@ module _ {S : Type 0} (m : Meaning S) where
             h;
       }
 
-  pub tell_synced_goes : (s : ReplicaState) (q : ℕ) → Stands s → Goes m (moves.tell_synced Trimmed (st m s) q) (moves.tell_synced Whole s q)
-  tell_synced_goes s q h = record {
+  pub send_synced_goes : (s : ReplicaState) (q : ℕ) → Stands s → Goes m (moves.send_synced Trimmed (st m s) q) (moves.send_synced Whole s q)
+  send_synced_goes s q h = record {
     same = ap (λ (l : Log). (st m s, to_replica (st m s) q (bodies.SyncPrepare l))) (first_trims m s.log s.sync.sync_point (omega (arith, h.points)));
     stands = h;
   }
 
   pub repeat_goes : (s : ReplicaState) → Stands s → Goes m (moves.repeat_commit (st m s)) (moves.repeat_commit s)
   repeat_goes s h = record {
-    same = ap (λ (xs : List Sending). (st m s, xs)) (all_trims m (others s == 0) s (bodies.SyncCommit s.sync.sync_point));
+    same = ap (λ (xs : List Sending). (st m s, xs)) (all_trims m (max_faults s == 0) s (bodies.SyncCommit s.sync.sync_point));
     stands = h;
   }
 
@@ -297,7 +297,7 @@ module _ {S : Type 0} (m : Meaning S) (IsSound : S → Type 0) (keeps : KeepsTo 
             appended_stands m s (Req r) h;
       }
 
-  -- ---- what stands in front is taken
+  -- ---- what is in front is taken
 
   drain_by_goes : (n : ℕ) (s : ReplicaState) → Stands s → Goes m (moves.drain_by m Trimmed n (st m s)) (moves.drain_by m Whole n s)
   drain_by_goes zero s h = still_goes m s h
@@ -363,7 +363,7 @@ module _ {S : Type 0} (m : Meaning S) (IsSound : S → Type 0) (keeps : KeepsTo 
   open_with_goes s x l g h =
       then_goes m (st m s, to_all (st m s) (bodies.StartView x (trim m l))) (s, to_all s (bodies.StartView x l))
       (λ t. moves.adopt m Trimmed t t.view x (trim m l)) (λ t. moves.adopt m Whole t t.view x l)
-      (record { same = ap (λ (xs : List Sending). (st m s, xs)) (all_trims m (others s == 0) s (bodies.StartView x l)); stands = h })
+      (record { same = ap (λ (xs : List Sending). (st m s, xs)) (all_trims m (max_faults s == 0) s (bodies.StartView x l)); stands = h })
       (λ f. adopt_goes s s.view x l g f)
 
   pub open_goes : (o : Option (Gathering Change)) (s : ReplicaState) → ((g : Gathering Change) → o ≡ Some g → Opens g) → Stands s
@@ -375,11 +375,11 @@ module _ {S : Type 0} (m : Meaning S) (IsSound : S → Type 0) (keeps : KeepsTo 
       let enough : g.f < length g.changes = grind (arith, nat_tests, e) in
       let good = opens g refl enough in
       let x : ℕ = (start_of g.view (map plain g.changes)).next in
-      let l : Log = merged Whole (kept_told g.changes) in
+      let l : Log = merged Whole (kept_changes g.changes) in
       let r = open_with_goes s x l good.within h in
       record {
         same =
-            ap (λ (n : ℕ). moves.open_with m Trimmed (st m s) n (merged Trimmed (kept_told (map (trim_change m) g.changes))))
+            ap (λ (n : ℕ). moves.open_with m Trimmed (st m s) n (merged Trimmed (kept_changes (map (trim_change m) g.changes))))
             (next_trims m g.view g.changes)
             ∙ ap (moves.open_with m Trimmed (st m s) x) (start_trims m g.changes good.agree)
             ∙ r.same;
@@ -418,35 +418,35 @@ module _ {S : Type 0} (m : Meaning S) (IsSound : S → Type 0) (keeps : KeepsTo 
 
   -- ---- the sync point rises
 
-  risen_trims : (s : ReplicaState) → s.log.sync_point ≤ s.sync.sync_point → 0 < s.sync.sync_point
-      → moves.risen m Trimmed (st m s) ≡ st m (moves.risen m Whole s)
-  risen_trims s low some = ap (λ (l : Log). record (st m s) { log = l }) (raise_trims m IsSound keeps s.log s.sync.sync_point low some)
+  log_trimmed_trims : (s : ReplicaState) → s.log.sync_point ≤ s.sync.sync_point → 0 < s.sync.sync_point
+      → moves.log_trimmed m Trimmed (st m s) ≡ st m (moves.log_trimmed m Whole s)
+  log_trimmed_trims s low some = ap (λ (l : Log). record (st m s) { log = l }) (raise_trims m IsSound keeps s.log s.sync.sync_point low some)
 
-  risen_stands : (s : ReplicaState) → s.sync.sync_point ≤ length s.log.entries → Stands (moves.risen m Whole s)
-  risen_stands s most = record { within = most; points = refl }
+  log_trimmed_stands : (s : ReplicaState) → s.sync.sync_point ≤ length s.log.entries → Stands (moves.log_trimmed m Whole s)
+  log_trimmed_stands s most = record { within = most; points = refl }
 
-  raise_goes : (s : ReplicaState) → s.log.sync_point < s.sync.sync_point → s.sync.sync_point ≤ length s.log.entries
-      → Goes m (moves.raise m Trimmed (st m s)) (moves.raise m Whole s)
-  raise_goes s less most = record {
+  trim_goes : (s : ReplicaState) → s.log.sync_point < s.sync.sync_point → s.sync.sync_point ≤ length s.log.entries
+      → Goes m (moves.trim m Trimmed (st m s)) (moves.trim m Whole s)
+  trim_goes s less most = record {
     same =
-        ap (λ (u : ReplicaState). (u, Trims (s.log.sync_point + 1) (moves.passed_entries Trimmed (st m s)) ∷ []))
-        (risen_trims s (omega (arith, less)) (omega (arith, less)))
-        ∙ ap (λ (es : List Entry). (st m (moves.risen m Whole s), Trims (s.log.sync_point + 1) (whole 0 es) ∷ []))
+        ap (λ (u : ReplicaState). (u, Trims (s.log.sync_point + 1) (moves.trimmed_entries Trimmed (st m s)) ∷ []))
+        (log_trimmed_trims s (omega (arith, less)) (omega (arith, less)))
+        ∙ ap (λ (es : List Entry). (st m (moves.log_trimmed m Whole s), Trims (s.log.sync_point + 1) (whole 0 es) ∷ []))
         (between_trims m s.log s.sync.sync_point);
-    stands = risen_stands s most;
+    stands = log_trimmed_stands s most;
   }
 
   -- of votes the log knows only once its sync point rises
-  pub raise_and_drain_goes : (s : ReplicaState) → s.log.sync_point ≤ s.sync.sync_point → s.sync.sync_point ≤ length s.log.entries
-      → Goes m (raise_and_drain m Trimmed (st m s)) (raise_and_drain m Whole s)
-  raise_and_drain_goes s low most = on (has_risen s) refl
+  pub trim_and_drain_goes : (s : ReplicaState) → s.log.sync_point ≤ s.sync.sync_point → s.sync.sync_point ≤ length s.log.entries
+      → Goes m (trim_and_drain m Trimmed (st m s)) (trim_and_drain m Whole s)
+  trim_and_drain_goes s low most = on (may_trim s) refl
     where
-      on : (b : Bool) → has_risen s ≡ b
-          → Goes m (when b (λ t. then_do (moves.raise m Trimmed t) (moves.drain m Trimmed)) (st m s))
-          (when b (λ t. then_do (moves.raise m Whole t) (moves.drain m Whole)) s)
+      on : (b : Bool) → may_trim s ≡ b
+          → Goes m (when b (λ t. then_do (moves.trim m Trimmed t) (moves.drain m Trimmed)) (st m s))
+          (when b (λ t. then_do (moves.trim m Whole t) (moves.drain m Whole)) s)
       on true is =
           let less : s.log.sync_point < s.sync.sync_point = grind (arith, nat_tests, is) in
-          drained (moves.raise m Trimmed (st m s)) (moves.raise m Whole s) (raise_goes s less most)
+          drained (moves.trim m Trimmed (st m s)) (moves.trim m Whole s) (trim_goes s less most)
       on false is =
           let high : s.sync.sync_point ≤ s.log.sync_point = grind (arith, nat_tests, is) in
           still_goes m s (record { within = omega (arith, low, high, most); points = omega (arith, low, high) })
@@ -458,26 +458,26 @@ module _ {S : Type 0} (m : Meaning S) (IsSound : S → Type 0) (keeps : KeepsTo 
   sync_commit_goes n s h = on (nat_le n s.sync.prepared) refl
     where
       on : (b : Bool) → nat_le n s.sync.prepared ≡ b
-          → Goes m (then_do (when b (λ t. moves.obey (hear t) n) (st m s)) (raise_and_drain m Trimmed))
-          (then_do (when b (λ t. moves.obey (hear t) n) s) (raise_and_drain m Whole))
+          → Goes m (then_do (when b (λ t. moves.obey (hear t) n) (st m s)) (trim_and_drain m Trimmed))
+          (then_do (when b (λ t. moves.obey (hear t) n) s) (trim_and_drain m Whole))
       on true is =
           let few : n ≤ s.sync.prepared = grind (arith, nat_tests, is) in
           let u : ReplicaState = record (hear s) { sync = committed s.sync n } in
           let point : u.sync.sync_point ≡ max s.sync.sync_point n = ap (λ (b : Bool). (cond b (record s.sync { sync_point = max s.sync.sync_point n }) s.sync).sync_point) is in
-          let r = raise_and_drain_goes u (omega (arith, h.points, point)) (omega (arith, point, few, h.prepared, h.sync_point)) in
+          let r = trim_and_drain_goes u (omega (arith, h.points, point)) (omega (arith, point, few, h.prepared, h.sync_point)) in
           record {
-            same = then_same m (still (st m u)) (still u) (raise_and_drain m Trimmed) (raise_and_drain m Whole) refl r.same;
+            same = then_same m (still (st m u)) (still u) (trim_and_drain m Trimmed) (trim_and_drain m Whole) refl r.same;
             stands = r.stands;
           }
       on false is =
-          let r = raise_and_drain_goes s (omega (arith, h.points)) h.sync_point in
+          let r = trim_and_drain_goes s (omega (arith, h.points)) h.sync_point in
           record {
-            same = then_same m (still (st m s)) (still s) (raise_and_drain m Trimmed) (raise_and_drain m Whole) refl r.same;
+            same = then_same m (still (st m s)) (still s) (trim_and_drain m Trimmed) (trim_and_drain m Whole) refl r.same;
             stands = r.stands;
           }
 
   commit_trims : (s : ReplicaState) (n : ℕ) (w : Vote) → moves.commit_if (st m s) n w ≡ ts m (moves.commit_if s n w)
-  commit_trims s n Settled = all_trims m (others s == 0) s (bodies.SyncCommit n)
+  commit_trims s n Settled = all_trims m (max_faults s == 0) s (bodies.SyncCommit n)
   commit_trims s n Waiting = refl
 
   -- where a vote leaves the sync point
@@ -497,14 +497,14 @@ module _ {S : Type 0} (m : Meaning S) (IsSound : S → Type 0) (keeps : KeepsTo 
   pub sync_reply_goes : (q n : ℕ) (s : ReplicaState) → PointsWithin s → Goes m (rows.sync_reply m Trimmed q n (st m s)) (rows.sync_reply m Whole q n s)
   unfolding rows.sync_reply
   sync_reply_goes q n s h =
-      let u : ReplicaState = record s { sync = synchronisation.counted s.sync q n } in
+      let u : ReplicaState = record s { sync = synchronisation.sync_vote_counted s.sync q n } in
       let d : Effect = (st m u, moves.commit_if (st m s) n (vote_for s.sync q n)) in
       let e : Effect = (u, moves.commit_if s n (vote_for s.sync q n)) in
       let points = voted s.sync.f s.sync s.sync.syncing q n (length s.log.entries) h.sync_point (λ x e. (h.round x e).1) in
-      let r = raise_and_drain_goes u (omega (arith, h.points, points.0)) points.1 in
+      let r = trim_and_drain_goes u (omega (arith, h.points, points.0)) points.1 in
       record {
         same =
-            then_same m d e (raise_and_drain m Trimmed) (raise_and_drain m Whole)
+            then_same m d e (trim_and_drain m Trimmed) (trim_and_drain m Whole)
             (ap (λ (xs : List Sending). (st m u, xs)) (commit_trims s n (vote_for s.sync q n))) r.same;
         stands = r.stands;
       }
@@ -512,20 +512,20 @@ module _ {S : Type 0} (m : Meaning S) (IsSound : S → Type 0) (keeps : KeepsTo 
   -- ---- the tick Sync
 
   open_sync_goes : (s : ReplicaState) → PointsWithin s → s.sync.sync_point < length s.log.entries
-      → Goes m (then_do (moves.open_sync Trimmed (st m s)) (raise_and_drain m Trimmed))
-      (then_do (moves.open_sync Whole s) (raise_and_drain m Whole))
+      → Goes m (then_do (moves.open_sync Trimmed (st m s)) (trim_and_drain m Trimmed))
+      (then_do (moves.open_sync Whole s) (trim_and_drain m Whole))
   open_sync_goes s h less =
       let top : ℕ = length s.log.entries in
       let u : ReplicaState = record s { sync = with_round s.sync top } in
       let points = rounded (s.sync.f == 0) (nat_lt s.sync.sync_point top) in
-      let r = raise_and_drain_goes u (omega (arith, h.points, points.0)) points.1 in
+      let r = trim_and_drain_goes u (omega (arith, h.points, points.0)) points.1 in
       record {
         same =
-            then_same m (moves.open_sync Trimmed (st m s)) (moves.open_sync Whole s) (raise_and_drain m Trimmed)
-            (raise_and_drain m Whole)
+            then_same m (moves.open_sync Trimmed (st m s)) (moves.open_sync Whole s) (trim_and_drain m Trimmed)
+            (trim_and_drain m Whole)
             (ap (λ (n : ℕ). (record (st m s) { sync = with_round s.sync n }, to_all (st m s) (bodies.SyncPrepare (trim m s.log))))
             (length_trims m s.log (omega (arith, h.points, h.sync_point)))
-            ∙ ap (λ (xs : List Sending). (st m u, xs)) (all_trims m (others s == 0) s (bodies.SyncPrepare s.log))) r.same;
+            ∙ ap (λ (xs : List Sending). (st m u, xs)) (all_trims m (max_faults s == 0) s (bodies.SyncPrepare s.log))) r.same;
         stands = r.stands;
       }
     where
@@ -544,27 +544,27 @@ module _ {S : Type 0} (m : Meaning S) (IsSound : S → Type 0) (keeps : KeepsTo 
       stands = record { within = omega (arith, h.points, h.sync_point); points = h.points }
 
       by : (b : Bool) → nat_lt s.sync.sync_point (length s.log.entries) ≡ b
-          → Goes m (then_do (repeating.sync_if Trimmed b (st m s)) (raise_and_drain m Trimmed))
-          (then_do (repeating.sync_if Whole b s) (raise_and_drain m Whole))
+          → Goes m (then_do (repeating.sync_if Trimmed b (st m s)) (trim_and_drain m Trimmed))
+          (then_do (repeating.sync_if Whole b s) (trim_and_drain m Whole))
       by true is = open_sync_goes s h (let less : s.sync.sync_point < length s.log.entries = grind (arith, nat_tests, is) in less)
       by false is =
-          then_goes m (moves.repeat_commit (st m s)) (moves.repeat_commit s) (raise_and_drain m Trimmed)
-          (raise_and_drain m Whole) (repeat_goes m s stands)
-          (λ g. raise_and_drain_goes s (omega (arith, h.points)) h.sync_point)
+          then_goes m (moves.repeat_commit (st m s)) (moves.repeat_commit s) (trim_and_drain m Trimmed)
+          (trim_and_drain m Whole) (repeat_goes m s stands)
+          (λ g. trim_and_drain_goes s (omega (arith, h.points)) h.sync_point)
 
       on : (b : Bool)
           → Goes m (then_do (when b (λ t. repeating.sync_if Trimmed (nat_lt t.sync.sync_point (length_of Trimmed t.log)) t) (st m s))
-          (raise_and_drain m Trimmed))
-          (then_do (when b (λ t. repeating.sync_if Whole (nat_lt t.sync.sync_point (length_of Whole t.log)) t) s) (raise_and_drain m Whole))
+          (trim_and_drain m Trimmed))
+          (then_do (when b (λ t. repeating.sync_if Whole (nat_lt t.sync.sync_point (length_of Whole t.log)) t) s) (trim_and_drain m Whole))
       on true =
           let r = by (nat_lt s.sync.sync_point (length s.log.entries)) refl in
           record {
             same =
-                ap (λ (n : ℕ). then_do (repeating.sync_if Trimmed (nat_lt s.sync.sync_point n) (st m s)) (raise_and_drain m Trimmed))
+                ap (λ (n : ℕ). then_do (repeating.sync_if Trimmed (nat_lt s.sync.sync_point n) (st m s)) (trim_and_drain m Trimmed))
                 (length_trims m s.log stands.within)
                 ∙ r.same;
             stands = r.stands;
           }
       on false =
-          then_goes m (still (st m s)) (still s) (raise_and_drain m Trimmed) (raise_and_drain m Whole)
-          (still_goes m s stands) (λ g. raise_and_drain_goes s (omega (arith, h.points)) h.sync_point)
+          then_goes m (still (st m s)) (still s) (trim_and_drain m Trimmed) (trim_and_drain m Whole)
+          (still_goes m s stands) (λ g. trim_and_drain_goes s (omega (arith, h.points)) h.sync_point)

@@ -33,23 +33,23 @@ use Rattle.trimming.specs.Merging.{trim_change}
 use Rattle.trimming.specs.Trimming.{trim}
 use Rattle.trimming.proofs.Executions.{checkpoint_loads}
 use Rattle.trimming.proofs.Logs.{length_trims, entry_trims}
-use Rattle.view_change.specs.Gathering.{Gathering, counted, teller}
+use Rattle.view_change.specs.Gathering.{Gathering, change_added, change_sender}
 use Rattle.replica_state.specs.declared.sending.Sending.{Sending}
 use Rattle.replica_state.specs.declared.state.ReplicaState.{ReplicaState}
 use Rattle.replica_state.specs.Moves as moves
-use Rattle.replica_state.specs.Moves.{enter, begin_session, session_view, hear, queue, change_told, count_gap_vote}
+use Rattle.replica_state.specs.Moves.{enter, begin_session, session_view, hear, queue, change_sent, count_gap_vote}
 use Rattle.replica_state.specs.Repeating as repeating
 use Rattle.replica_state.specs.Sends.{still, then_do, to_all, to_leader}
-use Rattle.replica_state.specs.State.{others, leads, waits, is_normal, has_room, may_append, may_adopt, is_at_most, is_other, is_from_leader, is_to_leader}
+use Rattle.replica_state.specs.State.{max_faults, leads, waits, is_normal, has_room, may_append, may_adopt, is_at_most, is_other, is_from_leader, is_to_leader}
 use Rattle.replica_rows.specs.Messages as messages
-use Rattle.replica_rows.specs.Messages.{Arrival, Packet, Told, Ticked, loads_in}
+use Rattle.replica_rows.specs.Messages.{Arrival, Packet, PeerMessage, Ticked, loads_in}
 use Rattle.replica_rows.specs.Rows as rows
-use Rattle.trimmed_rows.specs.Premises.{PointsWithin, Opens, ToldWithin, ArrivesWithin}
+use Rattle.trimmed_rows.specs.Premises.{PointsWithin, Opens, MessageIsWithin, ArrivesWithin}
 use Rattle.trimmed_rows.specs.Trimmed.{trimmed_gathering, trimmed_body, trimmed_peer, trimmed_arrival}
 use Rattle.trimmed_rows.proofs.Alone.{entered_opens}
 use Rattle.trimmed_rows.proofs.Composing.{Stands, st, ef, Goes, still_goes, then_goes, when_goes, all_trims}
 use Rattle.trimmed_rows.proofs.Gathered.{counted_trims}
-use Rattle.trimmed_rows.proofs.Moves.{room_trims, fill_goes, open_gap_goes, write_gap_goes, add_gap_goes, drained, enter_goes, adopt_goes, open_goes, resend_start_goes, tell_synced_goes, overlay_goes, sync_commit_goes, sync_reply_goes, sync_goes}
+use Rattle.trimmed_rows.proofs.Moves.{room_trims, fill_goes, open_gap_goes, write_gap_goes, add_gap_goes, drained, enter_goes, adopt_goes, open_goes, resend_start_goes, send_synced_goes, overlay_goes, sync_commit_goes, sync_reply_goes, sync_goes}
 
 first_of : (a b : Bool) → (a && b) ≡ true → a ≡ true
 first_of true b e = refl
@@ -81,7 +81,7 @@ module _ {S : Type 0} (m : Meaning S) where
   gap_again_goes : (o : Option Agreement) (s : ReplicaState) → Stands s → Goes m (repeating.gap_again o (st m s)) (repeating.gap_again o s)
   gap_again_goes None s h = still_goes m s h
   gap_again_goes (Some g) s h = record {
-    same = ap (λ (xs : List Sending). (st m s, xs)) (all_trims m (others s == 0) s (bodies.GapCommit g.slot));
+    same = ap (λ (xs : List Sending). (st m s, xs)) (all_trims m (max_faults s == 0) s (bodies.GapCommit g.slot));
     stands = h;
   }
 
@@ -105,7 +105,7 @@ module _ {S : Type 0} (m : Meaning S) where
   resend_by_goes phases.Change b s h =
       then_goes m (st m s, to_all (st m s) bodies.ViewChangeReq) (s, to_all s bodies.ViewChangeReq) (repeating.change_again b)
       (repeating.change_again b)
-      (record { same = ap (λ (xs : List Sending). (st m s, xs)) (all_trims m (others s == 0) s bodies.ViewChangeReq); stands = h })
+      (record { same = ap (λ (xs : List Sending). (st m s, xs)) (all_trims m (max_faults s == 0) s bodies.ViewChangeReq); stands = h })
       (λ g. change_again_goes b s g)
   resend_by_goes phases.Normal true s h = gap_again_goes s.gap s h
   resend_by_goes phases.Normal false s h = lookup_again_goes (front_of s.receiver) s h
@@ -147,31 +147,31 @@ module _ {S : Type 0} (m : Meaning S) (IsSound : S → Type 0) (keeps : KeepsTo 
   -- ---- changes
 
   gather_goes : (o : Option (Gathering Change)) (c : Change) (s : ReplicaState) → Stands s
-      → ((g : Gathering Change) → o ≡ Some g → Opens (counted teller g c))
+      → ((g : Gathering Change) → o ≡ Some g → Opens (change_added change_sender g c))
       → Goes m (rows.gather m Trimmed (option_map (trimmed_gathering m) o) (trim_change m c) (st m s)) (rows.gather m Whole o c s)
   gather_goes None c s h opens = still_goes m s h
   gather_goes (Some g) c s h opens =
-      let t : ReplicaState = record s { changes = Some (counted teller g c) } in
+      let t : ReplicaState = record s { changes = Some (change_added change_sender g c) } in
       then_goes m (moves.keep_change (st m s) (trimmed_gathering m g) (trim_change m c)) (moves.keep_change s g c)
       (λ u. moves.open_if_enough m Trimmed u.changes u) (λ u. moves.open_if_enough m Whole u.changes u)
       (record {
         same = ap (λ (x : Gathering Change). still (record (st m s) { changes = Some x })) (counted_trims m g c);
         stands = record { within = h.within; points = h.points };
       })
-      (λ f. open_goes m IsSound keeps (Some (counted teller g c)) t (λ x e. one x e) f)
+      (λ f. open_goes m IsSound keeps (Some (change_added change_sender g c)) t (λ x e. one x e) f)
     where
-      one : (x : Gathering Change) → Some (counted teller g c) ≡ Some x → Opens x
-      one x e = subst Opens (same_Some (counted teller g c) x e) (opens g refl)
+      one : (x : Gathering Change) → Some (change_added change_sender g c) ≡ Some x → Opens x
+      one x e = subst Opens (same_Some (change_added change_sender g c) x e) (opens g refl)
 
   gather_by_goes : (p : Phase) (c : Change) (s : ReplicaState) → Stands s
-      → ((g : Gathering Change) → s.changes ≡ Some g → Opens (counted teller g c))
+      → ((g : Gathering Change) → s.changes ≡ Some g → Opens (change_added change_sender g c))
       → Goes m (rows.gather_by m Trimmed p (trim_change m c) (st m s)) (rows.gather_by m Whole p c s)
   gather_by_goes phases.Change c s h opens = gather_goes s.changes c s h opens
   gather_by_goes phases.Normal c s h opens = resend_start_goes m s c.sender h
 
   view_change_goes : (w : View) (c : Change) (s : ReplicaState) → Stands s
       → ((g : Gathering Change) → (rows.view_change_request m Whole w s).0.view ≡ w
-      → (rows.view_change_request m Whole w s).0.changes ≡ Some g → Opens (counted teller g c))
+      → (rows.view_change_request m Whole w s).0.changes ≡ Some g → Opens (change_added change_sender g c))
       → Goes m (rows.view_change m Trimmed w (trim_change m c) (st m s)) (rows.view_change m Whole w c s)
   unfolding rows.view_change
   view_change_goes w c s h opens =
@@ -248,7 +248,7 @@ module _ {S : Type 0} (m : Meaning S) (IsSound : S → Type 0) (keeps : KeepsTo 
 
   answer_goes : (a : Answer) (q n : ℕ) (s : ReplicaState) → Stands s
       → Goes m (rows.slot_lookup_by m Trimmed a q n (st m s)) (rows.slot_lookup_by m Whole a q n s)
-  answer_goes answers.Below q n s h = tell_synced_goes m s q h
+  answer_goes answers.Below q n s h = send_synced_goes m s q h
   answer_goes (answers.Found r) q n s h = record { same = refl; stands = h }
   answer_goes answers.GapAgain q n s h = record { same = refl; stands = h }
   answer_goes answers.Begin q n s h = begin_gap_goes s h
@@ -297,7 +297,7 @@ module _ {S : Type 0} (m : Meaning S) (IsSound : S → Type 0) (keeps : KeepsTo 
 
   -- ---- messages
 
-  from_leader_goes : (p : Peer) (body : Body) (s : ReplicaState) → PointsWithin s → Stands s → ToldWithin m s p body
+  from_leader_goes : (p : Peer) (body : Body) (s : ReplicaState) → PointsWithin s → Stands s → MessageIsWithin m s p body
       → Goes m (messages.from_leader m Trimmed (trimmed_body m body) (st m s)) (messages.from_leader m Whole body s)
   from_leader_goes p (bodies.GapCommit n) s w h fits = gap_commit_goes n s h
   from_leader_goes p (bodies.Found n r) s w h fits = found_goes n r s h
@@ -312,25 +312,25 @@ module _ {S : Type 0} (m : Meaning S) (IsSound : S → Type 0) (keeps : KeepsTo 
   from_follower_goes q (bodies.SyncRep n) s w h = sync_reply_goes m IsSound keeps q n s w
   from_follower_goes q _ s w h = still_goes m s h
 
-  by_role_goes : (b c : Bool) (p : Peer) (body : Body) (s : ReplicaState) → PointsWithin s → Stands s → ToldWithin m s p body
+  by_role_goes : (b c : Bool) (p : Peer) (body : Body) (s : ReplicaState) → PointsWithin s → Stands s → MessageIsWithin m s p body
       → Goes m (messages.by_role m Trimmed b c p.sender (trimmed_body m body) (st m s)) (messages.by_role m Whole b c p.sender body s)
   by_role_goes true c p body s w h fits = from_leader_goes p body s w h fits
   by_role_goes false true p body s w h fits = from_follower_goes p.sender body s w h
   by_role_goes false false p body s w h fits = still_goes m s h
 
-  in_view : (p : Peer) (body : Body) (s : ReplicaState) → PointsWithin s → Stands s → ToldWithin m s p body
-      → Goes m (messages.in_view m Trimmed p.sender p.view (trimmed_body m body) (st m s)) (messages.in_view m Whole p.sender p.view body s)
-  in_view p body s w h fits = by_role_goes (is_from_leader s p.view p.sender) (is_to_leader s p.view) p body s w h fits
+  dispatch_goes : (p : Peer) (body : Body) (s : ReplicaState) → PointsWithin s → Stands s → MessageIsWithin m s p body
+      → Goes m (messages.dispatch m Trimmed p.sender p.view (trimmed_body m body) (st m s)) (messages.dispatch m Whole p.sender p.view body s)
+  dispatch_goes p body s w h fits = by_role_goes (is_from_leader s p.view p.sender) (is_to_leader s p.view) p body s w h fits
 
-  body_goes : (p : Peer) (body : Body) (s : ReplicaState) → PointsWithin s → Stands s → is_other s p.sender ≡ true → ToldWithin m s p body
+  body_goes : (p : Peer) (body : Body) (s : ReplicaState) → PointsWithin s → Stands s → is_other s p.sender ≡ true → MessageIsWithin m s p body
       → Goes m (messages.on_body m Trimmed (trimmed_peer m p) (trimmed_body m body) (st m s)) (messages.on_body m Whole p body s)
   body_goes p bodies.ViewChangeReq s w h other fits = request_goes p.view s h
   body_goes p (bodies.ViewChange u x l) s w h other fits =
       view_change_goes p.view (record { sender = p.sender; last_normal = u; next = x; log = l }) s h (λ g view same. fits.1 g other view same)
   body_goes p (bodies.StartView x l) s w h other fits = start_view_goes p.sender p.view x l s fits.1 h
-  body_goes p body s w h other fits = in_view p body s w h fits
+  body_goes p body s w h other fits = dispatch_goes p body s w h fits
 
-  message_goes : (p : Peer) (s : ReplicaState) → PointsWithin s → Stands s → ToldWithin m s p p.body
+  message_goes : (p : Peer) (s : ReplicaState) → PointsWithin s → Stands s → MessageIsWithin m s p p.body
       → Goes m (messages.on_message m Trimmed (trimmed_peer m p) (st m s)) (messages.on_message m Whole p s)
   unfolding messages.on_message
   message_goes p s w h fits =
@@ -341,7 +341,7 @@ module _ {S : Type 0} (m : Meaning S) (IsSound : S → Type 0) (keeps : KeepsTo 
   both_load : (l : Log) → l.checkpoint ≡ None → loads m (trim m l) ≡ loads m l
   both_load l none = checkpoint_loads m IsSound keeps l ∙ sym (ap (loads_by m) none)
 
-  loads_trim : (s : ReplicaState) (p : Peer) (body : Body) → ToldWithin m s p body → loads_in m (trimmed_body m body) ≡ loads_in m body
+  loads_trim : (s : ReplicaState) (p : Peer) (body : Body) → MessageIsWithin m s p body → loads_in m (trimmed_body m body) ≡ loads_in m body
   unfolding loads_in
   loads_trim s p (bodies.ViewChange u x l) fits = both_load l fits.0
   loads_trim s p (bodies.StartView x l) fits = both_load l fits.0
@@ -355,7 +355,7 @@ module _ {S : Type 0} (m : Meaning S) (IsSound : S → Type 0) (keeps : KeepsTo 
       → Goes m (messages.arrive m Trimmed (st m s) (trimmed_arrival m a)) (messages.arrive m Whole s a)
   unfolding messages.arrive
   arrive_goes s (Packet p) w fits = stamped_goes p s (stands s w)
-  arrive_goes s (Told p) w fits =
+  arrive_goes s (PeerMessage p) w fits =
       when_goes m (loads_in m (trimmed_body m p.body)) (loads_in m p.body) (messages.on_message m Trimmed (trimmed_peer m p))
       (messages.on_message m Whole p) s (loads_trim s p p.body fits) (stands s w) (λ _. message_goes p s w (stands s w) fits)
   arrive_goes s (Ticked tick) w fits = ticked_goes tick s w (stands s w)

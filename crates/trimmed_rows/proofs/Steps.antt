@@ -21,7 +21,7 @@ use Rattle.replica_state.specs.Repeating as repeating
 use Rattle.replica_state.specs.Replies.{leader_reply, reply_to}
 use Rattle.replica_state.specs.Sends.{Effect, then_do}
 use Rattle.replica_rows.specs.Messages as messages
-use Rattle.replica_rows.specs.Messages.{Arrival, Packet, Told, arrive}
+use Rattle.replica_rows.specs.Messages.{Arrival, Packet, PeerMessage, arrive}
 use Rattle.replica_rows.specs.Rows as rows
 use Rattle.trimmed_rows.specs.Premises.{PointsWithin, ArrivesWithin}
 use Rattle.trimmed_rows.specs.WorkedSteps.{WorkedSteps, put, get, stands, start, sync_of, round, stamp, says, replies, queued, synced, one}
@@ -48,7 +48,7 @@ module _ {S : Type 0} (m : Meaning S) where
       ∙ ap (λ (e : Effect). (e.0, reply_to m Whole (after (opened 1 2)) 1 put ++ e.1)) (stops m 4094 (after (opened 1 2)) (front_none 1 2))
       ∙ ap (λ (xs : List Sending). (after (opened 1 2), xs)) same
 
-  votes : arrive m Whole (stands 1 one 2 (opened 1 2) (sync_of 0 0 None) 0) (Told (says 0 (bodies.SyncPrepare one)))
+  votes : arrive m Whole (stands 1 one 2 (opened 1 2) (sync_of 0 0 None) 0) (PeerMessage (says 0 (bodies.SyncPrepare one)))
       ≡ (stands 1 one 2 (opened 1 2) (sync_of 0 1 None) 0, ToReplicas (One (Replica 0)) (says 1 (bodies.SyncRep 1)) ∷ [])
   unfolding messages.arrive messages.loads_in messages.on_message rows.sync_prepare moves.overlay moves.drain
   votes =
@@ -56,7 +56,7 @@ module _ {S : Type 0} (m : Meaning S) where
       ap (λ (x : Receiving). then_do (after x, ToReplicas (One (Replica 0)) (says 1 (bodies.SyncRep 1)) ∷ []) (drain m Whole)) (advanced_none 1 2 2)
       ∙ ap (λ (e : Effect). (e.0, ToReplicas (One (Replica 0)) (says 1 (bodies.SyncRep 1)) ∷ e.1)) (stops m 4094 (after (opened 1 2)) (front_none 1 2))
 
-  settles : arrive m Whole (stands 0 one 2 (opened 1 2) (sync_of 0 0 round) 0) (Told (says 1 (bodies.SyncRep 1)))
+  settles : arrive m Whole (stands 0 one 2 (opened 1 2) (sync_of 0 0 round) 0) (PeerMessage (says 1 (bodies.SyncRep 1)))
       ≡ (
         stands 0 (synced m Whole []) 2 (opened 1 2) (sync_of 1 0 None) 0,
         ToReplicas Replicas (says 0 (bodies.SyncCommit 1)) ∷ Trims 1 (whole 0 (Req put ∷ [])) ∷ [],
@@ -75,7 +75,7 @@ module _ {S : Type 0} (m : Meaning S) where
       ap (λ (x : Receiving). drain m Whole (before x)) (offered_first 1 1 2 get (omega arith))
       ∙ asks m 4095 (before (lone 1 1 2 get)) refl refl (front_missing 1 1 2 get (λ e. omega (arith, e)))
 
-  goes_on : arrive m Whole (stands 2 (whole 0 []) 1 (queued 1 2 get) (sync_of 0 0 None) 1) (Told (says 0 (bodies.SyncPrepare (synced m Whole []))))
+  goes_on : arrive m Whole (stands 2 (whole 0 []) 1 (queued 1 2 get) (sync_of 0 0 None) 1) (PeerMessage (says 0 (bodies.SyncPrepare (synced m Whole []))))
       ≡ (
         stands 2 (synced m Whole (Req get ∷ [])) 3 (opened 1 3) (sync_of 1 1 None) 1,
         ToReplicas (One (Replica 0)) (says 2 (bodies.SyncRep 1)) ∷ replies 2 2 get 0 [] ∷ [],
@@ -95,7 +95,7 @@ module _ {S : Type 0} (m : Meaning S) where
   whole_steps = record {
     leader_takes = takes_put 0 _ (ap (λ (o : Option (List ℕ)). leader_reply (stands 0 one 2 (opened 1 2) (sync_of 0 0 None) 0) 1 put o ++ []) put_result);
     follower_takes = takes_put 1 _ refl;
-    leader_tells = refl;
+    leader_sends = refl;
     follower_votes = votes;
     leader_settles = settles;
     third_asks = asks_for;
@@ -132,7 +132,7 @@ module _ {S : Type 0} (m : Meaning S) (IsSound : S → Type 0) (keeps : KeepsTo 
       record {
         leader_takes = step (start 0) (Packet (stamp 1 put)) _ (within 0 1 (opened 1 1) 0) tt steps.leader_takes;
         follower_takes = step (start 1) (Packet (stamp 1 put)) _ (within 1 1 (opened 1 1) 0) tt steps.follower_takes;
-        leader_tells = step _ _ _ (one_within 0 (opened 1 2)) tt steps.leader_tells;
+        leader_sends = step _ _ _ (one_within 0 (opened 1 2)) tt steps.leader_sends;
         follower_votes = step _ _ _ (one_within 1 (opened 1 2)) (refl, omega arith) steps.follower_votes;
         leader_settles = step _ _ _ round_within tt steps.leader_settles;
         third_asks = step (start 2) (Packet (stamp 2 get)) _ (within 2 1 (opened 1 1) 0) tt steps.third_asks;

@@ -13,7 +13,7 @@ use Rattle.replica_state.specs.declared.sending.Sending.{Sending}
 use Rattle.replica_state.specs.declared.sending.Sending.TheVariants.{ToClient, ToReplicas, Trims}
 use Rattle.replica_state.specs.declared.state.ReplicaState.{ReplicaState}
 use Rattle.replica_state.specs.Sends.{Effect}
-use Rattle.replica_rows.specs.Messages.{Arrival, Packet, Told, Ticked}
+use Rattle.replica_rows.specs.Messages.{Arrival, Packet, PeerMessage, Ticked}
 
 module _ {S : Type 0} (m : Meaning S) where
   abbrev pub trimmed_gathering : Gathering Change → Gathering Change
@@ -44,5 +44,5 @@ module _ {S : Type 0} (m : Meaning S) where
 
   abbrev pub trimmed_arrival : Arrival → Arrival
   trimmed_arrival (Packet p) = Packet p
-  trimmed_arrival (Told p) = Told (trimmed_peer p)
+  trimmed_arrival (PeerMessage p) = PeerMessage (trimmed_peer p)
   trimmed_arrival (Ticked tick) = Ticked tick

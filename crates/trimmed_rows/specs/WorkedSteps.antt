@@ -25,7 +25,7 @@ use Rattle.sync_points.specs.Synchronisation.{Synchronisation, Round}
 use Rattle.replica_state.specs.declared.sending.Sending.{Sending}
 use Rattle.replica_state.specs.declared.sending.Sending.TheVariants.{ToClient, ToReplicas, Trims}
 use Rattle.replica_state.specs.declared.state.ReplicaState.{ReplicaState}
-use Rattle.replica_rows.specs.Messages.{Packet, Told, Ticked, arrive}
+use Rattle.replica_rows.specs.Messages.{Packet, PeerMessage, Ticked, arrive}
 
 -- client 0 puts v at the key k, and gets it
 abbrev pub put : Request
@@ -95,13 +95,13 @@ module _ {S : Type 0} (m : Meaning S) where
         ≡ (stands 0 one 2 (receiving.opened 1 2) (sync_of 0 0 None) 0, replies 0 1 put 1 (m.answer m.opening put.op) ∷ [])
     pub follower_takes : arrive m k (start 1) (Packet (stamp 1 put))
         ≡ (stands 1 one 2 (receiving.opened 1 2) (sync_of 0 0 None) 0, replies 1 1 put 0 [] ∷ [])
-    -- the leader tells its log, the follower votes, and the log is synchronised. The put moves out of the log: where that is trimmed, a
-    -- checkpoint stands in its place
-    pub leader_tells : arrive m k (stands 0 one 2 (receiving.opened 1 2) (sync_of 0 0 None) 0) (Ticked ticks.Sync)
+    -- the leader sends its log, the follower votes, and the log is synchronised. The put moves out of the log: where that is trimmed, a
+    -- checkpoint is in its place
+    pub leader_sends : arrive m k (stands 0 one 2 (receiving.opened 1 2) (sync_of 0 0 None) 0) (Ticked ticks.Sync)
         ≡ (stands 0 one 2 (receiving.opened 1 2) (sync_of 0 0 round) 0, ToReplicas Replicas (says 0 (bodies.SyncPrepare one)) ∷ [])
-    pub follower_votes : arrive m k (stands 1 one 2 (receiving.opened 1 2) (sync_of 0 0 None) 0) (Told (says 0 (bodies.SyncPrepare one)))
+    pub follower_votes : arrive m k (stands 1 one 2 (receiving.opened 1 2) (sync_of 0 0 None) 0) (PeerMessage (says 0 (bodies.SyncPrepare one)))
         ≡ (stands 1 one 2 (receiving.opened 1 2) (sync_of 0 1 None) 0, ToReplicas (One (Replica 0)) (says 1 (bodies.SyncRep 1)) ∷ [])
-    pub leader_settles : arrive m k (stands 0 one 2 (receiving.opened 1 2) (sync_of 0 0 round) 0) (Told (says 1 (bodies.SyncRep 1)))
+    pub leader_settles : arrive m k (stands 0 one 2 (receiving.opened 1 2) (sync_of 0 0 round) 0) (PeerMessage (says 1 (bodies.SyncRep 1)))
         ≡ (
           stands 0 (synced k []) 2 (receiving.opened 1 2) (sync_of 1 0 None) 0,
           ToReplicas Replicas (says 0 (bodies.SyncCommit 1)) ∷ Trims 1 (whole 0 (Req put ∷ [])) ∷ [],
@@ -109,12 +109,12 @@ module _ {S : Type 0} (m : Meaning S) where
     -- the third replica gets the next request alone, and asks for slot 1; it is told what is synchronised, and goes on from there
     pub third_asks : arrive m k (start 2) (Packet (stamp 2 get))
         ≡ (stands 2 (whole 0 []) 1 (queued 1 2 get) (sync_of 0 0 None) 1, ToReplicas (One (Replica 0)) (says 2 (bodies.SlotLookup 1)) ∷ [])
-    pub leader_answers : arrive m k (stands 0 (synced k []) 2 (receiving.opened 1 2) (sync_of 1 0 None) 0) (Told (says 2 (bodies.SlotLookup 1)))
+    pub leader_answers : arrive m k (stands 0 (synced k []) 2 (receiving.opened 1 2) (sync_of 1 0 None) 0) (PeerMessage (says 2 (bodies.SlotLookup 1)))
         ≡ (
           stands 0 (synced k []) 2 (receiving.opened 1 2) (sync_of 1 0 None) 0,
           ToReplicas (One (Replica 2)) (says 0 (bodies.SyncPrepare (synced k []))) ∷ [],
         )
-    pub third_goes_on : arrive m k (stands 2 (whole 0 []) 1 (queued 1 2 get) (sync_of 0 0 None) 1) (Told (says 0 (bodies.SyncPrepare (synced k []))))
+    pub third_goes_on : arrive m k (stands 2 (whole 0 []) 1 (queued 1 2 get) (sync_of 0 0 None) 1) (PeerMessage (says 0 (bodies.SyncPrepare (synced k []))))
         ≡ (
           stands 2 (synced k (Req get ∷ [])) 3 (receiving.opened 1 3) (sync_of 1 1 None) 1,
           ToReplicas (One (Replica 0)) (says 2 (bodies.SyncRep 1)) ∷ replies 2 2 get 0 [] ∷ [],

@@ -122,13 +122,13 @@ module _ {S : Type 0} (m : Meaning S) (IsSound : S → Type 0) (keeps : KeepsTo 
       → executed m Trimmed (raised m Trimmed l n) k ≡ executed m Trimmed l k
   raise_keeps_executed l n k low h =
       let s : ℕ = l.sync_point in
-      let front : List Entry = take (n - s) l.entries in
+      let prefix : List Entry = take (n - s) l.entries in
       let rest : List Entry = take (k - n) (drop (n - s) l.entries) in
-      let parts : front ++ rest ≡ take (k - s) l.entries =
-      ap (λ (j : ℕ). front ++ take j (drop (n - s) l.entries)) (let e : k - n ≡ k - s - (n - s) = omega (arith, low, h) in e)
+      let parts : prefix ++ rest ≡ take (k - s) l.entries =
+      ap (λ (j : ℕ). prefix ++ take j (drop (n - s) l.entries)) (let e : k - n ≡ k - s - (n - s) = omega (arith, low, h) in e)
       ∙ take-to (k - s) (n - s) l.entries (omega (arith, low, h)) in
       ap (λ (o : Option (Executed S)). exec_kept m (unwrap_or o (opening m)) rest) (saved_loads l n)
-      ∙ sym (exec_kept_of_append m (beginning m l.checkpoint) front rest)
+      ∙ sym (exec_kept_of_append m (beginning m l.checkpoint) prefix rest)
       ∙ ap (exec_kept m (beginning m l.checkpoint)) parts
 
   pub raise_keeps_result : (l : Log) (n k : ℕ) → l.sync_point ≤ n → n < k

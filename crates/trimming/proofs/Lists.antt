@@ -23,11 +23,11 @@ drop-take_to n b xs h =
 
 -- ---- a front, and what comes after it
 
-pub take-front : {A : Type 0} (n : ℕ) (xs ys : List A) → n ≤ length xs → take n (take n xs ++ ys) ≡ take n xs
-take-front n xs ys h = take_at (take n xs) ys n (length-take-le n xs h)
+pub take-prefix : {A : Type 0} (n : ℕ) (xs ys : List A) → n ≤ length xs → take n (take n xs ++ ys) ≡ take n xs
+take-prefix n xs ys h = take_at (take n xs) ys n (length-take-le n xs h)
 
-pub drop-front : {A : Type 0} (n : ℕ) (xs ys : List A) → n ≤ length xs → drop n (take n xs ++ ys) ≡ ys
-drop-front n xs ys h = drop_at (take n xs) ys n (length-take-le n xs h)
+pub drop-prefix : {A : Type 0} (n : ℕ) (xs ys : List A) → n ≤ length xs → drop n (take n xs ++ ys) ≡ ys
+drop-prefix n xs ys h = drop_at (take n xs) ys n (length-take-le n xs h)
 
 -- ---- slots
 

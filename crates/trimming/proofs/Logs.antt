@@ -18,7 +18,7 @@ use Rattle.nop_types.specs.CheckpointedLogs.{raised}
 use Rattle.lemmas.proofs.Slots.{length-set_slot}
 use Rattle.trimming.specs.Trimming.{checkpoint_at, trim}
 use Rattle.trimming.proofs.Executions.{executed_trims}
-use Rattle.trimming.proofs.Lists.{drop-to, take-front, drop-front, drop-take_to, slot_of-drop, drop-set_slot, take-set_slot}
+use Rattle.trimming.proofs.Lists.{drop-to, take-prefix, drop-prefix, drop-take_to, slot_of-drop, drop-set_slot, take-set_slot}
 
 abbrev log_of : ℕ → Option Checkpoint → List Entry → Log
 log_of s c l = record { sync_point = s; checkpoint = c; entries = l }
@@ -79,8 +79,8 @@ module _ {S : Type 0} (m : Meaning S) where
 
   -- ---- two logs
 
-  no_front : (s : ℕ) (l rest : List Entry) → take (s - s) l ++ rest ≡ rest
-  no_front s l rest = ap (λ (n : ℕ). take n l ++ rest) (let e : s - s ≡ 0 = omega arith in e)
+  no_prefix : (s : ℕ) (l rest : List Entry) → take (s - s) l ++ rest ≡ rest
+  no_prefix s l rest = ap (λ (n : ℕ). take n l ++ rest) (let e : s - s ≡ 0 = omega arith in e)
 
   adopt_if : (new own : Log) → (new.sync_point ≤ own.sync_point → IsWithin own) → (b : Bool) → nat_lt own.sync_point new.sync_point ≡ b
       → adopted Trimmed (trim m new) (trim m own) ≡ trim m (adopted Whole new own)
@@ -90,17 +90,17 @@ module _ {S : Type 0} (m : Meaning S) where
       rw e (same_log new.sync_point _ _ _ _
       (same_checkpoint new.sync_point new.entries (take new.sync_point new.entries ++ drop new.sync_point new.entries)
       (ap (take new.sync_point) (sym whole)))
-      (no_front new.sync_point (drop new.sync_point new.entries) _
+      (no_prefix new.sync_point (drop new.sync_point new.entries) _
       ∙ drop-to new.sync_point new.sync_point new.entries (omega arith)
       ∙ ap (drop new.sync_point) (sym whole)))
   adopt_if new own h false e =
       let less : new.sync_point ≤ own.sync_point = grind (arith, nat_tests, e) in
       rw e (same_log own.sync_point _ _ _ _
       (same_checkpoint own.sync_point own.entries (take own.sync_point own.entries ++ drop own.sync_point new.entries)
-      (sym (take-front own.sync_point own.entries (drop own.sync_point new.entries) (h less))))
-      (no_front own.sync_point (drop own.sync_point own.entries) _
+      (sym (take-prefix own.sync_point own.entries (drop own.sync_point new.entries) (h less))))
+      (no_prefix own.sync_point (drop own.sync_point own.entries) _
       ∙ drop-to own.sync_point new.sync_point new.entries less
-      ∙ sym (drop-front own.sync_point own.entries (drop own.sync_point new.entries) (h less))))
+      ∙ sym (drop-prefix own.sync_point own.entries (drop own.sync_point new.entries) (h less))))
 
   pub adopt_trims : (new own : Log) → (new.sync_point ≤ own.sync_point → IsWithin own)
       → adopted Trimmed (trim m new) (trim m own) ≡ trim m (adopted Whole new own)
@@ -112,21 +112,21 @@ module _ {S : Type 0} (m : Meaning S) where
       let n : ℕ = new.sync_point in
       let more : List Entry = laid (drop n new.entries) (drop n own.entries) in
       rw e (same_log n _ _ _ _
-      (same_checkpoint n new.entries (take n new.entries ++ more) (sym (take-front n new.entries more h)))
-      (no_front n (drop n new.entries) _
+      (same_checkpoint n new.entries (take n new.entries ++ more) (sym (take-prefix n new.entries more h)))
+      (no_prefix n (drop n new.entries) _
       ∙ ap (λ (t : List Entry). laid t (above Trimmed (trim m own) n)) (drop-to n n new.entries (omega arith))
       ∙ ap (laid (drop n new.entries)) (drop-to n own.sync_point own.entries (let k : own.sync_point ≤ n = grind (arith, nat_tests, e) in k))
-      ∙ sym (drop-front n new.entries more h)))
+      ∙ sym (drop-prefix n new.entries more h)))
   overlay_if new own false e h =
       let n : ℕ = own.sync_point in
       let more : List Entry = laid (drop n new.entries) (drop n own.entries) in
       rw e (same_log n _ _ _ _
-      (same_checkpoint n own.entries (take n own.entries ++ more) (sym (take-front n own.entries more h)))
-      (no_front n (drop n own.entries) _
+      (same_checkpoint n own.entries (take n own.entries ++ more) (sym (take-prefix n own.entries more h)))
+      (no_prefix n (drop n own.entries) _
       ∙ ap (λ (t : List Entry). laid t (above Trimmed (trim m own) n))
       (drop-to n new.sync_point new.entries (let k : new.sync_point ≤ n = grind (arith, nat_tests, e) in k))
       ∙ ap (laid (drop n new.entries)) (drop-to n n own.entries (omega arith))
-      ∙ sym (drop-front n own.entries more h)))
+      ∙ sym (drop-prefix n own.entries more h)))
 
   pub overlay_trims : (new own : Log) → IsWithin (further new own)
       → overlaid Trimmed (trim m new) (trim m own) ≡ trim m (overlaid Whole new own)
@@ -157,8 +157,8 @@ overlaid_point k new own = further_point new own
 
 -- ---- and stays within
 
-front_within : (s : ℕ) (l rest : List Entry) → s ≤ length l → s ≤ length (take s l ++ rest)
-front_within s l rest h = omega (arith, h, length-append (take s l) rest, length-take s l)
+prefix_within : (s : ℕ) (l rest : List Entry) → s ≤ length l → s ≤ length (take s l ++ rest)
+prefix_within s l rest h = omega (arith, h, length-append (take s l) rest, length-take s l)
 
 pub further_within : (new own : Log) → IsWithin new → IsWithin own → IsWithin (further new own)
 further_within new own g h = on (nat_lt own.sync_point new.sync_point)
@@ -168,12 +168,12 @@ further_within new own g h = on (nat_lt own.sync_point new.sync_point)
     on false = h
 
 pub adopted_within : (new own : Log) → IsWithin (further new own) → IsWithin (adopted Whole new own)
-adopted_within new own h = let g : Log = further new own in front_within g.sync_point g.entries (above Whole new g.sync_point) h
+adopted_within new own h = let g : Log = further new own in prefix_within g.sync_point g.entries (above Whole new g.sync_point) h
 
 pub overlaid_within : (new own : Log) → IsWithin (further new own) → IsWithin (overlaid Whole new own)
 overlaid_within new own h =
     let g : Log = further new own in
-    front_within g.sync_point g.entries (laid (above Whole new g.sync_point) (above Whole own g.sync_point)) h
+    prefix_within g.sync_point g.entries (laid (above Whole new g.sync_point) (above Whole own g.sync_point)) h
 
 pub appended_within : (l : Log) (e : Entry) → IsWithin l → IsWithin (appended l e)
 appended_within l e h = omega (arith, h, length-append l.entries (e ∷ []))

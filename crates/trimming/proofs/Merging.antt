@@ -12,7 +12,7 @@ use Rattle.nop_types.specs.Logs.{Keeping, Whole, Trimmed, IsWithin}
 use Rattle.nop_types.specs.PlainChanges as plain
 use Rattle.nop_types.specs.PlainChanges.{plain_above}
 use Rattle.lemmas.proofs.Members.{Has-first, Has-rest, Has-none, Has-cases}
-use Rattle.log_merge.specs.Merge.{told, of_two, chosen, entry_of, longest, merge}
+use Rattle.log_merge.specs.Merge.{choice_of, of_two, chosen, entry_of, longest, merge}
 use Rattle.log_merge.specs.Merging.{merge_above, precedes, better, best, merged_from, merged}
 use Rattle.log_merge.proofs.Best.{best_is_best}
 use Rattle.trimming.specs.Trimming.{trim}
@@ -28,8 +28,8 @@ drop_log n c = record c { log = drop n c.log }
 chosen-drop : (n i : ℕ) (cs : List plain.Change) → chosen (map (drop_log n) cs) (suc i) ≡ chosen cs (suc (n + i))
 chosen-drop n i [] = refl
 chosen-drop n i (c ∷ cs) =
-    ap (λ (o : Option Entry). of_two (told c.sender o) (chosen (map (drop_log n) cs) (suc i))) (get-drop n i c.log)
-    ∙ ap (of_two (told c.sender (slice_get c.log (n + i)))) (chosen-drop n i cs)
+    ap (λ (o : Option Entry). of_two (choice_of c.sender o) (chosen (map (drop_log n) cs) (suc i))) (get-drop n i c.log)
+    ∙ ap (of_two (choice_of c.sender (slice_get c.log (n + i)))) (chosen-drop n i cs)
 
 longest-drop : (n : ℕ) (cs : List plain.Change) → longest (map (drop_log n) cs) ≡ longest cs - n
 longest-drop n [] = omega arith
@@ -117,9 +117,9 @@ merged_has_none k cs h = on (best cs) refl
 pub ruleset have_none = (adopted_has_none, overlaid_has_none, merged_has_none)
 
 -- changes agree where the merge begins with each one's entries up to its sync point
-pub agree_from_fronts : (cs : List Change)
+pub agree_from_prefixes : (cs : List Change)
     → ((c : Change) → Has cs c → IsWithin c.log × IsPrefixOf (take c.log.sync_point c.log.entries) (merge_above Whole 0 cs)) → Agree cs
-agree_from_fronts cs h = on (best cs) refl
+agree_from_prefixes cs h = on (best cs) refl
   where
     on : (o : Option Change) → best cs ≡ o
         → IfSome o (λ g. take g.log.sync_point (merge_above Whole 0 cs) ≡ take g.log.sync_point g.log.entries)

@@ -7,7 +7,7 @@ use Rattle.nop_types.specs.Checkpoints.{Checkpoint, checkpoint_of}
 use Rattle.nop_types.specs.Logs.{Log}
 
 module _ {S : Type 0} (m : Meaning S) where
-  -- what stands in place of the first n entries; of none, nothing
+  -- what is in place of the first n entries; of none, nothing
   abbrev pub checkpoint_at : ℕ → List Entry → Option Checkpoint
   checkpoint_at zero l = None
   checkpoint_at (suc i) l = Some (checkpoint_of m (exec m (take (suc i) l)))

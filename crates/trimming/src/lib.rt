@@ -23,7 +23,7 @@
 //! - The merge takes sync point and checkpoint of the change that `best_has_the_greatest` of
 //!   `log_merge` tells. It trims where the merge of the whole logs begins with that change's
 //!   synchronised entries (`merges_trim`), as where it begins with those of each change
-//!   (`agree_from_fronts`). Of whole logs it is that of `log_merge` (`whole_logs_merge`), its sync
+//!   (`agree_from_prefixes`). Of whole logs it is that of `log_merge` (`whole_logs_merge`), its sync
 //!   point is within it (`merge_stays_within`), and logs without checkpoints stay so
 //!   (`no_checkpoints_come`).
 //!
@@ -51,5 +51,5 @@ pub use log_laws::{
     unsynced_trims,
 };
 pub use merge_laws::{
-    agree_from_fronts, merge_stays_within, merges_trim, no_checkpoints_come, whole_logs_merge,
+    agree_from_prefixes, merge_stays_within, merges_trim, no_checkpoints_come, whole_logs_merge,
 };

@@ -44,8 +44,8 @@ pub fn no_checkpoints_come()
 {}
 
 /// Changes agree where each one's entries up to its sync point begin the merge.
-#[tactic(auto, using(crate::proofs::Merging::agree_from_fronts))]
-pub fn agree_from_fronts()
+#[tactic(auto, using(crate::proofs::Merging::agree_from_prefixes))]
+pub fn agree_from_prefixes()
     ensures { (cs : List Change)
         → ((c : Change) → Has cs c → IsWithin c.log
         × IsPrefixOf (take c.log.sync_point c.log.entries) (merge_above Whole 0 cs))

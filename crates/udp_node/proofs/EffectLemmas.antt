@@ -15,7 +15,7 @@ use Rattle.outside.specs.declared.link.LinkCall.TheVariants.{Polled}
 use Rattle.udp_node.specs.declared.address.Address.{Address}
 use Rattle.udp_node.specs.Effects.{Effect, Call, Line, effects, effects_of, calls, lines, first_line, Done, Stopped, StoppedInLine, Stops}
 use Rattle.udp_node.specs.Effects.{Act, act_effects, effects_by, Carries, Writes}
-use Rattle.udp_node.specs.Sends.{LinkSide, Sends, SendsFront}
+use Rattle.udp_node.specs.Sends.{LinkSide, Sends, SendsPrefix}
 use Rattle.udp_node.proofs.SendLemmas.{sends_then, no_sends}
 
 pub calls_append : (xs ys : List Effect) → calls (xs ++ ys) ≡ calls xs ++ calls ys
@@ -63,14 +63,14 @@ done_then xs ys a b c h i j one two = record {
 pub stopped_then : (xs ys : List Effect) (a b c : LinkSide) (h i j : Option (List ℕ)) → Done xs a b h i → Stopped ys b c i j
     → Stopped (xs ++ ys) a c h j
 stopped_then xs ys a b c h i j one two = record {
-  front = xs ++ two.front;
+  prefix = xs ++ two.prefix;
   rest = two.rest;
-  split = ap (λ zs. xs ++ zs) two.split ∙ sym (append_assoc xs two.front two.rest);
+  split = ap (λ zs. xs ++ zs) two.split ∙ sym (append_assoc xs two.prefix two.rest);
   count = two.count;
-  sends = rw (calls_append xs two.front) (sends_then (calls xs) (calls two.front) a b c one.sends two.sends);
+  sends = rw (calls_append xs two.prefix) (sends_then (calls xs) (calls two.prefix) a b c one.sends two.sends);
   lines =
-      rw (lines_append xs two.front, append_assoc (lines xs))
-      (Appends-trans h i j (lines xs) (lines two.front ++ take two.count (first_line two.rest)) one.lines two.lines);
+      rw (lines_append xs two.prefix, append_assoc (lines xs))
+      (Appends-trans h i j (lines xs) (lines two.prefix ++ take two.count (first_line two.rest)) one.lines two.lines);
 }
 
 pub stops_then : (xs ys : List Effect) (e : DeviceError) (a b c : LinkSide) (h i j : Option (List ℕ)) → Done xs a b h i
@@ -90,46 +90,46 @@ no_line h i xs l count one =
     rw e at one
 
 -- the line that comes next stays, where there is one
-stopped_by : (xs ys front rest : List Effect) (count : ℕ) (a b : LinkSide) (h i : Option (List ℕ)) → xs ≡ front ++ rest
-    → Sends (calls front) a b → Appends h i (lines front ++ take count (first_line rest)) → Stopped (xs ++ ys) a b h i
-stopped_by xs ys front [] count a b h i split sends wrote = record {
-  front = front;
+stopped_by : (xs ys prefix rest : List Effect) (count : ℕ) (a b : LinkSide) (h i : Option (List ℕ)) → xs ≡ prefix ++ rest
+    → Sends (calls prefix) a b → Appends h i (lines prefix ++ take count (first_line rest)) → Stopped (xs ++ ys) a b h i
+stopped_by xs ys prefix [] count a b h i split sends wrote = record {
+  prefix = prefix;
   rest = ys;
-  split = rw split (append_assoc front [] ys);
+  split = rw split (append_assoc prefix [] ys);
   count = 0;
   sends = sends;
-  lines = no_line h i (lines front) (first_line ys) count wrote;
+  lines = no_line h i (lines prefix) (first_line ys) count wrote;
 }
-stopped_by xs ys front (Call d ∷ rest) count a b h i split sends wrote = record {
-  front = front;
+stopped_by xs ys prefix (Call d ∷ rest) count a b h i split sends wrote = record {
+  prefix = prefix;
   rest = Call d ∷ (rest ++ ys);
-  split = rw split (append_assoc front (Call d ∷ rest) ys);
+  split = rw split (append_assoc prefix (Call d ∷ rest) ys);
   count = count;
   sends = sends;
   lines = wrote;
 }
-stopped_by xs ys front (Line l ∷ rest) count a b h i split sends wrote = record {
-  front = front;
+stopped_by xs ys prefix (Line l ∷ rest) count a b h i split sends wrote = record {
+  prefix = prefix;
   rest = Line l ∷ (rest ++ ys);
-  split = rw split (append_assoc front (Line l ∷ rest) ys);
+  split = rw split (append_assoc prefix (Line l ∷ rest) ys);
   count = count;
   sends = sends;
   lines = wrote;
 }
 
 pub stopped_more : (xs ys : List Effect) (a b : LinkSide) (h i : Option (List ℕ)) → Stopped xs a b h i → Stopped (xs ++ ys) a b h i
-stopped_more xs ys a b h i one = stopped_by xs ys one.front one.rest one.count a b h i one.split one.sends one.lines
+stopped_more xs ys a b h i one = stopped_by xs ys one.prefix one.rest one.count a b h i one.split one.sends one.lines
 
-in_line_by : (xs ys front rest : List Effect) (count : ℕ) (a b : LinkSide) (h i : Option (List ℕ)) → xs ≡ front ++ rest
-    → Sends (calls front) a b → Appends h i (lines front ++ take count (first_line rest)) → count < length (first_line rest)
+in_line_by : (xs ys prefix rest : List Effect) (count : ℕ) (a b : LinkSide) (h i : Option (List ℕ)) → xs ≡ prefix ++ rest
+    → Sends (calls prefix) a b → Appends h i (lines prefix ++ take count (first_line rest)) → count < length (first_line rest)
     → StoppedInLine (xs ++ ys) a b h i
-in_line_by xs ys front [] count a b h i split sends wrote below = absurd (omega (arith, below))
-in_line_by xs ys front (Call d ∷ rest) count a b h i split sends wrote below = absurd (omega (arith, below))
-in_line_by xs ys front (Line l ∷ rest) count a b h i split sends wrote below = record {
+in_line_by xs ys prefix [] count a b h i split sends wrote below = absurd (omega (arith, below))
+in_line_by xs ys prefix (Call d ∷ rest) count a b h i split sends wrote below = absurd (omega (arith, below))
+in_line_by xs ys prefix (Line l ∷ rest) count a b h i split sends wrote below = record {
   stopped = record {
-    front = front;
+    prefix = prefix;
     rest = Line l ∷ (rest ++ ys);
-    split = rw split (append_assoc front (Line l ∷ rest) ys);
+    split = rw split (append_assoc prefix (Line l ∷ rest) ys);
     count = count;
     sends = sends;
     lines = wrote;
@@ -140,7 +140,7 @@ in_line_by xs ys front (Line l ∷ rest) count a b h i split sends wrote below =
 pub stops_more : (xs ys : List Effect) (e : DeviceError) (a b : LinkSide) (h i : Option (List ℕ)) → Stops xs e a b h i
     → Stops (xs ++ ys) e a b h i
 stops_more xs ys Failed a b h i one =
-    in_line_by xs ys one.stopped.front one.stopped.rest one.stopped.count a b h i one.stopped.split one.stopped.sends
+    in_line_by xs ys one.stopped.prefix one.stopped.rest one.stopped.count a b h i one.stopped.split one.stopped.sends
     one.stopped.lines one.below
 stops_more xs ys NoMemory a b h i one = stopped_more xs ys a b h i one
 
@@ -180,9 +180,9 @@ posted ds a b h sends = record {
   lines = rw (lines_map ds) (Appends_none h);
 }
 
-pub posted_front : (ds : List LinkCall) (a b : LinkSide) (h : Option (List ℕ)) → SendsFront ds a b → Stopped (map Call ds) a b h h
-posted_front ds a b h one = record {
-  front = map Call one.before;
+pub posted_prefix : (ds : List LinkCall) (a b : LinkSide) (h : Option (List ℕ)) → SendsPrefix ds a b → Stopped (map Call ds) a b h h
+posted_prefix ds a b h one = record {
+  prefix = map Call one.before;
   rest = map Call one.rest;
   split = rw (one.split) (map_append one.before one.rest);
   count = 0;
@@ -194,14 +194,14 @@ pub wrote_line : {T : Type 0} (line : List ℕ) (r : Result T DeviceError) (a : 
     → Carries (Line line ∷ []) r a a h i
 wrote_line line (Ok t) a h i one = record { sends = no_sends a; lines = rw (append-nil line) one }
 wrote_line line (Err Failed) a h i one = record {
-  stopped = record { front = []; rest = Line line ∷ []; split = refl; count = one.count; sends = no_sends a; lines = one.appended };
+  stopped = record { prefix = []; rest = Line line ∷ []; split = refl; count = one.count; sends = no_sends a; lines = one.appended };
   below = one.below;
 }
 wrote_line line (Err NoMemory) a h i one =
-    record { front = []; rest = Line line ∷ []; split = refl; count = one.count; sends = no_sends a; lines = one.appended }
+    record { prefix = []; rest = Line line ∷ []; split = refl; count = one.count; sends = no_sends a; lines = one.appended }
 
 pub nothing_done : (es : List Effect) (a : LinkSide) (h : Option (List ℕ)) → Stopped es a a h h
-nothing_done es a h = record { front = []; rest = es; split = refl; count = 0; sends = no_sends a; lines = Appends_none h }
+nothing_done es a h = record { prefix = []; rest = es; split = refl; count = 0; sends = no_sends a; lines = Appends_none h }
 
 pub posted_as : (at : Address) (out : Out) (dest : Dest) (shown bytes : List ℕ) (a b : LinkSide) (h : Option (List ℕ))
     → out ≡ outs.Send dest bytes → shown ≡ bytes → Sends (datagrams_to at dest shown) a b → Done (effects_of at out) a b h h

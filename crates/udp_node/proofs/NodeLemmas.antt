@@ -24,21 +24,21 @@ use Rattle.udp_node.proofs.SendLemmas.{unpolled_then}
 pub counts_then : {T : Type 0} (before mid now : ℕ) (result : Result T DeviceError)
     → CountsFor {T = Unit {0}} before mid devices.Failed (Ok tt) → CountsFor mid now devices.Failed result
     → CountsFor before now devices.Failed result
-counts_then before mid now result one two = let same : mid ≡ before = one.others (λ told. cc) in rw same at two
+counts_then before mid now result one two = let same : mid ≡ before = one.others (λ failed. cc) in rw same at two
 
 -- an error of a write is told by the call that makes it
-pub write_told : {T U : Type 0} (before now : ℕ) (e : DeviceError) (x : ServeError) → x ≡ error_of e
+pub write_reported : {T U : Type 0} (before now : ℕ) (e : DeviceError) (x : ServeError) → x ≡ error_of e
     → CountsFor {T = T} before now devices.Failed (Err e) → CountsFor {T = U} before now WriteFault (Err x)
-write_told before now devices.Failed x is one =
-    rw is (record { later = one.later; failed = λ told. one.failed refl; others = λ never. absurd (never refl) })
-write_told before now devices.NoMemory x is one =
-    rw is (record { later = one.later; failed = λ told. absurd cc; others = λ never. one.others (λ told. cc) })
+write_reported before now devices.Failed x is one =
+    rw is (record { later = one.later; failed = λ failed. one.failed refl; others = λ never. absurd (never refl) })
+write_reported before now devices.NoMemory x is one =
+    rw is (record { later = one.later; failed = λ failed. absurd cc; others = λ never. one.others (λ failed. cc) })
 
 -- and it is none of a poll
-pub no_poll_told : {U : Type 0} (before now : ℕ) (e : DeviceError) (x : ServeError) → x ≡ error_of e → now ≡ before
+pub no_poll_reported : {U : Type 0} (before now : ℕ) (e : DeviceError) (x : ServeError) → x ≡ error_of e → now ≡ before
     → CountsFor {T = U} before now LinkFault (Err x)
-no_poll_told before now devices.Failed x is same = rw is (counts_none before now _ same (λ told. cc))
-no_poll_told before now devices.NoMemory x is same = rw is (counts_none before now _ same (λ told. cc))
+no_poll_reported before now devices.Failed x is same = rw is (counts_none before now _ same (λ failed. cc))
+no_poll_reported before now devices.NoMemory x is same = rw is (counts_none before now _ same (λ failed. cc))
 
 pub same_then : {C L W : Type 0} (link : links.Ghosts L) (x y z : Node C L W) → Same link x y → Same link y z → Same link x z
 same_then link x y z one two = record {

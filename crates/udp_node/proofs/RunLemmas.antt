@@ -4,7 +4,7 @@ use Rattle.std.proofs.Common.{Some, None, Result, Ok, Err, refl, ap, sym, ◌∙
 use Rattle.nop_types.specs.Given.{Given}
 use Rattle.nop_types.specs.declared.input.Tick.{Tick}
 use Rattle.nop_types.specs.declared.output.Out.{Out}
-use Rattle.outside.specs.Clocks.{TellsTime, next_value, later_values}
+use Rattle.outside.specs.Clocks.{ReadsTime, next_value, later_values}
 use Rattle.outside.specs.Links.{next_poll}
 use Rattle.outside.specs.declared.errors.DeviceError.{DeviceError}
 use Rattle.outside.specs.declared.errors.DeviceError.TheVariants as writes
@@ -18,26 +18,26 @@ use Rattle.udp_node.specs.declared.errors.ServeError.TheVariants.{LinkFault, Wri
 use Rattle.udp_node.specs.declared.firing.Timer.{Timer}
 use Rattle.udp_node.specs.Effects.{Act, effects_by, Done, Stops}
 use Rattle.udp_node.specs.Folding.{folded, taking, Ran}
-use Rattle.udp_node.specs.NodeRun.{NodeRun, turns_from, node_run, turn_then, after_turn, with_acts, ServesRun, ServesTold, ServesAfter}
+use Rattle.udp_node.specs.NodeRun.{NodeRun, turns_from, node_run, turn_then, after_turn, with_acts, ServesRun, ServesObserved, ServesAfter}
 use Rattle.udp_node.specs.NodeRun.{ServedRun, Broke}
 use Rattle.udp_node.specs.Progress.{after_turns, Going, GoingOn}
-use Rattle.udp_node.specs.Sends.{LinkSide, Sends, Try, Made, Lost, Found, counted, failures, last_count}
+use Rattle.udp_node.specs.Sends.{LinkSide, Sends, Try, Made, Lost, Found, losses_after, failures, last_count}
 use Rattle.udp_node.specs.Timing.{armed, rearmed, is_failure, Takes, Gives}
 use Rattle.udp_node.specs.Turns.{Turned, PollFailed, TurnEnds, error_of, turn_of}
 use Rattle.udp_node.specs.declared.serving.Served.{Served}
-use Rattle.outside.specs.Told.{Stays}
+use Rattle.outside.specs.Observed.{Stays}
 use Rattle.udp_node.proofs.EffectLemmas.{acts_done, nothing_done, acts_stop, acts_stop_more, Appends_none}
 use Rattle.udp_node.proofs.SendLemmas.{no_sends}
 
 -- ---- losses
 
-pub counted_most : (n : ℕ) (ts : List Try) → counted n ts ≤ n + failures ts
+pub counted_most : (n : ℕ) (ts : List Try) → losses_after n ts ≤ n + failures ts
 counted_most n [] = omega arith
 counted_most n (Made c ∷ ts) = let rest = counted_most n ts in omega (arith, rest)
 counted_most n (Lost port bytes ∷ ts) = let rest = counted_most (next_count n) ts in omega (arith, rest)
 counted_most n (Found k ∷ ts) = let rest = counted_most (min (n + k) last_count) ts in omega (arith, rest)
 
-pub counted_least : (n : ℕ) (ts : List Try) → min (n + failures ts) last_count ≤ counted n ts
+pub counted_least : (n : ℕ) (ts : List Try) → min (n + failures ts) last_count ≤ losses_after n ts
 counted_least n [] = omega arith
 counted_least n (Made c ∷ ts) = let rest = counted_least n ts in omega (arith, rest)
 counted_least n (Lost port bytes ∷ ts) = let rest = counted_least (next_count n) ts in omega (arith, rest)
@@ -59,7 +59,7 @@ pub lost_joined : (l m n k lost : ℕ) → min (l + (k - 0)) last_count ≤ m �
 lost_joined l m n k lost one two = omega (arith, one, two)
 
 -- up to the greatest count of 64 bits, the count rises by the number of datagrams that could not be sent
-pub counted_is : (n : ℕ) (ts : List Try) → n ≤ last_count → counted n ts ≡ min (n + failures ts) last_count
+pub counted_is : (n : ℕ) (ts : List Try) → n ≤ last_count → losses_after n ts ≡ min (n + failures ts) last_count
 counted_is n [] most = omega (arith, most)
 counted_is n (Made c ∷ ts) most = let rest = counted_is n ts most in omega (arith, rest)
 counted_is n (Lost port bytes ∷ ts) most =
@@ -88,7 +88,7 @@ module _ {S : Type 0} (next : S → Given → S × List Out) (is_done : S → Bo
       rw e refl
 
   pub going_start : (timers : List (Tick × ℕ)) (turns : ℕ) (s : S) (o : Option (List PollAnswer)) (v w : Option (List ℕ)) (ts : List Timer)
-      (now : ℕ) (a : LinkSide) (h : Option (List ℕ)) → TellsTime v w now → ts ≡ map (armed now) timers
+      (now : ℕ) (a : LinkSide) (h : Option (List ℕ)) → ReadsTime v w now → ts ≡ map (armed now) timers
       → Going next is_done at timers turns s o v 0 s ts now o w a a h h
   going_start timers turns s None v w ts now a h time first = tt
   going_start timers turns s (Some answers) None w ts now a h time first = tt
@@ -97,8 +97,8 @@ module _ {S : Type 0} (next : S → Given → S × List Out) (is_done : S → Bo
       record {
         answers = answers;
         values = later_values values;
-        answers_told = refl;
-        values_told = time.1;
+        answers_observed = refl;
+        values_observed = time.1;
         so_far = [];
         is = rw (e, first, time.0) (zero_turns (node_run next is_done timers turns s answers values));
         done = record { sends = no_sends a; lines = Appends_none h };
@@ -139,11 +139,11 @@ module _ {S : Type 0} (next : S → Given → S × List Out) (is_done : S → Bo
   turn_last r outs taken left s ts now answers values some is works ends =
       rw (works, ends) at (this_turn r outs taken left s ts now answers values some is)
 
-  -- what is done of a turn stands in the run
-  outs_front : (failed done : Bool) (os : List Act) (r : NodeRun) → (more : List Act) × ((turn_then failed done os r).acts ≡ os ++ more)
-  outs_front true done os r = ([], sym (append-nil os))
-  outs_front false true os r = ([], sym (append-nil os))
-  outs_front false false os r = (r.acts, refl)
+  -- what is done of a turn is in the run
+  outs_prefix : (failed done : Bool) (os : List Act) (r : NodeRun) → (more : List Act) × ((turn_then failed done os r).acts ≡ os ++ more)
+  outs_prefix true done os r = ([], sym (append-nil os))
+  outs_prefix false true os r = ([], sym (append-nil os))
+  outs_prefix false false os r = (r.acts, refl)
 
   done_more : (outs os : List Act) (a b c : LinkSide) (h i j : Option (List ℕ)) → Done (effects_by at outs) a b h i
       → Done (effects_by at os) b c i j → Done (effects_by at (outs ++ os)) a c h j
@@ -152,13 +152,13 @@ module _ {S : Type 0} (next : S → Given → S × List Out) (is_done : S → Bo
   going_on : (r : NodeRun) (turns taken : ℕ) (s t : S) (ts us : List Timer) (now then time : ℕ) (o later : Option (List PollAnswer))
       (v w : Option (List ℕ)) (a b c : LinkSide) (h i j : Option (List ℕ))
       → GoingOn next is_done at r taken (turns - taken) s ts now o v a b h i → taken < turns → Turned next at s t now ts us o later b c i j
-      → is_done t ≡ false → TellsTime v w time → then ≡ max now time
+      → is_done t ≡ false → ReadsTime v w time → then ≡ max now time
       → GoingOn next is_done at r (taken + 1) (turns - (taken + 1)) t us then later w a c h j
   going_on r turns taken s t ts us now then time o later v w a b c h i j g within turned goes clock greatest =
       let some : 0 < turns - taken = omega (arith, within) in
       let left : turns - (taken + 1) ≡ turns - taken - 1 = omega (arith, within) in
-      let took : Takes (Some g.answers) later turned.answer = rw g.answers_told at turned.taken in
-      let told : TellsTime (Some g.values) w time = rw g.values_told at clock in
+      let took : Takes (Some g.answers) later turned.answer = rw g.answers_observed at turned.taken in
+      let observed : ReadsTime (Some g.values) w time = rw g.values_observed at clock in
       let state : t ≡ (after s now ts (next_poll g.answers)).0 = rw took.0 at turned.state in
       let done : Done (effects_by at (after s now ts (next_poll g.answers)).1) b c i j = rw took.0 at turned.done in
       let works : is_failure (next_poll g.answers) ≡ false = rw took.0 at turned.works in
@@ -166,11 +166,11 @@ module _ {S : Type 0} (next : S → Given → S × List Out) (is_done : S → Bo
       record {
         answers = drop 1 g.answers;
         values = later_values g.values;
-        answers_told = took.1;
-        values_told = told.1;
+        answers_observed = took.1;
+        values_observed = observed.1;
         so_far = g.so_far ++ (after s now ts (next_poll g.answers)).1;
         is =
-            rw (state, turned.timers, greatest, told.0, left)
+            rw (state, turned.timers, greatest, observed.0, left)
             (turn_step r g.so_far taken (turns - taken) s ts now g.answers g.values some g.is works open_);
         done = done_more g.so_far (after s now ts (next_poll g.answers)).1 a b c h i j g.done done;
       }
@@ -178,7 +178,7 @@ module _ {S : Type 0} (next : S → Given → S × List Out) (is_done : S → Bo
   pub going_turn : (timers : List (Tick × ℕ)) (turns : ℕ) (s0 : S) (o0 : Option (List PollAnswer)) (v0 : Option (List ℕ)) (taken : ℕ)
       (s t : S) (ts us : List Timer) (now then time : ℕ) (o later : Option (List PollAnswer)) (v w : Option (List ℕ)) (a b c : LinkSide)
       (h i j : Option (List ℕ)) → Going next is_done at timers turns s0 o0 v0 taken s ts now o v a b h i → taken < turns
-      → Turned next at s t now ts us o later b c i j → is_done t ≡ false → TellsTime v w time → then ≡ max now time
+      → Turned next at s t now ts us o later b c i j → is_done t ≡ false → ReadsTime v w time → then ≡ max now time
       → Going next is_done at timers turns s0 o0 v0 (taken + 1) t us then later w a c h j
   going_turn timers turns s0 None v0 taken s t ts us now then time o later v w a b c h i j g within turned goes clock greatest = tt
   going_turn timers turns s0 (Some x) None taken s t ts us now then time o later v w a b c h i j g within turned goes clock greatest = tt
@@ -213,7 +213,7 @@ module _ {S : Type 0} (next : S → Given → S × List Out) (is_done : S → Bo
       → ServedRun at r (record { turns = taken + 1; lost = c.lost; done = true }) a (record d { lost = c.lost }) h j
   served_done r turns taken s t ts us now o later v a b c d h i j g within turned ends same =
       let some : 0 < turns - taken = omega (arith, within) in
-      let took : Takes (Some g.answers) later turned.answer = rw g.answers_told at turned.taken in
+      let took : Takes (Some g.answers) later turned.answer = rw g.answers_observed at turned.taken in
       let state : t ≡ (after s now ts (next_poll g.answers)).0 = rw took.0 at turned.state in
       let done : Done (effects_by at (after s now ts (next_poll g.answers)).1) b c i j = rw took.0 at turned.done in
       let works : is_failure (next_poll g.answers) ≡ false = rw took.0 at turned.works in
@@ -226,7 +226,7 @@ module _ {S : Type 0} (next : S → Given → S × List Out) (is_done : S → Bo
       (s t : S) (ts us : List Timer) (now : ℕ) (o later : Option (List PollAnswer)) (v : Option (List ℕ)) (a b c d : LinkSide)
       (h i j : Option (List ℕ)) → Going next is_done at timers turns s0 o0 v0 taken s ts now o v a b h i → taken < turns
       → Turned next at s t now ts us o later b c i j → is_done t ≡ true → record d { lost = c.lost } ≡ c
-      → ServesTold next is_done timers at turns s0 o0 v0 (Ok (record { turns = taken + 1; lost = c.lost; done = true })) a d h j
+      → ServesObserved next is_done timers at turns s0 o0 v0 (Ok (record { turns = taken + 1; lost = c.lost; done = true })) a d h j
   serves_done timers turns s0 None v0 taken s t ts us now o later v a b c d h i j g within turned ends same = tt
   serves_done timers turns s0 (Some x) None taken s t ts us now o later v a b c d h i j g within turned ends same = tt
   serves_done timers turns s0 (Some x) (Some y) taken s t ts us now o later v a b c d h i j g within turned ends same =
@@ -245,7 +245,7 @@ module _ {S : Type 0} (next : S → Given → S × List Out) (is_done : S → Bo
       (s : S) (ts : List Timer) (now : ℕ) (o : Option (List PollAnswer)) (v : Option (List ℕ)) (a b d : LinkSide) (h i : Option (List ℕ))
       (done : Bool) → Going next is_done at timers turns s0 o0 v0 taken s ts now o v a b h i → turns ≤ taken → done ≡ is_done s
       → record d { lost = b.lost } ≡ b
-      → ServesTold next is_done timers at turns s0 o0 v0 (Ok (record { turns = taken; lost = b.lost; done = done })) a d h i
+      → ServesObserved next is_done timers at turns s0 o0 v0 (Ok (record { turns = taken; lost = b.lost; done = done })) a d h i
   serves_last timers turns s0 None v0 taken s ts now o v a b d h i done g all is same = tt
   serves_last timers turns s0 (Some x) None taken s ts now o v a b d h i done g all is same = tt
   serves_last timers turns s0 (Some x) (Some y) taken s ts now o v a b d h i done g all is same =
@@ -260,16 +260,16 @@ module _ {S : Type 0} (next : S → Given → S × List Out) (is_done : S → Bo
       → Stops (effects_by at (after s now ts answer).1) e b c i j → Stops (effects_by at r.acts) e a c h j
   stops_run r turns taken s ts now o v e a b c h i j answer g within gives stops =
       let some : 0 < turns - taken = omega (arith, within) in
-      let gave : Gives (Some g.answers) answer = rw g.answers_told at gives in
+      let gave : Gives (Some g.answers) answer = rw g.answers_observed at gives in
       let here : Stops (effects_by at (after s now ts (next_poll g.answers)).1) e b c i j = rw gave at stops in
-      let front =
-      outs_front (is_failure (next_poll g.answers)) (is_done (after s now ts (next_poll g.answers)).0)
+      let prefix =
+      outs_prefix (is_failure (next_poll g.answers)) (is_done (after s now ts (next_poll g.answers)).0)
       (after s now ts (next_poll g.answers)).1 (rest_of (turns - taken - 1) s ts now g.answers g.values) in
-      let is : r.acts ≡ g.so_far ++ ((after s now ts (next_poll g.answers)).1 ++ front.0) =
-      ap (λ x. x.acts) (this_turn r g.so_far taken (turns - taken) s ts now g.answers g.values some g.is) ∙ ap (λ os. g.so_far ++ os) front.1 in
+      let is : r.acts ≡ g.so_far ++ ((after s now ts (next_poll g.answers)).1 ++ prefix.0) =
+      ap (λ x. x.acts) (this_turn r g.so_far taken (turns - taken) s ts now g.answers g.values some g.is) ∙ ap (λ os. g.so_far ++ os) prefix.1 in
       rw is
-      (acts_stop at g.so_far ((after s now ts (next_poll g.answers)).1 ++ front.0) e a b c h i j g.done
-      (acts_stop_more at (after s now ts (next_poll g.answers)).1 front.0 e b c i j here))
+      (acts_stop at g.so_far ((after s now ts (next_poll g.answers)).1 ++ prefix.0) e a b c h i j g.done
+      (acts_stop_more at (after s now ts (next_poll g.answers)).1 prefix.0 e b c i j here))
 
   -- a poll that failed ends the run
   breaks_run : (r : NodeRun) (turns taken : ℕ) (s : S) (ts : List Timer) (now : ℕ) (o : Option (List PollAnswer)) (v : Option (List ℕ))
@@ -277,7 +277,7 @@ module _ {S : Type 0} (next : S → Given → S × List Out) (is_done : S → Bo
       → PollFailed next at s now ts o b c i j → Broke at r a c h j
   breaks_run r turns taken s ts now o v a b c h i j g within failed =
       let some : 0 < turns - taken = omega (arith, within) in
-      let gave : Failure ≡ next_poll g.answers = rw g.answers_told at failed.gives in
+      let gave : Failure ≡ next_poll g.answers = rw g.answers_observed at failed.gives in
       let one = this_turn r g.so_far taken (turns - taken) s ts now g.answers g.values some g.is in
       let is : r ≡ after_turns g.so_far taken
       (turn_then true (is_done (after s now ts Failure).0) (after s now ts Failure).1
@@ -292,7 +292,7 @@ module _ {S : Type 0} (next : S → Given → S × List Out) (is_done : S → Bo
       (s t : S) (ts us : List Timer) (now : ℕ) (o later : Option (List PollAnswer)) (v : Option (List ℕ)) (e : ServeError)
       (a b c d : LinkSide) (h i j : Option (List ℕ)) → Going next is_done at timers turns s0 o0 v0 taken s ts now o v a b h i
       → taken < turns → TurnEnds next at {T = Unit {0}} s t now ts us o later (Err e) b c i j → record d { lost = c.lost } ≡ c
-      → ServesTold next is_done timers at turns s0 o0 v0 (Err e) a d h j
+      → ServesObserved next is_done timers at turns s0 o0 v0 (Err e) a d h j
   serves_err timers turns s0 None v0 taken s t ts us now o later v e a b c d h i j g within ends same = tt
   serves_err timers turns s0 (Some x) None taken s t ts us now o later v e a b c d h i j g within ends same = tt
   serves_err timers turns s0 (Some x) (Some y) taken s t ts us now o later v LinkFault a b c d h i j g within ends same =
@@ -314,7 +314,7 @@ module _ {S : Type 0} (next : S → Given → S × List Out) (is_done : S → Bo
 
   pub serves_none : (timers : List (Tick × ℕ)) (turns : ℕ) (s0 : S) (o0 : Option (List PollAnswer)) (v0 : Option (List ℕ))
       (a d : LinkSide) (h : Option (List ℕ)) → record d { lost = a.lost } ≡ a
-      → ServesTold next is_done timers at turns s0 o0 v0 (Err NoMemory) a d h h
+      → ServesObserved next is_done timers at turns s0 o0 v0 (Err NoMemory) a d h h
   serves_none timers turns s0 None v0 a d h same = tt
   serves_none timers turns s0 (Some x) None a d h same = tt
   serves_none timers turns s0 (Some x) (Some y) a d h same =
@@ -351,15 +351,15 @@ module _ {S : Type 0} (next : S → Given → S × List Out) (is_done : S → Bo
   pub serves_after : (first : List Given) (timers : List (Tick × ℕ)) (turns : ℕ) (s t : S)
       (o p : Option (List PollAnswer)) (v : Option (List ℕ)) (result : Result Served ServeError)
       (a b d : LinkSide) (h i j : Option (List ℕ)) → Ran next at s t first a b h i → Stays o p
-      → ServesTold next is_done timers at turns t p v result b d i j
+      → ServesObserved next is_done timers at turns t p v result b d i j
       → ServesAfter next is_done first timers at turns s o v result a d h j
   serves_after first timers turns s t None p v result a b d h i j ran stays serves = tt
   serves_after first timers turns s t (Some x) p None result a b d h i j ran stays serves = tt
   serves_after first timers turns s t (Some x) p (Some y) result a b d h i j ran stays serves =
-      let told : ServesTold next is_done timers at turns (folded next s first).0 (Some x) (Some y) result b d i j =
+      let observed : ServesObserved next is_done timers at turns (folded next s first).0 (Some x) (Some y) result b d i j =
       rw (stays, ran.state) at serves in
       after_run (taking next s first) (node_run next is_done timers turns (folded next s first).0 x y) result
-      a b d h i j ran.done told
+      a b d h i j ran.done observed
 
   stops_first : (os : List Act) (r : NodeRun) (e : DeviceError) (a b d : LinkSide) (h i : Option (List ℕ))
       → Stops (effects_by at os) e a b h i → record d { lost = b.lost } ≡ b

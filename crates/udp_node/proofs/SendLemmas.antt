@@ -4,15 +4,15 @@ use Rattle.std.proofs.Common.{Result, Ok, Err, refl, ap, sym, ◌∙◌, append_
 use Rattle.nop_types.specs.declared.memory.NoMemory.{NoMemory}
 use Rattle.outside.specs.Causes.{next_count}
 use Rattle.outside.specs.Links.{TracesPoll}
-use Rattle.outside.specs.Told.{Stays, StaysIfTold, Adds}
+use Rattle.outside.specs.Observed.{Stays, StaysIfObserved, Adds}
 use Rattle.outside.specs.declared.errors.DeviceError.{DeviceError}
 use Rattle.outside.specs.declared.errors.DeviceError.TheVariants as links
 use Rattle.outside.specs.declared.link.Link as devices
 use Rattle.outside.specs.declared.link.LinkCall.{LinkCall}
 use Rattle.outside.specs.declared.link.LinkCall.TheVariants.{Polled, Sent}
 use Rattle.udp_node.specs.Ports.{is_skipped, unless, datagrams_from}
-use Rattle.udp_node.specs.Sends.{LinkSide, Grows, Try, Made, Lost, Found, tried, made, found, counted, last_count}
-use Rattle.udp_node.specs.Sends.{Sends, SendsFront, SendsAll, PollsLink, Unpolled}
+use Rattle.udp_node.specs.Sends.{LinkSide, Grows, Try, Made, Lost, Found, tried, made, found, losses_after, last_count}
+use Rattle.udp_node.specs.Sends.{Sends, SendsPrefix, SendsAll, PollsLink, Unpolled}
 
 pub tried_append : (xs ys : List Try) → tried (xs ++ ys) ≡ tried xs ++ tried ys
 tried_append [] ys = refl
@@ -45,14 +45,14 @@ Stays_trans (Some x) b c one two = rw one at two
 pub unpolled_then : {L : Type 0} (link : devices.Ghosts L) (x y z : L) → Unpolled link x y → Unpolled link y z → Unpolled link x z
 unpolled_then link x y z one two = record { answers = Stays_trans _ _ _ one.answers two.answers; faults = two.faults ∙ one.faults }
 
-pub counted_append : (n : ℕ) (xs ys : List Try) → counted n (xs ++ ys) ≡ counted (counted n xs) ys
+pub counted_append : (n : ℕ) (xs ys : List Try) → losses_after n (xs ++ ys) ≡ losses_after (losses_after n xs) ys
 counted_append n [] ys = refl
 counted_append n (Made c ∷ xs) ys = counted_append n xs ys
 counted_append n (Lost port bytes ∷ xs) ys = counted_append (next_count n) xs ys
 counted_append n (Found k ∷ xs) ys = counted_append (min (n + k) last_count) xs ys
 
-found_none : (a b : Option (List LinkCall)) (xs ys : List Try) → Grows a b (made xs) → StaysIfTold a 0 (found xs)
-    → StaysIfTold b 0 (found ys) → StaysIfTold a 0 (found (xs ++ ys))
+found_none : (a b : Option (List LinkCall)) (xs ys : List Try) → Grows a b (made xs) → StaysIfObserved a 0 (found xs)
+    → StaysIfObserved b 0 (found ys) → StaysIfObserved a 0 (found (xs ++ ys))
 found_none None b xs ys grows one two = tt
 found_none (Some old) b xs ys grows one two =
     let here : found ys ≡ 0 = rw grows at two in
@@ -66,19 +66,19 @@ sends_then xs ys a b c one two = record {
   trace = rw (made_append one.tries two.tries) (Grows_trans a.trace b.trace c.trace (made one.tries) (made two.tries) one.trace two.trace);
   lost = rw (counted_append a.lost one.tries two.tries, ← one.lost) two.lost;
   losses = rw (counted_append a.losses one.tries two.tries, ← one.losses) two.losses;
-  told = found_none a.trace b.trace one.tries two.tries one.trace one.told two.told;
+  observed = found_none a.trace b.trace one.tries two.tries one.trace one.observed two.observed;
 }
 
-pub front_then : (xs ys : List LinkCall) (a b c : LinkSide) → Sends xs a b → SendsFront ys b c → SendsFront (xs ++ ys) a c
-front_then xs ys a b c one two = record {
+pub prefix_then : (xs ys : List LinkCall) (a b c : LinkSide) → Sends xs a b → SendsPrefix ys b c → SendsPrefix (xs ++ ys) a c
+prefix_then xs ys a b c one two = record {
   before = xs ++ two.before;
   rest = two.rest;
   split = ap (λ zs. xs ++ zs) two.split ∙ sym (append_assoc xs two.before two.rest);
   sends = sends_then xs two.before a b c one two.sends;
 }
 
-pub front_more : (xs ys : List LinkCall) (a b : LinkSide) → SendsFront xs a b → SendsFront (xs ++ ys) a b
-front_more xs ys a b one = record {
+pub prefix_more : (xs ys : List LinkCall) (a b : LinkSide) → SendsPrefix xs a b → SendsPrefix (xs ++ ys) a b
+prefix_more xs ys a b one = record {
   before = one.before;
   rest = one.rest ++ ys;
   split = ap (λ zs. zs ++ ys) one.split ∙ append_assoc one.before one.rest ys;
@@ -106,12 +106,12 @@ pub Grows_none : {A : Type 0} (s : Option (List A)) → Grows s s []
 Grows_none None = tt
 Grows_none (Some xs) = ap Some (sym (append-nil xs))
 
-told_none : {A : Type 0} (o : Option A) → StaysIfTold o 0 0
-told_none None = tt
-told_none (Some x) = refl
+observed_none : {A : Type 0} (o : Option A) → StaysIfObserved o 0 0
+observed_none None = tt
+observed_none (Some x) = refl
 
 pub no_sends : (a : LinkSide) → Sends [] a a
-no_sends a = record { tries = []; all = refl; trace = Grows_none a.trace; lost = refl; losses = refl; told = told_none a.trace }
+no_sends a = record { tries = []; all = refl; trace = Grows_none a.trace; lost = refl; losses = refl; observed = observed_none a.trace }
 
 pub Adds_Grows : {A : Type 0} (a b : Option (List A)) (x : A) → Adds a b x → Grows a b (x ∷ [])
 Adds_Grows None b x one = tt
@@ -128,7 +128,7 @@ sent_one c a b trace lost losses = record {
   trace = Adds_Grows a.trace b.trace c trace;
   lost = lost;
   losses = losses;
-  told = told_none a.trace;
+  observed = observed_none a.trace;
 }
 
 pub lost_one : (port : ℕ) (bytes : List ℕ) (a b : LinkSide) → Stays a.trace b.trace → b.lost ≡ next_count a.lost
@@ -139,10 +139,10 @@ lost_one port bytes a b trace lost losses = record {
   trace = Stays_Grows a.trace b.trace trace;
   lost = lost;
   losses = losses;
-  told = told_none a.trace;
+  observed = observed_none a.trace;
 }
 
-pub untried : (cs : List LinkCall) (a b : LinkSide) → Stays a.trace b.trace → b.lost ≡ a.lost → b.losses ≡ a.losses → SendsFront cs a b
+pub untried : (cs : List LinkCall) (a b : LinkSide) → Stays a.trace b.trace → b.lost ≡ a.lost → b.losses ≡ a.losses → SendsPrefix cs a b
 untried cs a b trace lost losses = record {
   before = [];
   rest = cs;
@@ -154,18 +154,18 @@ untried cs a b trace lost losses = record {
         trace = Stays_Grows a.trace b.trace trace;
         lost = lost;
         losses = losses;
-        told = told_none a.trace;
+        observed = observed_none a.trace;
       };
 }
 
 -- ---- a poll
 
-found_late : {A : Type 0} (o : Option A) (before now k : ℕ) → StaysIfTold o before now → now ≡ before + k → StaysIfTold o 0 (k + 0)
+found_late : {A : Type 0} (o : Option A) (before now k : ℕ) → StaysIfObserved o before now → now ≡ before + k → StaysIfObserved o 0 (k + 0)
 found_late None before now k stays is = tt
 found_late (Some x) before now k stays is = omega (arith, stays, is)
 
 pub polled_link : {T : Type 0} (r : Result T DeviceError) (a b : LinkSide) → TracesPoll a.trace b.trace r → a.losses ≤ b.losses
-    → StaysIfTold a.trace a.losses b.losses → b.losses ≤ last_count → b.lost ≡ min (a.lost + (b.losses - a.losses)) last_count
+    → StaysIfObserved a.trace a.losses b.losses → b.losses ≤ last_count → b.lost ≡ min (a.lost + (b.losses - a.losses)) last_count
     → PollsLink r a b
 polled_link (Ok t) a b trace later stays most lost = record {
   tries = Made Polled ∷ Found (b.losses - a.losses) ∷ [];
@@ -173,7 +173,7 @@ polled_link (Ok t) a b trace later stays most lost = record {
   trace = Adds_Grows a.trace b.trace Polled trace;
   lost = lost;
   losses = omega (arith, later, most);
-  told = found_late a.trace a.losses b.losses (b.losses - a.losses) stays (omega (arith, later));
+  observed = found_late a.trace a.losses b.losses (b.losses - a.losses) stays (omega (arith, later));
 }
 polled_link (Err links.Failed) a b trace later stays most lost = record {
   tries = Made Polled ∷ Found (b.losses - a.losses) ∷ [];
@@ -181,7 +181,7 @@ polled_link (Err links.Failed) a b trace later stays most lost = record {
   trace = Adds_Grows a.trace b.trace Polled trace;
   lost = lost;
   losses = omega (arith, later, most);
-  told = found_late a.trace a.losses b.losses (b.losses - a.losses) stays (omega (arith, later));
+  observed = found_late a.trace a.losses b.losses (b.losses - a.losses) stays (omega (arith, later));
 }
 polled_link (Err links.NoMemory) a b trace later stays most lost = record {
   tries = Found (b.losses - a.losses) ∷ [];
@@ -189,7 +189,7 @@ polled_link (Err links.NoMemory) a b trace later stays most lost = record {
   trace = Stays_Grows a.trace b.trace trace;
   lost = lost;
   losses = omega (arith, later, most);
-  told = found_late a.trace a.losses b.losses (b.losses - a.losses) stays (omega (arith, later));
+  observed = found_late a.trace a.losses b.losses (b.losses - a.losses) stays (omega (arith, later));
 }
 
 -- ---- many sends
@@ -197,7 +197,7 @@ polled_link (Err links.NoMemory) a b trace later stays most lost = record {
 pub then_all : {T : Type 0} (xs ys : List LinkCall) (r : Result T NoMemory) (a b c : LinkSide) → Sends xs a b → SendsAll ys r b c
     → SendsAll (xs ++ ys) r a c
 then_all xs ys (Ok t) a b c one two = sends_then xs ys a b c one two
-then_all xs ys (Err e) a b c one two = front_then xs ys a b c one two
+then_all xs ys (Err e) a b c one two = prefix_then xs ys a b c one two
 
 -- one more of so many datagrams
 pub one_more : (bytes : List ℕ) (skipped : Option ℕ) (first i : ℕ) (a b c : LinkSide) → Sends (datagrams_from bytes skipped first i) a b
@@ -209,19 +209,19 @@ one_more bytes skipped first i a b c one two =
 
 -- the next of so many datagrams was not tried
 one_less_of : (bytes : List ℕ) (skipped : Option ℕ) (first i rest : ℕ) (a b c : LinkSide) → Sends (datagrams_from bytes skipped first i) a b
-    → SendsFront (unless (is_skipped skipped (first + i)) (Sent (first + i) bytes) []) b c
-    → SendsFront (datagrams_from bytes skipped first (i + (1 + rest))) a c
+    → SendsPrefix (unless (is_skipped skipped (first + i)) (Sent (first + i) bytes) []) b c
+    → SendsPrefix (datagrams_from bytes skipped first (i + (1 + rest))) a c
 one_less_of bytes skipped first i rest a b c one two =
     rw (datagrams_add bytes skipped first i (1 + rest), datagrams_add bytes skipped (first + i) 1 rest)
-    (front_then (datagrams_from bytes skipped first i)
+    (prefix_then (datagrams_from bytes skipped first i)
     (datagrams_from bytes skipped (first + i) 1 ++ datagrams_from bytes skipped (first + i + 1) rest) a b c one
-    (front_more (unless (is_skipped skipped (first + i)) (Sent (first + i) bytes) [])
+    (prefix_more (unless (is_skipped skipped (first + i)) (Sent (first + i) bytes) [])
     (datagrams_from bytes skipped (first + i + 1) rest) b c two))
 
 pub one_less : (bytes : List ℕ) (skipped : Option ℕ) (first count i : ℕ) (a b c : LinkSide) → i < count
     → Sends (datagrams_from bytes skipped first i) a b
-    → SendsFront (unless (is_skipped skipped (first + i)) (Sent (first + i) bytes) []) b c
-    → SendsFront (datagrams_from bytes skipped first count) a c
+    → SendsPrefix (unless (is_skipped skipped (first + i)) (Sent (first + i) bytes) []) b c
+    → SendsPrefix (datagrams_from bytes skipped first count) a c
 one_less bytes skipped first count i a b c within one two =
     let total : i + (1 + (count - (i + 1))) ≡ count = omega (arith, within) in
     rw total at (one_less_of bytes skipped first i (count - (i + 1)) a b c one two)

@@ -3,7 +3,7 @@ use Rattle.std.proofs.Common.{◌≡◌, ℕ, List, [], ◌∷◌, ◌++◌, map
 use Rattle.nop_types.specs.Given.{Given, Packet}
 use Rattle.nop_types.specs.declared.output.Out.{Out}
 use Rattle.outside.specs.Links.{next_poll, poll_result, Polls}
-use Rattle.outside.specs.Told.{Stays}
+use Rattle.outside.specs.Observed.{Stays}
 use Rattle.outside.specs.declared.errors.DeviceError.{DeviceError}
 use Rattle.outside.specs.declared.errors.DeviceError.TheVariants as writes
 use Rattle.outside.specs.declared.link.LinkCall.TheVariants.{Polled}

@@ -5,7 +5,7 @@ use Rattle.std.specs.Io.KnownBytes.{Appends}
 use Rattle.nop_types.specs.Given.{Given}
 use Rattle.nop_types.specs.declared.output.Out.{Out}
 use Rattle.nop_types.specs.declared.output.Out.TheVariants as outs
-use Rattle.outside.specs.Fronts.{AppendsFront}
+use Rattle.outside.specs.Prefixes.{AppendsPrefix}
 use Rattle.outside.specs.declared.errors.DeviceError.{DeviceError}
 use Rattle.outside.specs.declared.errors.DeviceError.TheVariants.{Failed, NoMemory}
 use Rattle.outside.specs.declared.link.LinkCall.{LinkCall}
@@ -16,7 +16,7 @@ use Rattle.udp_node.specs.Ports.{datagrams_to}
 use Rattle.udp_node.specs.Sends.{LinkSide, Sends}
 
 -- some bytes of a line were written
-pub record WroteFront (line : List ℕ) (before now : Option (List ℕ)) : Type 0 where
+pub record WrotePrefix (line : List ℕ) (before now : Option (List ℕ)) : Type 0 where
   pub count : ℕ
   pub appended : Appends before now (take count line)
 
@@ -27,8 +27,8 @@ WroteText before now = (text : List ℕ) × Appends before now text
 -- a line was written, or not all of it
 abbrev pub Writes : {T : Type 0} → List ℕ → Result T DeviceError → Option (List ℕ) → Option (List ℕ) → Type 0
 Writes line (Ok t) before now = Appends before now line
-Writes line (Err Failed) before now = AppendsFront before now line
-Writes line (Err NoMemory) before now = WroteFront line before now
+Writes line (Err Failed) before now = AppendsPrefix before now line
+Writes line (Err NoMemory) before now = WrotePrefix line before now
 
 pub data Effect : Type 0 where
   Call : LinkCall → Effect
@@ -93,12 +93,12 @@ pub record Done (es : List Effect) (a b : LinkSide) (before now : Option (List �
 
 -- only a front of it was done, and of the line that comes next some bytes were written
 pub record Stopped (es : List Effect) (a b : LinkSide) (before now : Option (List ℕ)) : Type 0 where
-  pub front : List Effect
+  pub prefix : List Effect
   pub rest : List Effect
-  pub split : es ≡ front ++ rest
+  pub split : es ≡ prefix ++ rest
   pub count : ℕ
-  pub sends : Sends (calls front) a b
-  pub lines : Appends before now (lines front ++ take count (first_line rest))
+  pub sends : Sends (calls prefix) a b
+  pub lines : Appends before now (lines prefix ++ take count (first_line rest))
 
 -- a line comes next, and not all of it was written
 pub record StoppedInLine (es : List Effect) (a b : LinkSide) (before now : Option (List ℕ)) : Type 0 where

@@ -83,13 +83,13 @@ ServesRun at r (Err LinkFault) a b h i = (lost : ℕ) × Broke at r a (record b 
 ServesRun at r (Err WriteFault) a b h i = (lost : ℕ) × StoppedInLine (effects_by at r.acts) a (record b { lost = lost }) h i
 ServesRun at r (Err NoMemory) a b h i = (lost : ℕ) × Stopped (effects_by at r.acts) a (record b { lost = lost }) h i
 
--- where the link and the clock tell their content, it is the run over it
-abbrev pub ServesTold : {S : Type 0} → (S → Given → S × List Out) → (S → Bool) → List (Tick × ℕ) → Address → ℕ → S
+-- where the link and the clock are observable, it is the run over it
+abbrev pub ServesObserved : {S : Type 0} → (S → Given → S × List Out) → (S → Bool) → List (Tick × ℕ) → Address → ℕ → S
     → Option (List PollAnswer) → Option (List ℕ) → Result Served ServeError → LinkSide → LinkSide → Option (List ℕ) → Option (List ℕ)
     → Type 0
-ServesTold next is_done timers at turns s None values result a b h i = ⊤
-ServesTold next is_done timers at turns s (Some answers) None result a b h i = ⊤
-ServesTold next is_done timers at turns s (Some answers) (Some values) result a b h i =
+ServesObserved next is_done timers at turns s None values result a b h i = ⊤
+ServesObserved next is_done timers at turns s (Some answers) None result a b h i = ⊤
+ServesObserved next is_done timers at turns s (Some answers) (Some values) result a b h i =
     ServesRun at (node_run next is_done timers turns s answers values) result a b h i
 
 -- the same, after some inputs

@@ -14,7 +14,7 @@ use Rattle.udp_node.specs.declared.node.Node.{Node}
 use Rattle.udp_node.specs.declared.serving.Served.{Served}
 use Rattle.udp_node.specs.Effects.{Effect, Carries, WroteText}
 use Rattle.udp_node.specs.Folding.{Runs, TookSome}
-use Rattle.udp_node.specs.NodeRun.{ServesTold}
+use Rattle.udp_node.specs.NodeRun.{ServesObserved}
 use Rattle.udp_node.specs.Sends.{LinkSide, Unpolled, side_of, last_count}
 use Rattle.udp_node.specs.Turns.{TurnEnds}
 
@@ -61,7 +61,7 @@ module _ {C L W : Type 0} (core : cores.Ghosts C) (link : links.Ghosts L) (sink 
 
   -- it took turns, at most so many
   pub record TakesTurns (old new : Node C L W) (turns : ℕ) (values : Option (List ℕ)) (result : Result Served ServeError) : Type 0 where
-    pub run : ServesTold core.next core.is_done core.timers old.at turns (core.state old.core.now) (link.answers old.link.now) values result
+    pub run : ServesObserved core.next core.is_done core.timers old.at turns (core.state old.core.now) (link.answers old.link.now) values result
         (link_side link old) (record (link_side link new) { lost = 0 }) (sink.held old.sink.now) (sink.held new.sink.now)
     pub took : OnOk result (TookSome core.next old.at [] (core.state old.core.now) (core.state new.core.now) (sink.held old.sink.now)
         (sink.held new.sink.now))

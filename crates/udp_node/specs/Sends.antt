@@ -2,14 +2,14 @@
 use Rattle.std.specs.Prelude.{◌≡◌, ℕ, ◌+◌, ◌-◌, ◌^◌, min, List, [], ◌∷◌, ◌++◌, Option, Some, None, Result, Ok, Err, ⊤}
 use Rattle.nop_types.specs.declared.memory.NoMemory.{NoMemory}
 use Rattle.outside.specs.Causes.{next_count}
-use Rattle.outside.specs.Told.{Stays, StaysIfTold}
+use Rattle.outside.specs.Observed.{Stays, StaysIfObserved}
 use Rattle.outside.specs.declared.errors.DeviceError.{DeviceError}
 use Rattle.outside.specs.declared.errors.DeviceError.TheVariants as links
 use Rattle.outside.specs.declared.link.Link as devices
 use Rattle.outside.specs.declared.link.LinkCall.{LinkCall}
 use Rattle.outside.specs.declared.link.LinkCall.TheVariants.{Polled, Sent}
 
--- the calls that the link tells; how many datagrams the node counted as lost, and how many the link
+-- the calls on the link, where they are observable; how many datagrams the node counted as lost, and how many the link
 pub record LinkSide : Type 0 where
   pub trace : Option (List LinkCall)
   pub lost : ℕ
@@ -26,7 +26,7 @@ pub record Unpolled {L : Type 0} (link : devices.Ghosts L) (old new : L) : Type 
   pub answers : Stays (link.answers old) (link.answers new)
   pub faults : link.fault_count new ≡ link.fault_count old
 
--- told content grows by xs
+-- observable content grows by xs
 abbrev pub Grows : {A : Type 0} → Option (List A) → Option (List A) → List A → Type 0
 Grows None new xs = ⊤
 Grows (Some old) new xs = new ≡ Some (old ++ xs)
@@ -69,11 +69,11 @@ abbrev pub last_count : ℕ
 last_count = 2 ^ 64 - 1
 
 -- a count of 64 bits after these tries
-abbrev pub counted : ℕ → List Try → ℕ
-counted n [] = n
-counted n (Made c ∷ ts) = counted n ts
-counted n (Lost port bytes ∷ ts) = counted (next_count n) ts
-counted n (Found k ∷ ts) = counted (min (n + k) last_count) ts
+abbrev pub losses_after : ℕ → List Try → ℕ
+losses_after n [] = n
+losses_after n (Made c ∷ ts) = losses_after n ts
+losses_after n (Lost port bytes ∷ ts) = losses_after (next_count n) ts
+losses_after n (Found k ∷ ts) = losses_after (min (n + k) last_count) ts
 
 -- each call was tried in order: those that did not fail were made, the others are counted by the node and by the link. A link
 -- that tells its calls finds no losses at polls.
@@ -81,12 +81,12 @@ pub record Sends (cs : List LinkCall) (a b : LinkSide) : Type 0 where
   pub tries : List Try
   pub all : tried tries ≡ cs
   pub trace : Grows a.trace b.trace (made tries)
-  pub lost : b.lost ≡ counted a.lost tries
-  pub losses : b.losses ≡ counted a.losses tries
-  pub told : StaysIfTold a.trace 0 (found tries)
+  pub lost : b.lost ≡ losses_after a.lost tries
+  pub losses : b.losses ≡ losses_after a.losses tries
+  pub observed : StaysIfObserved a.trace 0 (found tries)
 
 -- only a front of them was tried
-pub record SendsFront (cs : List LinkCall) (a b : LinkSide) : Type 0 where
+pub record SendsPrefix (cs : List LinkCall) (a b : LinkSide) : Type 0 where
   pub before : List LinkCall
   pub rest : List LinkCall
   pub split : cs ≡ before ++ rest
@@ -94,7 +94,7 @@ pub record SendsFront (cs : List LinkCall) (a b : LinkSide) : Type 0 where
 
 abbrev pub SendsAll : {T : Type 0} → List LinkCall → Result T NoMemory → LinkSide → LinkSide → Type 0
 SendsAll cs (Ok t) a b = Sends cs a b
-SendsAll cs (Err e) a b = SendsFront cs a b
+SendsAll cs (Err e) a b = SendsPrefix cs a b
 
 -- the link was polled, unless memory ran out
 abbrev pub PollsLink : {T : Type 0} → Result T DeviceError → LinkSide → LinkSide → Type 0

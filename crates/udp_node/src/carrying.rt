@@ -43,7 +43,7 @@ fn write_accept<W: Sink>(
 
 impl<C: Core, L: Link, W: Sink> Node<'_, '_, '_, C, L, W> {
     /// Carries out one output: a datagram goes to each port of its destination, a line to the sink.
-    #[tactic(auto, using(crate::proofs::EffectLemmas::posted, crate::proofs::EffectLemmas::posted_front, crate::proofs::EffectLemmas::wrote_line))]
+    #[tactic(auto, using(crate::proofs::EffectLemmas::posted, crate::proofs::EffectLemmas::posted_prefix, crate::proofs::EffectLemmas::wrote_line))]
     fn carry_out(&mut self, out: &Out) -> Result<(), WriteError>
         ensures { Does L.Link W.Sink self.old self.new (effects_of self.old.at out.now) result }
     {

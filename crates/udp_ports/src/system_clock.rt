@@ -36,13 +36,13 @@ fn later(last: u64, reading: Option<u64>) -> u64
 
 impl<'a, R: std::time::Clock> Clock for SystemClock<'a, R> {
     ghost use Rattle.std.specs.Prelude.{◌≡◌, ◌≤◌, None};
-    ghost use Rattle.outside.specs.Clocks.{TellsTime};
+    ghost use Rattle.outside.specs.Clocks.{ReadsTime};
 
     ghost values = { λ _. None };
 
     /// It never falls.
     fn now(&mut self) -> u64
-        ensures values { TellsTime None None result }
+        ensures values { ReadsTime None None result }
         ensures last { self.new.last ≡ result }
         ensures rises { self.old.last ≤ result }
     {

@@ -7,7 +7,7 @@ use Rattle.nop_types.specs.Lists.{Has}
 use Rattle.nop_types.specs.Logs.{Trimmed}
 use Rattle.nop_types.specs.PlainChanges.{plain}
 use Rattle.nop_types.specs.Views.{outranks}
-use Rattle.log_merge.specs.Merging.{merged, kept_told}
+use Rattle.log_merge.specs.Merging.{merged, kept_changes}
 use Rattle.log_merge.specs.Starting as starting
 use Rattle.view_change.specs.declared.starting.Start.{Start}
 use Rattle.view_change.specs.declared.starting.Step.{Step}
@@ -23,7 +23,7 @@ pub record Gathering (C : Type 0) : Type 0 where
 abbrev pub entered : {C : Type 0} → View → ℕ → C → Gathering C
 entered view f own = record { view = view; f = f; changes = own ∷ [] }
 
--- ---- by who told a change
+-- ---- by the sender of a change
 
 module _ {C : Type 0} (sender_of : C → ℕ) where
   -- a change of this sender is there
@@ -37,11 +37,11 @@ module _ {C : Type 0} (sender_of : C → ℕ) where
   abbrev pub with_change : List C → C → List C
   with_change cs c = cond (has_sender cs (sender_of c)) cs (cs ++ c ∷ [])
 
-  abbrev pub counted : Gathering C → C → Gathering C
-  counted g c = record g { changes = with_change g.changes c }
+  abbrev pub change_added : Gathering C → C → Gathering C
+  change_added g c = record g { changes = with_change g.changes c }
 
-abbrev pub teller : Change → ℕ
-teller c = c.sender
+abbrev pub change_sender : Change → ℕ
+change_sender c = c.sender
 
 -- ---- what a view is started with
 
@@ -51,7 +51,7 @@ greater a b = cond (outranks b a) b a
 
 -- the number of the next request, and the merge of the trimmed logs that are kept
 abbrev pub started : View → List Change → Start
-started w cs = record { next = (starting.start_of w (map plain cs)).next; log = merged Trimmed (kept_told cs) }
+started w cs = record { next = (starting.start_of w (map plain cs)).next; log = merged Trimmed (kept_changes cs) }
 
 -- the view is started where f + 1 senders are there
 abbrev pub step_of : Gathering Change → Step

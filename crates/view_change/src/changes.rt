@@ -2,9 +2,9 @@ ghost use Rattle.std.specs.Prelude.{◌≡◌, ◌≤◌, ◌↔◌, length, nat
 ghost use Rattle.view_change.specs.declared.starting.Step.TheVariants.{Waiting};
 ghost use Rattle.view_change.specs.Gathering.{
   entered,
-  teller,
+  change_sender,
   has_sender,
-  counted,
+  change_added,
   started,
   step_of,
 };
@@ -39,7 +39,7 @@ impl Model for Changes {
 }
 
 fn has_sender(changes: &[Change], sender: u8) -> bool
-    ensures { result ≡ has_sender teller changes.now sender }
+    ensures { result ≡ has_sender change_sender changes.now sender }
 {
     for change in changes {
         if change.sender == sender {
@@ -78,10 +78,10 @@ impl Changes {
     /// Takes a change, unless its sender's is there. Started, with what the view is started with, exactly where `f` + 1
     /// senders are there then.
     pub fn on_change(&mut self, change: Change) -> Result<Step, NoMemory>
-        ensures after { OnOk result (self.new ≡ counted teller self.old change) }
-        ensures step { IfOk result (λ s. s ≡ step_of (counted teller self.old change)) }
+        ensures after { OnOk result (self.new ≡ change_added change_sender self.old change) }
+        ensures step { IfOk result (λ s. s ≡ step_of (change_added change_sender self.old change)) }
         ensures waits { IfOk result (λ s.
-            (s ≡ Waiting) ↔ (length (counted teller self.old change).changes ≤ self.old.f)) }
+            (s ≡ Waiting) ↔ (length (change_added change_sender self.old change).changes ≤ self.old.f)) }
         ensures err { OnErr result (self.new ≡ self.old) }
     {
         if has_sender(&self.changes, change.sender) {
@@ -97,7 +97,7 @@ impl Changes {
 
     /// Whether the view is started once this change is taken.
     pub fn is_enough_with(&self, change: &Change) -> bool
-        ensures { result ≡ nat_lt self.now.f (length (counted teller self.now change.now).changes) }
+        ensures { result ≡ nat_lt self.now.f (length (change_added change_sender self.now change.now).changes) }
     {
         let len = self.changes.len();
         if has_sender(&self.changes, change.sender) {
@@ -109,7 +109,7 @@ impl Changes {
     /// What the view is started with from this change and those that are there, whose logs are moved and not copied.
     pub fn start_with(mut self, change: Change) -> Result<Start, NoMemory>
         ensures { IfOk result (λ s. s
-            ≡ started self.view (counted teller self change).changes) }
+            ≡ started self.view (change_added change_sender self change).changes) }
     {
         if has_sender(&self.changes, change.sender) {
             return start_moved(self.alloc, self.view, self.changes);

@@ -28,7 +28,7 @@ use Rattle.session_control.proofs.Rising.{goes_on}
 use Rattle.protocol.specs.Conf.{Conf, Install}
 use Rattle.protocol.specs.Evolves.{Keeps}
 use Rattle.protocol.specs.Invariant.{Inv}
-use Rattle.protocol.specs.Member.{Member}
+use Rattle.protocol.specs.LocalState.{LocalState}
 use Rattle.protocol.proofs.Runs.{moves_keep}
 use Rattle.network.specs.Network.{Sent, sends_of}
 use Rattle.world.specs.Others.{Kind, Sequencers, Clients, Controllers, State, next, seats, with_seat, count, Another, actor_at}
@@ -49,11 +49,11 @@ use Rattle.refinement.proofs.SequencerRanges.{sequencers_stay_in_ranges}
 use Rattle.refinement.proofs.Sequencers.{sequencers_reach}
 use Rattle.whole_world.specs.Passed.{Passed, noted}
 use Rattle.whole_world.specs.Whole.{WholeReplica, WholeWorld, gave, lines_of}
-use Rattle.whole_world.specs.Shows.{Carries, Tells, IsShown, ShowsActors, peers_of}
+use Rattle.whole_world.specs.Shows.{Carries, MessagesSay, IsShown, ShowsActors, peers_of}
 use Rattle.whole_world.proofs.At.{OtherFits, Stands, At, Goes}
 use Rattle.whole_world.proofs.Coming.{Comes}
 use Rattle.whole_world.proofs.Fitting.{carries_after, there_after, spelled_after}
-use Rattle.whole_world.proofs.Outputs.{lines_told}
+use Rattle.whole_world.proofs.Outputs.{lines_are_added}
 use Rattle.whole_world.proofs.Quiet.{idle_past}
 use Rattle.whole_world.proofs.Seats.{seats_become, seats_shown, seats_hold}
 
@@ -117,7 +117,7 @@ module _ {S : Type 0} (m : Meaning S) (f : ℕ) (config : Configuration) (p : Pa
   goes_by : (new : WholeWorld) (d : Conf) (from : Actor) (xs : List Out) → LeadsTo m f c d xs → new.lines ≡ w.lines ++ lines_of xs
       → new.replicas ≡ w.replicas → d.past ≡ c.past → Stands f config new d → Goes m f config p c new
   goes_by new d from xs by lines same past stands =
-      let tells = lines_told xs by.first in
+      let tells = lines_are_added xs by.first in
       record {
         moves = by.moves;
         may = by.may;
@@ -150,13 +150,13 @@ module _ {S : Type 0} (m : Meaning S) (f : ℕ) (config : Configuration) (p : Pa
         replica_count = shown.replica_count;
         other_count = others_become (λ j qs. length qs ≡ count j w.config) w.others k (slice_set (seats k w.others) i (seated x.0))
             (length-set (seats k w.others) i (seated x.0) ∙ shown.other_count k) shown.other_count;
-        replicas = λ r q e. ap (λ (g : ℕ → Member). g r) replicas ∙ shown.replicas r q e;
+        replicas = λ r q e. ap (λ (g : ℕ → LocalState). g r) replicas ∙ shown.replicas r q e;
         points = shown.points;
         others = others;
         givers = givers;
       };
       carries = carries_by d (actor_at (Another k i)) x.1 by fit;
-      tells = subst (Tells (peers_of w.letters)) (sym said) at.stands.tells;
+      tells = subst (MessagesSay (peers_of w.letters)) (sym said) at.stands.tells;
       ranges = record {
         replicas = at.stands.ranges.replicas;
         others = others_become (λ j qs. (n : ℕ) (q : Seated (State j)) → slice_get qs n ≡ Some q → OtherFits j q.state) w.others k

@@ -1,4 +1,4 @@
--- What is synchronised stays an archive, whatever an event brings: what moves out of a log goes on where the archive ends.
+-- What is synchronised stays an archive, whatever an event delivers: what moves out of a log goes on where the archive ends.
 use Rattle.std.proofs.Common.{◌≡◌, ◌≤◌, ◌<◌, ◌+◌, ◌-◌, ◌*◌, ℕ, Bool, true, false, Option, Some, None, refl, sym, ap, subst, ◌∙◌, arith}
 use Rattle.std.proofs.Common.{List, [], ◌∷◌, ◌++◌, length, length-take, take, drop, inl, inr}
 use Rattle.std.specs.Prelude.{⊤, ◌/◌, ◌||◌, cond, nat_lt, slice_get, slice_set}
@@ -25,32 +25,32 @@ use Rattle.replica_state.specs.declared.sending.Sending.{Sending}
 use Rattle.replica_state.specs.declared.sending.Sending.TheVariants.{ToClient, ToReplicas, Trims}
 use Rattle.replica_state.specs.declared.state.ReplicaState.{ReplicaState}
 use Rattle.replica_state.specs.Sends.{Effect, still}
-use Rattle.replica_rows.specs.Messages.{Arrival, Told, Ticked}
-use Rattle.replica_rows.specs.Telling.{told_in, told_by}
+use Rattle.replica_rows.specs.Messages.{Arrival, PeerMessage, Ticked}
+use Rattle.replica_rows.specs.MessagePoints.{point_in_body, point_in_arrival}
 use Rattle.replica_rows.specs.Within.{ResultsShort}
 use Rattle.trimmed_rows.specs.Premises.{PointsWithin}
 use Rattle.protocol.specs.Conf.{Conf}
-use Rattle.protocol.specs.Member.{Member}
+use Rattle.protocol.specs.LocalState.{LocalState}
 use Rattle.protocol_sync.specs.Synced.{SyncRises}
 use Rattle.world.specs.Archive.{with_entries}
 use Rattle.world.specs.Others.{Kind, State, seats, Who, AReplica, Another, who}
 use Rattle.world.specs.Seats.{Seated, seated}
-use Rattle.world.specs.WorldSteps.{counted}
+use Rattle.world.specs.WorldSteps.{numbered_seats}
 use Rattle.whole_world.specs.Archives.{with_sends, row_sends, archive_of, IsArchive, ArchivesGoOn}
 use Rattle.whole_world.specs.Passed.{Passed, passes, passed_from, first, passed}
 use Rattle.whole_world.specs.Safe.{BringsFits, AllFit}
 use Rattle.whole_world.specs.Shows.{ShowsActors}
-use Rattle.whole_world.specs.Trimming.{told_log, AllWithin, FrontsAgree}
+use Rattle.whole_world.specs.Trimming.{log_in_body, AllWithin, PrefixesAgree}
 use Rattle.whole_world.specs.Whole.{WholeReplica, WholeWorld, Letter, Brings, Timer, Junk, Equal, Message}
 use Rattle.whole_world.specs.Whole.{input_of, arrival_of, letters_in, is_crash, after_row, posts, row_if, effect_of, live_replica, at_replica}
 use Rattle.whole_world.specs.Whole.{step_replica, step_other, step_of, whole_step, opening_replica, opening}
 use Rattle.whole_world.proofs.Coming.{messages_were_sent}
 use Rattle.whole_world.proofs.Counts.{counts_from}
 use Rattle.whole_world.proofs.Opening.{counted_get, counted_length}
-use Rattle.whole_world.proofs.RowPoints.{IsLow, TellsLow, LowChanges, Rises, Leaves, row_leaves, rest_leaves}
+use Rattle.whole_world.proofs.RowPoints.{IsLow, SendsLow, LowChanges, Rises, Leaves, row_leaves, rest_leaves}
 use Rattle.whole_world.proofs.Safe.{whole_runs_are_safe}
 use Rattle.whole_world.proofs.Trimming.{whole_can_trim}
-use Rattle.whole_world.proofs.TrimmedRows.{given_is_not_told}
+use Rattle.whole_world.proofs.TrimmedRows.{given_is_no_message}
 
 -- ---- a log up to a slot
 
@@ -80,8 +80,8 @@ some_past s a n l low high =
     ∙ ap (λ (i : ℕ). take (n - a) (drop i l)) on
 
 -- a front, and what follows up to n
-front_and_rest : (a n : ℕ) (l : List Entry) → a ≤ n → n ≤ length l → take a l ++ take (n - a) (drop a l) ≡ take n l
-front_and_rest a n l low high =
+prefix_and_rest : (a n : ℕ) (l : List Entry) → a ≤ n → n ≤ length l → take a l ++ take (n - a) (drop a l) ≡ take n l
+prefix_and_rest a n l low high =
     let len : length (take a l) + (n - a) ≡ n = omega (arith, length-take-le a l (omega (arith, low, high)), low) in
     sym (take-append_past (take a l) (drop a l) (n - a))
     ∙ ap (λ (k : List Entry). take (length (take a l) + (n - a)) k) (take-append-drop a l)
@@ -90,20 +90,20 @@ front_and_rest a n l low high =
 -- ---- what a row sends
 
 module _ (a : ℕ) where
-  nothing_moves : (archive : List Entry) (sends : List Sending) → AllByRecursion (TellsLow a) sends → with_sends archive sends ≡ archive
+  nothing_moves : (archive : List Entry) (sends : List Sending) → AllByRecursion (SendsLow a) sends → with_sends archive sends ≡ archive
   nothing_moves archive [] low = refl
   nothing_moves archive (Trims n l ∷ sends) low = absurd low.0
   nothing_moves archive (_ ∷ sends) low = nothing_moves archive sends low.1
 
-  moves_after : (archive : List Entry) (sends rest : List Sending) → AllByRecursion (TellsLow a) sends
+  moves_after : (archive : List Entry) (sends rest : List Sending) → AllByRecursion (SendsLow a) sends
       → with_sends archive (sends ++ rest) ≡ with_sends archive rest
   moves_after archive [] rest low = refl
   moves_after archive (Trims n l ∷ sends) rest low = absurd low.0
   moves_after archive (_ ∷ sends) rest low = moves_after archive sends rest low.1
 
   -- once
-  moves_once : (archive : List Entry) (before rest : List Sending) (n : ℕ) (l : Log) → AllByRecursion (TellsLow a) before
-      → AllByRecursion (TellsLow a) rest → with_sends archive (before ++ Trims n l ∷ rest) ≡ with_entries archive n l.entries
+  moves_once : (archive : List Entry) (before rest : List Sending) (n : ℕ) (l : Log) → AllByRecursion (SendsLow a) before
+      → AllByRecursion (SendsLow a) rest → with_sends archive (before ++ Trims n l ∷ rest) ≡ with_entries archive n l.entries
   moves_once archive before rest n l low last =
       moves_after archive before (Trims n l ∷ rest) low ∙ nothing_moves (with_entries archive n l.entries) rest last
 
@@ -111,10 +111,10 @@ module _ (a : ℕ) where
 
   -- a message tells no greater sync point
   abbrev SaysLow : Sending → Type 0
-  SaysLow (ToReplicas dest p) = told_in p.body ≤ a
+  SaysLow (ToReplicas dest p) = point_in_body p.body ≤ a
   SaysLow _ = ⊤
 
-  says_low : (sends : List Sending) → AllByRecursion (TellsLow a) sends → AllByRecursion SaysLow sends
+  says_low : (sends : List Sending) → AllByRecursion (SendsLow a) sends → AllByRecursion SaysLow sends
   says_low [] low = tt
   says_low (ToClient r ∷ sends) low = (tt, says_low sends low.1)
   says_low (ToReplicas dest p ∷ sends) low = (low.0, says_low sends low.1)
@@ -125,27 +125,27 @@ module _ (a : ℕ) where
   says_both (x ∷ sends) rest low last = (low.0, says_both sends rest low.1 last)
 
   letters_low : (number : ℕ) (sends : List Sending) (x : Letter) → AllByRecursion SaysLow sends → Has (letters_in number sends) x
-      → told_in x.peer.body ≤ a
+      → point_in_body x.peer.body ≤ a
   letters_low number [] x low i = absurd (Has-none x i)
   letters_low number (ToReplicas dest p ∷ sends) x low i =
       elim (Has-cases x (record { number = number + 1; dest = dest; peer = p }) (letters_in (number + 1) sends) i) [
-        | inl e ↦ subst (λ (y : Letter). told_in y.peer.body ≤ a) (sym e) low.0
+        | inl e ↦ subst (λ (y : Letter). point_in_body y.peer.body ≤ a) (sym e) low.0
         | inr j ↦ letters_low (number + 1) sends x low.1 j
       ]
   letters_low number (_ ∷ sends) x low i = letters_low number sends x low.1 i
 
--- the sync point that is told is that of the log that is told
-told_is : (b : Body) (l : Log) → told_log b ≡ Some l → told_in b ≡ l.sync_point
-told_is (bodies.ViewChange u x k) l e = ap (λ (y : Log). y.sync_point) (let same : k ≡ l = cc in same)
-told_is (bodies.StartView x k) l e = ap (λ (y : Log). y.sync_point) (let same : k ≡ l = cc in same)
-told_is (bodies.SyncPrepare k) l e = ap (λ (y : Log). y.sync_point) (let same : k ≡ l = cc in same)
-told_is _ l e = absurd cc
+-- the sync point that is told is that of the log that is sent
+point_is : (b : Body) (l : Log) → log_in_body b ≡ Some l → point_in_body b ≡ l.sync_point
+point_is (bodies.ViewChange u x k) l e = ap (λ (y : Log). y.sync_point) (let same : k ≡ l = cc in same)
+point_is (bodies.StartView x k) l e = ap (λ (y : Log). y.sync_point) (let same : k ≡ l = cc in same)
+point_is (bodies.SyncPrepare k) l e = ap (λ (y : Log). y.sync_point) (let same : k ≡ l = cc in same)
+point_is _ l e = absurd cc
 
-told_at_most : (b : Body) (a : ℕ) → ((l : Log) → told_log b ≡ Some l → l.sync_point ≤ a) → told_in b ≤ a
-told_at_most (bodies.ViewChange u x l) a h = h l refl
-told_at_most (bodies.StartView x l) a h = h l refl
-told_at_most (bodies.SyncPrepare l) a h = h l refl
-told_at_most _ a h = omega arith
+point_at_most : (b : Body) (a : ℕ) → ((l : Log) → log_in_body b ≡ Some l → l.sync_point ≤ a) → point_in_body b ≤ a
+point_at_most (bodies.ViewChange u x l) a h = h l refl
+point_at_most (bodies.StartView x l) a h = h l refl
+point_at_most (bodies.SyncPrepare l) a h = h l refl
+point_at_most _ a h = omega arith
 
 -- ---- from a world to a later one
 
@@ -153,32 +153,32 @@ told_at_most _ a h = omega arith
 pub record SeatsKeep (w v : WholeWorld) : Type 0 where
   pub points : (j : ℕ) (p q : Seated WholeReplica) → slice_get w.replicas j ≡ Some p → slice_get v.replicas j ≡ Some q
       → point_of p ≤ point_of q
-  pub fronts : (j : ℕ) (p q : Seated WholeReplica) → slice_get w.replicas j ≡ Some p → slice_get v.replicas j ≡ Some q
+  pub prefixes : (j : ℕ) (p q : Seated WholeReplica) → slice_get w.replicas j ≡ Some p → slice_get v.replicas j ≡ Some q
       → take (point_of p) (entries_of p) ≡ take (point_of p) (entries_of q)
 
 -- what holds of the later world
 pub record Holds (w v : WholeWorld) : Type 0 where
   pub within : AllWithin v
-  pub fronts : FrontsAgree v
+  pub prefixes : PrefixesAgree v
   pub keeps : SeatsKeep w v
 
 -- no sync point exceeds a
 record IsBounded (a : ℕ) (v : WholeWorld) : Type 0 where
   replicas : (j : ℕ) (q : Seated WholeReplica) → slice_get v.replicas j ≡ Some q → point_of q ≤ a
-  letters : (x : Letter) (l : Log) → Has v.letters x → told_log x.peer.body ≡ Some l → l.sync_point ≤ a
+  letters : (x : Letter) (l : Log) → Has v.letters x → log_in_body x.peer.body ≡ Some l → l.sync_point ≤ a
   gathered : (j : ℕ) (q : Seated WholeReplica) (g : Gathering Change) (c : Change) → slice_get v.replicas j ≡ Some q
       → q.state.state.changes ≡ Some g → Has g.changes c → c.log.sync_point ≤ a
 
 -- what one replica has synchronised is an archive, where no sync point exceeds it
 archive_from : (archive : List Entry) (v : WholeWorld) (r : ℕ) (q : Seated WholeReplica) → slice_get v.replicas r ≡ Some q
-    → point_of q ≡ length archive → take (length archive) (entries_of q) ≡ archive → FrontsAgree v → IsBounded (length archive) v
+    → point_of q ≡ length archive → take (length archive) (entries_of q) ≡ archive → PrefixesAgree v → IsBounded (length archive) v
     → IsArchive archive v
-archive_from archive v r q there far is fronts bounded = record {
+archive_from archive v r q there far is prefixes bounded = record {
   within = bounded.replicas;
-  fronts = λ j p at.
+  prefixes = λ j p at.
       let low = bounded.replicas j p at in
       let same : SameTo (point_of p) (entries_of p) (entries_of q) =
-      fronts.replicas j r (point_of p) p q at there (omega arith) (omega (arith, low, far)) in
+      prefixes.replicas j r (point_of p) p q at there (omega arith) (omega (arith, low, far)) in
       ap (λ (l : List Entry). take (point_of p) l) (sym is)
       ∙ take-take (point_of p) (length archive) (entries_of q) low
       ∙ sym same.same;
@@ -192,7 +192,7 @@ same_archive : (archive : List Entry) (w v : WholeWorld) → v.replicas ≡ w.re
     → IsArchive archive v
 same_archive archive w v seats letters h = record {
   within = λ i p e. h.within i p (there i p e);
-  fronts = λ i p e. h.fronts i p (there i p e);
+  prefixes = λ i p e. h.prefixes i p (there i p e);
   reaches = let r = h.reaches in record {
     replica = r.replica;
     seat = r.seat;
@@ -240,10 +240,10 @@ module _ (archive : List Entry) (w v : WholeWorld) (h : IsArchive archive w) (i 
       let far : point_of r.seat ≡ a = r.far in
       let rises : point_of r.seat ≤ point_of u.0 = holds.keeps.points r.replica r.seat u.0 r.there u.1 in
       let had : take a archive ≡ take a (entries_of r.seat) =
-      subst (λ (n : ℕ). take n archive ≡ take n (entries_of r.seat)) far (h.fronts r.replica r.seat r.there) in
+      subst (λ (n : ℕ). take n archive ≡ take n (entries_of r.seat)) far (h.prefixes r.replica r.seat r.there) in
       let stays : take a (entries_of r.seat) ≡ take a (entries_of u.0) =
       subst (λ (n : ℕ). take n (entries_of r.seat) ≡ take n (entries_of u.0)) far
-      (holds.keeps.fronts r.replica r.seat u.0 r.there u.1) in
+      (holds.keeps.prefixes r.replica r.seat u.0 r.there u.1) in
       record {
         replica = r.replica;
         seat = u.0;
@@ -260,12 +260,12 @@ module _ (archive : List Entry) (w v : WholeWorld) (h : IsArchive archive w) (i 
           omega (arith, same, point))
       | inr (x, y) ↦ (let low = h.within j q y in omega (arith, low, most))
     ];
-    letters = λ x l has told. elim (Has-append_cases w.letters (letters_in p.state.messages e.1) x
+    letters = λ x l has message. elim (Has-append_cases w.letters (letters_in p.state.messages e.1) x
         (subst (λ (xs : List Letter). Has xs x) letters has)) [
-          | inl before ↦ (let low = h.letters x l before told in omega (arith, low, most))
+          | inl before ↦ (let low = h.letters x l before message in omega (arith, low, most))
           | inr fresh ↦ (
               let low = letters_low a p.state.messages e.1 x says fresh in
-              let same = told_is x.peer.body l told in
+              let same = point_is x.peer.body l message in
               omega (arith, low, same, most))
         ];
     gathered = λ j q g c at gathers has. elim (slice_get-set_cases w.replicas i new j q (before_seat j q at)) [
@@ -288,7 +288,7 @@ module _ (archive : List Entry) (w v : WholeWorld) (h : IsArchive archive w) (i 
       let bounded = bounds a (omega arith) point changes says in
       let low = bounded.replicas r.replica r.seat r.stands in
       let far = r.far in
-      archive_from archive v r.replica r.seat r.stands (omega (arith, low, far)) r.has holds.fronts bounded
+      archive_from archive v r.replica r.seat r.stands (omega (arith, low, far)) r.has holds.prefixes bounded
 
   -- the replica that made the step
   new_there : slice_get v.replicas i ≡ Some new
@@ -334,7 +334,7 @@ module _ (archive : List Entry) (w v : WholeWorld) (h : IsArchive archive w) (i 
         let r = reaches_still in
         let point : point_of new ≡ n = ap (λ (s : ReplicaState). s.sync.sync_point) state in
         let same : SameTo a (entries_of new) (entries_of r.seat) =
-        holds.fronts.replicas i r.replica a new r.seat new_there r.stands (omega (arith, less, point)) r.far in
+        holds.prefixes.replicas i r.replica a new r.seat new_there r.stands (omega (arith, less, point)) r.far in
         ap (λ (s : ReplicaState). take a s.log.entries) (sym state) ∙ same.same ∙ r.has
 
     some_new : a < n → IsArchive (with_sends archive e.1) v
@@ -343,19 +343,19 @@ module _ (archive : List Entry) (w v : WholeWorld) (h : IsArchive archive w) (i 
         let within : n ≤ length log =
         subst (λ (s : ReplicaState). s.sync.sync_point ≤ length s.log.entries) state (holds.within.replicas i new new_there).sync_point in
         let short : a ≤ length old.log.entries = omega (arith, less, high) in
-        let front : archive ≡ take a old.log.entries = sym (has_archive (omega (arith, less))) ∙ rise.kept a short in
+        let prefix : archive ≡ take a old.log.entries = sym (has_archive (omega (arith, less))) ∙ rise.kept a short in
         let len : length (take n log) ≡ n = length-take-le n log within in
         let is : with_sends archive e.1 ≡ take n log =
         moved_out
         ∙ ap (λ (l : List Entry). archive ++ l) (some_past old.log.sync_point a n old.log.entries low (omega (arith, less)))
-        ∙ ap (λ (l : List Entry). l ++ take (n - a) (drop a old.log.entries)) front
-        ∙ front_and_rest a n old.log.entries (omega (arith, less)) high
+        ∙ ap (λ (l : List Entry). l ++ take (n - a) (drop a old.log.entries)) prefix
+        ∙ prefix_and_rest a n old.log.entries (omega (arith, less)) high
         ∙ sym (rise.kept n high) in
         let most : a ≤ length (take n log) = omega (arith, len, less) in
         let reach : n ≤ length (take n log) = omega (arith, len) in
         subst (λ (l : List Entry). IsArchive l v) (sym is)
         (archive_from (take n log) v i new new_there (ap (λ (s : ReplicaState). s.sync.sync_point) state ∙ sym len)
-        (ap (λ (s : ReplicaState). take (length (take n log)) s.log.entries) state ∙ ap (λ (k : ℕ). take k log) len) holds.fronts
+        (ap (λ (s : ReplicaState). take (length (take n log)) s.log.entries) state ∙ ap (λ (k : ℕ). take k log) len) holds.prefixes
         (bounds (length (take n log)) most reach rise.gathered all_says))
 
     rises_archive : IsArchive (with_sends archive e.1) v
@@ -374,26 +374,26 @@ module _ (archive : List Entry) (w v : WholeWorld) (h : IsArchive archive w) (i 
 -- ---- what comes to a replica
 
 module _ (archive : List Entry) (w : WholeWorld) (h : IsArchive archive w) where
-  not_told : (x : Arrival) → ((y : Peer) → x ≡ Told y → ⊥) → told_by x ≤ length archive
-  not_told (Told y) none = absurd (none y refl)
-  not_told _ none = omega arith
+  no_message : (x : Arrival) → ((y : Peer) → x ≡ PeerMessage y → ⊥) → point_in_arrival x ≤ length archive
+  no_message (PeerMessage y) none = absurd (none y refl)
+  no_message _ none = omega arith
 
-  letter_told : (q n : ℕ) (x : Arrival) → arrival_of w (Message q n) ≡ Some x → told_by x ≤ length archive
-  letter_told q n x e =
+  letter_point : (q n : ℕ) (x : Arrival) → arrival_of w (Message q n) ≡ Some x → point_in_arrival x ≤ length archive
+  letter_point q n x e =
       let t = messages_were_sent w q n x e in
       let y = t.2 in
-      subst (λ (z : Arrival). told_by z ≤ length archive) (sym t.1)
-      (subst (λ (z : Peer). told_in z.body ≤ length archive) y.peer
-      (told_at_most y.letter.peer.body (length archive) (λ l told. h.letters y.letter l y.has told)))
+      subst (λ (z : Arrival). point_in_arrival z ≤ length archive) (sym t.1)
+      (subst (λ (z : Peer). point_in_body z.body ≤ length archive) y.peer
+      (point_at_most y.letter.peer.body (length archive) (λ l message. h.letters y.letter l y.has message)))
 
-  told_low : (b : Brings) (x : Arrival) → arrival_of w b ≡ Some x → told_by x ≤ length archive
-  told_low (Timer tick) x e = let same : Ticked tick ≡ x = cc in subst (λ (z : Arrival). told_by z ≤ length archive) same (omega arith)
-  told_low (Junk bytes) x e =
-      not_told x (λ y told. given_is_not_told (input_of w.sent (Junk bytes)) y (e ∙ ap (λ (z : Arrival). Some z) told))
-  told_low (Equal bytes) x e =
-      not_told x (λ y told. given_is_not_told (input_of w.sent (Equal bytes)) y (e ∙ ap (λ (z : Arrival). Some z) told))
-  told_low (Message q n) x e = letter_told q n x e
-  told_low _ x e = absurd cc
+  point_is_low : (b : Brings) (x : Arrival) → arrival_of w b ≡ Some x → point_in_arrival x ≤ length archive
+  point_is_low (Timer tick) x e = let same : Ticked tick ≡ x = cc in subst (λ (z : Arrival). point_in_arrival z ≤ length archive) same (omega arith)
+  point_is_low (Junk bytes) x e =
+      no_message x (λ y message. given_is_no_message (input_of w.sent (Junk bytes)) y (e ∙ ap (λ (z : Arrival). Some z) message))
+  point_is_low (Equal bytes) x e =
+      no_message x (λ y message. given_is_no_message (input_of w.sent (Equal bytes)) y (e ∙ ap (λ (z : Arrival). Some z) message))
+  point_is_low (Message q n) x e = letter_point q n x e
+  point_is_low _ x e = absurd cc
 
   module _ {S : Type 0} (m : Meaning S) (i : ℕ) (p : Seated WholeReplica) (there : slice_get w.replicas i ≡ Some p)
       (within : PointsWithin p.state.state) where
@@ -404,13 +404,13 @@ module _ (archive : List Entry) (w : WholeWorld) (h : IsArchive archive w) where
     log_low = let points = within.points in let own = h.within i p there in omega (arith, points, own)
 
     state_low : IsLow top p.state.state
-    state_low = record { point = h.within i p there; told = log_low; gathered = λ g c e has. h.gathered i p g c there e has }
+    state_low = record { point = h.within i p there; log_point = log_low; gathered = λ g c e has. h.gathered i p g c there e has }
 
-    if_leaves : (b : Bool) (x : Arrival) → told_by x ≤ top → Leaves top p.state.state (row_if m b p.state.state x)
+    if_leaves : (b : Bool) (x : Arrival) → point_in_arrival x ≤ top → Leaves top p.state.state (row_if m b p.state.state x)
     if_leaves true x le = row_leaves top m p.state.state x le within state_low
     if_leaves false x le = rest_leaves top m p.state.state state_low
 
-    effect_leaves : (o : Option Arrival) → ((x : Arrival) → o ≡ Some x → told_by x ≤ top) → Leaves top p.state.state (effect_of m p.state o)
+    effect_leaves : (o : Option Arrival) → ((x : Arrival) → o ≡ Some x → point_in_arrival x ≤ top) → Leaves top p.state.state (effect_of m p.state o)
     effect_leaves None low = rest_leaves top m p.state.state state_low
     effect_leaves (Some x) low = if_leaves (nat_lt p.state.messages LAST_MESSAGE) x (low x refl)
 
@@ -420,7 +420,7 @@ module _ (archive : List Entry) (w : WholeWorld) (h : IsArchive archive w) where
     live_archive b holds =
         let e : Effect = effect_of m p.state (arrival_of w b) in
         step_archive archive w (posts w i p.state e) h i p (seated (after_row p.state e)) e there refl refl refl holds log_low
-        (effect_leaves (arrival_of w b) (told_low b))
+        (effect_leaves (arrival_of w b) (point_is_low b))
 
     -- it crashes
     crash_archive : Holds w (record w { replicas = slice_set w.replicas i (record p { crashed = true }) })
@@ -470,13 +470,13 @@ seats_keep f g w v c d shown then rises few = record {
   points = λ j p q at there.
       let old = shown.replicas j p at in
       let new = then.replicas j q there in
-      subst (λ (s : Member). point_of p ≤ s.sync.sync_point) new
-      (subst (λ (s : Member). s.sync.sync_point ≤ (d.replicas j).sync.sync_point) old (rises.points j));
-  fronts = λ j p q at there.
+      subst (λ (s : LocalState). point_of p ≤ s.sync.sync_point) new
+      (subst (λ (s : LocalState). s.sync.sync_point ≤ (d.replicas j).sync.sync_point) old (rises.points j));
+  prefixes = λ j p q at there.
       let old = shown.replicas j p at in
       let new = then.replicas j q there in
-      subst (λ (s : Member). take (point_of p) (entries_of p) ≡ take (point_of p) s.log) new
-      (subst (λ (s : Member). take s.sync.sync_point s.log ≡ take s.sync.sync_point (d.replicas j).log) old
+      subst (λ (s : LocalState). take (point_of p) (entries_of p) ≡ take (point_of p) s.log) new
+      (subst (λ (s : LocalState). take s.sync.sync_point s.log ≡ take s.sync.sync_point (d.replicas j).log) old
       (rises.prefixes j (few j p at)));
 }
 
@@ -512,7 +512,7 @@ module _ {S : Type 0} (m : Meaning S) where
         shown run.at_last.shows.actors was.goes_on.synchronised
         (λ j p at. (let within = slice_get_within now.replicas j p at in let count = shown.replica_count in let two = shown.config in
         omega (arith, within, count, two))) in
-        subst (Holds now) later (record { within = can.within; fronts = can.fronts; keeps = keeps })
+        subst (Holds now) later (record { within = can.within; prefixes = can.prefixes; keeps = keeps })
 
 pub archives_go_on : {S : Type 0} (m : Meaning S) → ArchivesGoOn m
 archives_go_on m short config es is fit archive h x b one =
@@ -523,7 +523,7 @@ archives_go_on m short config es is fit archive h x b one =
 
 module _ (config : Configuration) (is : is_configuration config ≡ true) where
   abbrev opening_seats : List (Seated WholeReplica)
-  opening_seats = counted (opening_replica config) config.replicas
+  opening_seats = numbered_seats (opening_replica config) config.replicas
 
   opened : (i : ℕ) (p : Seated WholeReplica) → slice_get opening_seats i ≡ Some p → opening_replica config i ≡ p.state
   opened i p e = counted_get (opening_replica config) config.replicas i p e
@@ -538,7 +538,7 @@ module _ (config : Configuration) (is : is_configuration config ≡ true) where
       let one = slice_get-some opening_seats 0 (omega (arith, len, count)) in
       record {
         within = λ i p e. (let none = opened_point i p e in omega (arith, none));
-        fronts = λ i p e. subst (λ (n : ℕ). take n [] ≡ take n (entries_of p)) (sym (opened_point i p e)) refl;
+        prefixes = λ i p e. subst (λ (n : ℕ). take n [] ≡ take n (entries_of p)) (sym (opened_point i p e)) refl;
         reaches = record { replica = 0; seat = one.0; there = one.1; far = opened_point 0 one.0 one.1 };
         letters = λ x l i. absurd (Has-none x i);
         gathered = λ i p g c e gathers. absurd (

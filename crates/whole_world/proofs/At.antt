@@ -8,7 +8,7 @@ use Rattle.session_control.specs.ControllerSteps as controller
 use Rattle.oum_receiver.specs.Receiving.{IsSound}
 use Rattle.replica_state.specs.Within.{IsIn}
 use Rattle.protocol.specs.Conf.{Conf, opening}
-use Rattle.protocol.specs.Moves.{MayTell}
+use Rattle.protocol.specs.Moves.{MayAddLines}
 use Rattle.protocol.specs.Runs.{Move, run, MayAll}
 use Rattle.world.specs.Others.{Kind, Clients, Controllers, State, seats}
 use Rattle.world.specs.Seats.{Seated}
@@ -16,7 +16,7 @@ use Rattle.refinement.specs.Ranges.{ClientFits}
 use Rattle.whole_world.specs.Whole.{WholeReplica, WholeWorld}
 use Rattle.whole_world.specs.Passed.{Passed, noted}
 use Rattle.whole_world.specs.Safe.{Leads}
-use Rattle.whole_world.specs.Shows.{Carries, Tells, ShowsActors, peers_of}
+use Rattle.whole_world.specs.Shows.{Carries, MessagesSay, ShowsActors, peers_of}
 
 -- ---- ranges
 
@@ -43,7 +43,7 @@ pub record Stands (f : ℕ) (config : Configuration) (w : WholeWorld) (c : Conf)
   pub same : w.config ≡ config
   pub actors : ShowsActors f w c
   pub carries : Carries w.sent c
-  pub tells : Tells (peers_of w.letters) c.said
+  pub tells : MessagesSay (peers_of w.letters) c.said
   pub ranges : InRanges w
 
 pub record At {S : Type 0} (m : Meaning S) (f : ℕ) (config : Configuration) (p : Passed) (c : Conf) : Type 0 where
@@ -69,5 +69,5 @@ pub record Goes {S : Type 0} (m : Meaning S) (f : ℕ) (config : Configuration) 
   pub others : List Line
   pub lines : (run m f c moves).lines ≡ c.lines ++ said
   pub are : v.lines ≡ p.world.lines ++ (said ++ others)
-  pub tells : MayTell others
+  pub tells : MayAddLines others
   pub past : noted f p.past 0 p.world.replicas v.replicas ≡ (run m f c moves).past

@@ -1,4 +1,4 @@
--- What an event brings to an actor was sent here, or spells no datagram; and it is in its ranges.
+-- What an event delivers to an actor was sent here, or spells no datagram; and it is in its ranges.
 use Rattle.std.proofs.Common.{◌≡◌, ℕ, Bool, true, false, Option, Some, None, refl, sym, ap, subst, ◌∙◌, List, [], ◌∷◌}
 use Rattle.std.specs.Prelude.{◌==◌, ◌&&◌, ◌||◌, cond, Result, Ok, Err}
 use Rattle.std.specs.Str.{bytes_eq}
@@ -14,7 +14,7 @@ use Rattle.nop_types.specs.declared.peer.Peer.{Peer}
 use Rattle.lemmas.proofs.Members.{Has-first, Has-rest}
 use Rattle.oum_codec.specs.declared.bad.Bad.{Bad}
 use Rattle.oum_codec.specs.Reading.{reading}
-use Rattle.replica_rows.specs.Messages.{Arrival, Packet, Told, Ticked}
+use Rattle.replica_rows.specs.Messages.{Arrival, Packet, PeerMessage, Ticked}
 use Rattle.replica_rows.specs.Within.{ArrivalIsIn}
 use Rattle.protocol.specs.Conf.{Conf}
 use Rattle.network.specs.Network.{Sent}
@@ -22,11 +22,11 @@ use Rattle.refinement.specs.Datagrams.{MayCome}
 use Rattle.refinement.specs.Ranges.{GivenFits}
 use Rattle.refinement.specs.Replicas.{Came}
 use Rattle.whole_world.specs.Whole.{Brings, Op, Timer, Junk, Equal, Message, Letter, was_sent, given_if, junk_if, input_of}
-use Rattle.whole_world.specs.Whole.{WholeWorld, letter_of, told_if, arrival_read, arrival_given, arrival_of}
+use Rattle.whole_world.specs.Whole.{WholeWorld, letter_of, message_if, arrival_read, arrival_given, arrival_of}
 use Rattle.network_laws.specs.Network.{IsNoDatagram}
 use Rattle.whole_world.specs.Coming.{IsBytesOf, IsLetter, DatagramsWereSent, JunkIsNoDatagram, MessagesWereSent}
 use Rattle.whole_world.specs.Safe.{BringsFits}
-use Rattle.whole_world.specs.Shows.{Carries, Tells, peers_of}
+use Rattle.whole_world.specs.Shows.{Carries, MessagesSay, peers_of}
 use Rattle.whole_world.proofs.Fitting.{arrived}
 use Rattle.whole_world.proofs.Mapped.{Has-map}
 
@@ -90,10 +90,10 @@ junk_is bytes (Err bad) i is e =
 pub junk_is_no_datagram : JunkIsNoDatagram
 junk_is_no_datagram sent bytes i e = junk_is bytes (reading bytes) i refl e
 
-message_was_sent : (w : WholeWorld) (q n : ℕ) (o : Option Peer) (a : Arrival) → letter_of w.letters q n ≡ o → told_if o ≡ Some a
-    → (p : Peer) × (a ≡ Told p) × IsLetter w.letters q n p
+message_was_sent : (w : WholeWorld) (q n : ℕ) (o : Option Peer) (a : Arrival) → letter_of w.letters q n ≡ o → message_if o ≡ Some a
+    → (p : Peer) × (a ≡ PeerMessage p) × IsLetter w.letters q n p
 message_was_sent w q n None a is e = absurd cc
-message_was_sent w q n (Some p) a is e = let same : Told p ≡ a = cc in (p, sym same, letter_found w.letters q n p is)
+message_was_sent w q n (Some p) a is e = let same : PeerMessage p ≡ a = cc in (p, sym same, letter_found w.letters q n p is)
 
 pub messages_were_sent : MessagesWereSent
 messages_were_sent w q n a e = message_was_sent w q n (letter_of w.letters q n) a refl e
@@ -133,7 +133,7 @@ pub record Arrives (c : Conf) (a : Arrival) : Type 0 where
   pub came : Came c a
   pub fits : ArrivalIsIn Whole a
 
-module _ (c : Conf) (w : WholeWorld) (carries : Carries w.sent c) (tells : Tells (peers_of w.letters) c.said) where
+module _ (c : Conf) (w : WholeWorld) (carries : Carries w.sent c) (tells : MessagesSay (peers_of w.letters) c.said) where
   read_arrives : (bytes : List ℕ) (r : Result Datagram Bad) (a : Arrival) → IsBytesOf w.sent bytes → reading bytes ≡ r
       → arrival_read r ≡ Some a → Arrives c a
   read_arrives bytes (Ok (datagrams.Stamped x)) a is read e =
@@ -155,8 +155,8 @@ module _ (c : Conf) (w : WholeWorld) (carries : Carries w.sent c) (tells : Tells
   junk_arrives bytes (Ok d) a is e = absurd cc
   junk_arrives bytes (Err bad) a is e = absurd (let none : arrival_read (reading bytes) ≡ None = ap arrival_read is in cc)
 
-  told_arrives : (q n : ℕ) (a : Arrival) → arrival_of w (Message q n) ≡ Some a → Arrives c a
-  told_arrives q n a e =
+  message_arrives : (q n : ℕ) (a : Arrival) → arrival_of w (Message q n) ≡ Some a → Arrives c a
+  message_arrives q n a e =
       let t = messages_were_sent w q n a e in
       let x = t.2 in
       let has : Has (peers_of w.letters) t.0 =
@@ -167,5 +167,5 @@ module _ (c : Conf) (w : WholeWorld) (carries : Carries w.sent c) (tells : Tells
   arrives (Timer tick) a e = let same : Ticked tick ≡ a = cc in subst (Arrives c) same (record { came = tt; fits = tt })
   arrives (Junk bytes) a e = junk_arrives bytes (reading bytes) a refl e
   arrives (Equal bytes) a e = equal_arrives bytes (was_sent w.sent bytes) a refl e
-  arrives (Message q n) a e = told_arrives q n a e
+  arrives (Message q n) a e = message_arrives q n a e
   arrives _ a e = absurd cc

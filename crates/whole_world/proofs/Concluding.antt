@@ -9,7 +9,7 @@ use Rattle.nop_types.specs.Lists.{IsPrefixOf, slot_of}
 use Rattle.nop_types.specs.Meaning.{Meaning}
 use Rattle.protocol.specs.Conf.{Conf, opening}
 use Rattle.protocol.specs.Invariant.{Inv}
-use Rattle.protocol.specs.Member.{Member}
+use Rattle.protocol.specs.LocalState.{LocalState}
 use Rattle.protocol.proofs.Opening.{opening_meets}
 use Rattle.protocol_sync.specs.Sound.{Sound}
 use Rattle.protocol_sync.specs.Synced.{Sync}
@@ -53,18 +53,18 @@ module _ {S : Type 0} (m : Meaning S) (f : ℕ) (config : Configuration) (count 
 
     begins : (i : ℕ) (q : Seated WholeReplica) → slice_get w.replicas i ≡ Some q
         → IsPrefixOf (take q.state.state.sync.sync_point q.state.state.log.entries) (main_log w)
-    begins i q e = subst (λ (s : Member). IsPrefixOf (take s.sync.sync_point s.log) (main_log w)) (shown.replicas i q e)
+    begins i q e = subst (λ (s : LocalState). IsPrefixOf (take s.sync.sync_point s.log) (main_log w)) (shown.replicas i q e)
         (synchronised_begin m f c inv sync i (within i q e) (main_view w) (main_log w) (is_main_log m f w c inv shown))
 
     agree : (i j slot : ℕ) (a b : Seated WholeReplica) → slice_get w.replicas i ≡ Some a → slice_get w.replicas j ≡ Some b
         → slot ≤ a.state.state.sync.sync_point → slot ≤ b.state.state.sync.sync_point
         → slot_of a.state.state.log.entries slot ≡ slot_of b.state.state.log.entries slot
     agree i j slot a b e g low other =
-        ap (λ (s : Member). slot_of s.log slot) (sym (shown.replicas i a e))
+        ap (λ (s : LocalState). slot_of s.log slot) (sym (shown.replicas i a e))
         ∙ synchronised_prefixes_agree m f c inv sync i j slot (within i a e) (within j b g)
-        (subst (λ (s : Member). slot ≤ s.sync.sync_point) (sym (shown.replicas i a e)) low)
-        (subst (λ (s : Member). slot ≤ s.sync.sync_point) (sym (shown.replicas j b g)) other)
-        ∙ ap (λ (s : Member). slot_of s.log slot) (shown.replicas j b g)
+        (subst (λ (s : LocalState). slot ≤ s.sync.sync_point) (sym (shown.replicas i a e)) low)
+        (subst (λ (s : LocalState). slot ≤ s.sync.sync_point) (sym (shown.replicas j b g)) other)
+        ∙ ap (λ (s : LocalState). slot_of s.log slot) (shown.replicas j b g)
 
     pub agreed : Agreed w
     agreed = record { pairs = λ i j slot a b e g. agree i j slot a b e g; main = begins }

@@ -23,9 +23,9 @@ module _ {S : Type 0} (m : Meaning S) (f : ℕ) (config : Configuration) where
   }
 
   -- what some events passed, and moves from there to the last configuration
-  pub record Before (p : Passed) (front : List (Actor × Brings)) (last : Conf) : Type 0 where
+  pub record Before (p : Passed) (prefix : List (Actor × Brings)) (last : Conf) : Type 0 where
     pub conf : Conf
-    pub at : At m f config (passed_from m p front) conf
+    pub at : At m f config (passed_from m p prefix) conf
     pub leads : Leads m f conf last
 
   -- moves lead to what the events pass, by way of what each of their fronts passes
@@ -33,7 +33,7 @@ module _ {S : Type 0} (m : Meaning S) (f : ℕ) (config : Configuration) where
     pub last : Conf
     pub at : At m f config (passed_from m p es) last
     pub leads : Leads m f c last
-    pub before : (front rest : List (Actor × Brings)) → es ≡ front ++ rest → Before p front last
+    pub before : (prefix rest : List (Actor × Brings)) → es ≡ prefix ++ rest → Before p prefix last
 
   -- one event leads on
   abbrev pub StepsLead : Type 0
@@ -41,11 +41,11 @@ module _ {S : Type 0} (m : Meaning S) (f : ℕ) (config : Configuration) where
       → Later m f config c (passes p (whole_step m p.world a b))
 
   nothing_reached : (p : Passed) (c : Conf) → At m f config p c → Reached p c []
-  nothing_reached p c at = record { last = c; at = at; leads = leads_nowhere c; before = λ front rest split. by front rest split }
+  nothing_reached p c at = record { last = c; at = at; leads = leads_nowhere c; before = λ prefix rest split. by prefix rest split }
     where
-      by : (front rest : List (Actor × Brings)) → [] ≡ front ++ rest → Before p front c
+      by : (prefix rest : List (Actor × Brings)) → [] ≡ prefix ++ rest → Before p prefix c
       by [] rest split = record { conf = c; at = at; leads = leads_nowhere c }
-      by (y ∷ front) rest split = absurd cc
+      by (y ∷ prefix) rest split = absurd cc
 
   one_reached : (x : Actor × Brings) (es : List (Actor × Brings)) (p : Passed) (c : Conf) → At m f config p c
       → (one : Later m f config c (passes p (whole_step m p.world x.0 x.1)))
@@ -54,21 +54,21 @@ module _ {S : Type 0} (m : Meaning S) (f : ℕ) (config : Configuration) where
     last = on.last;
     at = on.at;
     leads = all;
-    before = λ front rest split. by front rest split;
+    before = λ prefix rest split. by prefix rest split;
   }
     where
       all : Leads m f c on.last
       all = leads_then c one.moves on.last one.may on.leads
 
-      by : (front rest : List (Actor × Brings)) → x ∷ es ≡ front ++ rest → Before p front on.last
+      by : (prefix rest : List (Actor × Brings)) → x ∷ es ≡ prefix ++ rest → Before p prefix on.last
       by [] rest split = record { conf = c; at = at; leads = all }
-      by (y ∷ front) rest split =
+      by (y ∷ prefix) rest split =
           let same : x ≡ y = cc in
-          let others : es ≡ front ++ rest = cc in
-          let t = on.before front rest others in
+          let others : es ≡ prefix ++ rest = cc in
+          let t = on.before prefix rest others in
           record {
             conf = t.conf;
-            at = subst (λ (z : Actor × Brings). At m f config (passed_from m p (z ∷ front)) t.conf) same t.at;
+            at = subst (λ (z : Actor × Brings). At m f config (passed_from m p (z ∷ prefix)) t.conf) same t.at;
             leads = t.leads;
           }
 

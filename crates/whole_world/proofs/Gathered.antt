@@ -12,23 +12,23 @@ use Rattle.nop_types.specs.declared.peer.Change.{Change}
 use Rattle.nop_types.specs.declared.view.View.{View}
 use Rattle.lemmas.proofs.Members.{Has-from_filter}
 use Rattle.log_merge.specs.Merge.{merge}
-use Rattle.log_merge.specs.Merging.{kept_told, merge_above}
+use Rattle.log_merge.specs.Merging.{kept_changes, merge_above}
 use Rattle.log_merge.specs.Starting.{greatest, kept}
 use Rattle.log_merge.proofs.WholeLogs.{kept_is_plain}
-use Rattle.view_change.specs.Gathering.{Gathering, counted, teller}
+use Rattle.view_change.specs.Gathering.{Gathering, change_added, change_sender}
 use Rattle.replica_state.specs.declared.state.ReplicaState.{ReplicaState}
 use Rattle.replica_state.specs.Moves.{keep_change}
 use Rattle.replica_state.specs.Sends.{Effect}
 use Rattle.replica_state.specs.State.{is_other}
 use Rattle.replica_rows.specs.Rows.{view_change_request}
-use Rattle.trimming.proofs.Merging.{agree_from_fronts, merged_within}
+use Rattle.trimming.proofs.Merging.{agree_from_prefixes, merged_within}
 use Rattle.protocol.specs.Conf.{Conf, DidSay}
-use Rattle.protocol.specs.Member.{Member}
+use Rattle.protocol.specs.LocalState.{LocalState}
 use Rattle.protocol.specs.Runs.{KeepChange, run}
 use Rattle.protocol.specs.Said.{ViewChange, says}
 use Rattle.protocol.proofs.Runs.{run_keeps}
 use Rattle.protocol_sync.proofs.Gathered.{starts_begin_with_synced}
-use Rattle.refinement.specs.Projection.{member_of, plain_gathering}
+use Rattle.refinement.specs.Projection.{local_state_of, plain_gathering}
 use Rattle.refinement.specs.Replicas.{Matches}
 use Rattle.refinement.proofs.Composing.{matches_end, move_reaches}
 use Rattle.refinement.proofs.EnteringRows.{view_change_request_reaches}
@@ -39,12 +39,12 @@ use Rattle.trimmed_rows.specs.Premises.{Opens}
 use Rattle.whole_world.proofs.Mapped.{Has-map}
 
 -- of logs that are kept whole the merge is the plain one
-merge_is_plain : (cs : List Change) → merge (kept (map plain cs)) ≡ merge_above Whole 0 (kept_told cs)
+merge_is_plain : (cs : List Change) → merge (kept (map plain cs)) ≡ merge_above Whole 0 (kept_changes cs)
 merge_is_plain cs = ap merge (sym (kept_is_plain cs))
 
 -- a change that is kept was told
-was_told : (cs : List Change) (x : Change) → Has (kept_told cs) x → Has (map plain cs) (plain x)
-was_told cs x i = Has-map plain cs x (Has-from_filter (λ c. is_view c.last_normal (greatest (map plain cs))) x cs i).0
+was_sent : (cs : List Change) (x : Change) → Has (kept_changes cs) x → Has (map plain cs) (plain x)
+was_sent cs x i = Has-map plain cs x (Has-from_filter (λ c. is_view c.last_normal (greatest (map plain cs))) x cs i).0
 
 module _ {S : Type 0} (m : Meaning S) (f : ℕ) (c : Conf) (r : ℕ) (s : ReplicaState) (h : Matches m f c r s) where
   module _ (g : Gathering Change) (gathers : s.changes ≡ Some g) where
@@ -63,17 +63,17 @@ module _ {S : Type 0} (m : Meaning S) (f : ℕ) (c : Conf) (r : ℕ) (s : Replic
 
     pub gathered_open : Opens g
     gathered_open enough =
-        let here : (c.replicas r).changes ≡ Some plainly = ap (λ (p : Member). p.changes) h.state ∙ gathers_plainly in
+        let here : (c.replicas r).changes ≡ Some plainly = ap (λ (p : LocalState). p.changes) h.state ∙ gathers_plainly in
         let many : g.f < length (map plain g.changes) = subst (λ (n : ℕ). g.f < n) (sym (length-map g.changes plain)) enough in
-        let front = λ (x : Change) (i : Has (kept_told g.changes) x). starts_begin_with_synced m f c r plainly h.inv h.sync h.within
-        (record { gathers = here; enough = many }) (plain x) (was_told g.changes x i) in
+        let prefix = λ (x : Change) (i : Has (kept_changes g.changes) x). starts_begin_with_synced m f c r plainly h.inv h.sync h.within
+        (record { gathers = here; enough = many }) (plain x) (was_sent g.changes x i) in
         record {
-          agree = agree_from_fronts (kept_told g.changes) (λ x i. (
-            let t = front x i in t.within,
-            let t = front x i in
+          agree = agree_from_prefixes (kept_changes g.changes) (λ x i. (
+            let t = prefix x i in t.within,
+            let t = prefix x i in
                 subst (IsPrefixOf (take x.log.sync_point x.log.entries)) (merge_is_plain g.changes) t.begins,
           ));
-          within = merged_within (kept_told g.changes) (λ x i. let t = front x i in t.within);
+          within = merged_within (kept_changes g.changes) (λ x i. let t = prefix x i in t.within);
         }
 
 -- also with a change more, which another replica told
@@ -81,7 +81,7 @@ pub with_change_opens : {S : Type 0} (m : Meaning S) (f : ℕ) (c : Conf) (r : �
     (g : Gathering Change) → Matches m f c r s → is_other s x.sender ≡ true
     → DidSay c.said x.sender v (ViewChange x.last_normal x.next x.log.sync_point x.log.entries)
     → (view_change_request m Whole v s).0.view ≡ v → (view_change_request m Whole v s).0.changes ≡ Some g
-    → Opens (counted teller g x)
+    → Opens (change_added change_sender g x)
 with_change_opens m f c r s v x g h other said view gathers =
     let e : Effect = view_change_request m Whole v s in
     let given = h.inv.said_views (says x.sender v (ViewChange x.last_normal x.next x.log.sync_point x.log.entries)) said in
@@ -90,21 +90,21 @@ with_change_opens m f c r s v x g h other said view gathers =
     let there : Matches m f d r e.0 = matches_end m f r c s e h one in
     let from = other_from m f c r s x.sender h other in
     let number : e.0.number ≡ s.number = (own m f d r e.0 there).number ∙ sym (own m f c r s h).number in
-    let told : DidSay d.said x.sender v (ViewChange x.last_normal x.next x.log.sync_point x.log.entries) =
+    let change_said : DidSay d.said x.sender v (ViewChange x.last_normal x.next x.log.sync_point x.log.entries) =
     (run_keeps m f c one.moves h.inv one.may).1.sent.said
     (says x.sender v (ViewChange x.last_normal x.next x.log.sync_point x.log.entries)) said in
     let two = move_reaches m f r d e.0 (keep_change e.0 g x) (KeepChange (plain_gathering g) (plain x)) there (record {
       gathers = ap (option_map plain_gathering) gathers;
       change = record {
         said = subst (λ (w : View). DidSay d.said x.sender w (ViewChange x.last_normal x.next x.log.sync_point x.log.entries)) (sym view)
-            told;
+            change_said;
         within = from.within;
         apart = λ same. from.apart (same ∙ number);
       };
     }) (record {
-      state = ap (λ (y : Gathering plains.Change). record (member_of e.0) { changes = Some y }) (counted_plain g x);
+      state = ap (λ (y : Gathering plains.Change). record (local_state_of e.0) { changes = Some y }) (counted_plain g x);
       said = refl;
       replies = refl;
     }) there.points in
     gathered_open m f (run m f d two.moves) r (keep_change e.0 g x).0 (matches_end m f r d e.0 (keep_change e.0 g x) there two)
-    (counted teller g x) refl
+    (change_added change_sender g x) refl

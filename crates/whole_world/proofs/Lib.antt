@@ -21,6 +21,6 @@ pub mod Safe
 pub mod Seats
 pub mod Sendings
 pub mod Steps
-pub mod Told
+pub mod MainPrefixes
 pub mod TrimmedRows
 pub mod Trimming

@@ -15,7 +15,7 @@ use Rattle.started_views.specs.Past.{HadLog}
 use Rattle.started_views.proofs.Quorums.{leader_within}
 use Rattle.protocol.specs.Conf.{Conf, last_normals}
 use Rattle.protocol.specs.Invariant.{Inv}
-use Rattle.protocol.specs.Member.{Member}
+use Rattle.protocol.specs.LocalState.{LocalState}
 use Rattle.protocol_sync.specs.Laws.{IsMainLog}
 use Rattle.world.specs.Seats.{Seated}
 use Rattle.world.specs.WorldSteps.{greatest_view, greatest_of}
@@ -103,18 +103,18 @@ module _ {S : Type 0} (m : Meaning S) (f : ℕ) (w : WholeWorld) (c : Conf) (inv
   log_is =
       ap (λ (n : ℕ). log_of (slice_get w.replicas (leader_of (main_view w) n))) shown.config
       ∙ ap log_of its_seat.1
-      ∙ ap (λ (s : Member). s.log) (sym (shown.replicas leader its_seat.0 its_seat.1))
+      ∙ ap (λ (s : LocalState). s.log) (sym (shown.replicas leader its_seat.0 its_seat.1))
 
   pub is_main_log : IsMainLog f c (main_view w) (main_log w)
   is_main_log = record {
     held = (
       found.place,
       omega (arith, slice_get_within w.replicas found.place found.seat found.there, count),
-      ap (λ (s : Member). s.last_normal) (shown.replicas found.place found.seat found.there) ∙ found.is,
+      ap (λ (s : LocalState). s.last_normal) (shown.replicas found.place found.seat found.there) ∙ found.is,
     );
     greatest = λ r l.
         let p = slice_get-some w.replicas r (omega (arith, l, count)) in
         outranks-from_ranks (last_normals c r) (main_view w)
-        (subst (λ (s : Member). RanksAtMost s.last_normal (main_view w)) (sym (shown.replicas r p.0 p.1)) (found.most r p.0 p.1));
+        (subst (λ (s : LocalState). RanksAtMost s.last_normal (main_view w)) (sym (shown.replicas r p.0 p.1)) (found.most r p.0 p.1));
     current = subst (λ (t : List Entry). HadLog c.past leader (last_normals c leader) t) (sym log_is) (inv.current leader within);
   }

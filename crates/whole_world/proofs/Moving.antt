@@ -6,8 +6,8 @@ use Rattle.nop_types.specs.Meaning.{Meaning}
 use Rattle.protocol.specs.Conf.{Conf, opening}
 use Rattle.protocol.specs.Evolves.{Keeps}
 use Rattle.protocol.specs.Invariant.{Inv}
-use Rattle.protocol.specs.Moves.{tell}
-use Rattle.protocol.specs.Runs.{Move, Tell, run, MayAll}
+use Rattle.protocol.specs.Moves.{add_lines}
+use Rattle.protocol.specs.Runs.{Move, AddLines, run, MayAll}
 use Rattle.protocol.proofs.Opening.{opening_meets}
 use Rattle.protocol.proofs.Runs.{moves_keep}
 use Rattle.refinement.proofs.Runs.{run-append, may_all-append}
@@ -20,8 +20,8 @@ use Rattle.whole_world.proofs.Seats.{still_shown}
 
 -- ---- lines that neither submit nor accept
 
-keeps_told : (c : Conf) (more : List Line) → Keeps c (tell c more)
-keeps_told c more = record {
+keeps_lines : (c : Conf) (more : List Line) → Keeps c (add_lines c more)
+keeps_lines c more = record {
   requests = λ r h. h;
   stamps = λ x h. h;
   replies = λ y h. h;
@@ -30,9 +30,9 @@ keeps_told c more = record {
   lines = (more, refl);
 }
 
-stands_told : (f : ℕ) (config : Configuration) (w : WholeWorld) (c : Conf) (more : List Line) → Stands f config w c
-    → Stands f config w (tell c more)
-stands_told f config w c more h = record {
+stands_with_lines : (f : ℕ) (config : Configuration) (w : WholeWorld) (c : Conf) (more : List Line) → Stands f config w c
+    → Stands f config w (add_lines c more)
+stands_with_lines f config w c more h = record {
   same = h.same;
   actors = record {
     is_configuration = h.actors.is_configuration;
@@ -41,12 +41,12 @@ stands_told f config w c more h = record {
     other_count = h.actors.other_count;
     replicas = h.actors.replicas;
     points = h.actors.points;
-    others = λ k i p e. still_shown c (tell c more) refl refl refl k i p.state (h.actors.others k i p e);
+    others = λ k i p e. still_shown c (add_lines c more) refl refl refl k i p.state (h.actors.others k i p e);
     givers = h.actors.givers;
   };
   carries = record {
     spelled = h.carries.spelled;
-    only = λ s x i e. sent_lasts c (tell c more) (keeps_told c more) x (h.carries.only s x i e);
+    only = λ s x i e. sent_lasts c (add_lines c more) (keeps_lines c more) x (h.carries.only s x i e);
     requests = h.carries.requests;
     stamps = h.carries.stamps;
     replies = h.carries.replies;
@@ -75,16 +75,16 @@ module _ {S : Type 0} (m : Meaning S) (f : ℕ) (config : Configuration) where
   pub goes_later : (p : Passed) (c : Conf) (v : WholeWorld) → At m f config p c → Goes m f config p c v → Later m f config c (passes p v)
   goes_later p c v at go =
       let d = run m f c go.moves in
-      let told : List Move = Tell go.others ∷ [] in
-      let may : MayAll m f c (go.moves ++ told) = may_all-append m f c go.moves told go.may (go.tells, tt) in
-      let is : run m f c (go.moves ++ told) ≡ tell d go.others = run-append m f c go.moves told in
+      let added : List Move = AddLines go.others ∷ [] in
+      let may : MayAll m f c (go.moves ++ added) = may_all-append m f c go.moves added go.may (go.tells, tt) in
+      let is : run m f c (go.moves ++ added) ≡ add_lines d go.others = run-append m f c go.moves added in
       let half : faults p.world ≡ f = omega (arith, at.stands.actors.config) in
       record {
-        moves = go.moves ++ told;
+        moves = go.moves ++ added;
         may = may;
         at = record {
-          ran = ran_on c (go.moves ++ told) at.ran may;
-          stands = subst (Stands f config v) (sym is) (stands_told f config v d go.others go.stands);
+          ran = ran_on c (go.moves ++ added) at.ran may;
+          stands = subst (Stands f config v) (sym is) (stands_with_lines f config v d go.others go.stands);
           lines = go.are ∙ ap (λ (t : List Line). t ++ (go.said ++ go.others)) at.lines
               ∙ sym (append_assoc c.lines go.said go.others) ∙ ap (λ (t : List Line). t ++ go.others) (sym go.lines)
               ∙ ap (λ (e : Conf). e.lines) (sym is);

@@ -18,11 +18,11 @@ use Rattle.session_control.proofs.Epochs.{opens_at_home, opens_fits}
 use Rattle.protocol.specs.Conf.{opening}
 use Rattle.world.specs.Seats.{Seated, seated}
 use Rattle.world.specs.Others.{Kind, Sequencers, Clients, Controllers, State, seats}
-use Rattle.world.specs.WorldSteps.{counted, opening_client, opening_others}
+use Rattle.world.specs.WorldSteps.{numbered_seats, opening_client, opening_others}
 use Rattle.world.proofs.Refusals.{opening_has_actors}
 use Rattle.network_laws.proofs.InRanges.{opens_in_ranges}
 use Rattle.refinement.specs.Controllers.{control_of}
-use Rattle.refinement.specs.Projection.{member_of}
+use Rattle.refinement.specs.Projection.{local_state_of}
 use Rattle.refinement.specs.Ranges.{ClientFits}
 use Rattle.whole_world.specs.Whole.{WholeReplica, opening_replica}
 use Rattle.whole_world.specs.Passed.{first}
@@ -48,19 +48,19 @@ controller_opens config is k l =
       missed = omega arith;
     }
 
-pub counted_length : {S : Type 0} (make : ℕ → S) (n : ℕ) → length (counted make n) ≡ n
+pub counted_length : {S : Type 0} (make : ℕ → S) (n : ℕ) → length (numbered_seats make n) ≡ n
 counted_length make zero = refl
-counted_length make (suc n) = omega (arith, length-append (counted make n) (seated (make n) ∷ []), counted_length make n)
+counted_length make (suc n) = omega (arith, length-append (numbered_seats make n) (seated (make n) ∷ []), counted_length make n)
 
-pub counted_get : {S : Type 0} (make : ℕ → S) (n i : ℕ) (p : Seated S) → slice_get (counted make n) i ≡ Some p → make i ≡ p.state
+pub counted_get : {S : Type 0} (make : ℕ → S) (n i : ℕ) (p : Seated S) → slice_get (numbered_seats make n) i ≡ Some p → make i ≡ p.state
 counted_get make zero i p e = absurd cc
-counted_get make (suc n) i p e = elim (slice_get-push_cases (counted make n) (seated (make n)) i p e) [
+counted_get make (suc n) i p e = elim (slice_get-push_cases (numbered_seats make n) (seated (make n)) i p e) [
   | inl h ↦ counted_get make n i p h.1
   | inr (a, b) ↦ ap make (a ∙ counted_length make n) ∙ ap (λ (q : Seated _). q.state) b
 ]
 
-pub counted_within : {S : Type 0} (make : ℕ → S) (n i : ℕ) (p : Seated S) → slice_get (counted make n) i ≡ Some p → i < n
-counted_within make n i p e = omega (arith, slice_get_within (counted make n) i p e, counted_length make n)
+pub counted_within : {S : Type 0} (make : ℕ → S) (n i : ℕ) (p : Seated S) → slice_get (numbered_seats make n) i ≡ Some p → i < n
+counted_within make n i p e = omega (arith, slice_get_within (numbered_seats make n) i p e, counted_length make n)
 
 client_opens : (config : Configuration) → IsTrue (is_configuration config) → (k : ℕ) → k < config.clients
     → ClientFits (opening_client config k).requests
@@ -103,7 +103,7 @@ opening_stands m f config is count = record {
       config = count;
       replica_count = counted_length (opening_replica config) config.replicas;
       other_count = (opening_has_actors config).others;
-      replicas = λ i q e. ap (λ (r : WholeReplica). member_of r.state) (counted_get (opening_replica config) config.replicas i q e);
+      replicas = λ i q e. ap (λ (r : WholeReplica). local_state_of r.state) (counted_get (opening_replica config) config.replicas i q e);
       points = λ i q e. subst (λ (r : WholeReplica). PointsMeet r.state) (counted_get (opening_replica config) config.replicas i q e) refl;
       others = others_shown config;
       givers = λ x h. absurd (Has-none x h);

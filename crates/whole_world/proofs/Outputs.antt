@@ -8,7 +8,7 @@ use Rattle.nop_types.specs.Lines.{Line, Submit, Accept, Busy}
 use Rattle.nop_types.specs.Lists.{Has}
 use Rattle.lemmas.proofs.Members.{Has-none, Has-first, Has-rest, Has-cases}
 use Rattle.execution_laws.specs.Legality.{IsOtherLine}
-use Rattle.protocol.specs.Moves.{MayTell}
+use Rattle.protocol.specs.Moves.{MayAddLines}
 use Rattle.network.specs.Network.{Sent, sends_of}
 use Rattle.refinement.specs.Lines.{lines_in, SaysFirst}
 use Rattle.whole_world.specs.Whole.{lines_of}
@@ -50,14 +50,14 @@ sends_are_outputs from (x ∷ xs) s h = output_later x xs s (sends_are_outputs f
 -- ---- lines
 
 -- no line is said
-pub no_line : MayTell []
+pub no_line : MayAddLines []
 no_line line h = absurd (Has-none line h)
 
-one_more : (x : Line) (xs : List Line) → IsOtherLine x → MayTell xs → MayTell (x ∷ xs)
+one_more : (x : Line) (xs : List Line) → IsOtherLine x → MayAddLines xs → MayAddLines (x ∷ xs)
 one_more x xs other may line h = elim (Has-cases line x xs h) [ inl e ↦ subst IsOtherLine (sym e) other | inr j ↦ may line j ]
 
 -- where the outputs neither submit nor accept, nor do their lines
-pub quiet_lines : (xs : List Out) → lines_in xs ≡ [] → MayTell (lines_of xs)
+pub quiet_lines : (xs : List Out) → lines_in xs ≡ [] → MayAddLines (lines_of xs)
 quiet_lines [] e = no_line
 quiet_lines (outs.Submitted r ∷ xs) e = absurd cc
 quiet_lines (outs.Accepted client id result ∷ xs) e = absurd cc
@@ -68,16 +68,16 @@ quiet_lines (_ ∷ xs) e = quiet_lines xs e
 pub record Speaks (xs : List Out) : Type 0 where
   pub others : List Line
   pub are : lines_of xs ≡ lines_in xs ++ others
-  pub may : MayTell others
+  pub may : MayAddLines others
 
 speaks_others : (xs : List Out) → lines_in xs ≡ [] → Speaks xs
 speaks_others xs e = record { others = lines_of xs; are = ap (λ (t : List Line). t ++ lines_of xs) (sym e); may = quiet_lines xs e }
 
-pub lines_told : (xs : List Out) → SaysFirst xs → Speaks xs
-lines_told [] first = record { others = []; are = refl; may = no_line }
-lines_told (outs.Submitted r ∷ xs) first =
-    let t = lines_told xs first in record { others = t.others; are = ap (λ (ls : List Line). Submit r ∷ ls) t.are; may = t.may }
-lines_told (outs.Accepted client id result ∷ xs) first =
-    let t = lines_told xs first in
+pub lines_are_added : (xs : List Out) → SaysFirst xs → Speaks xs
+lines_are_added [] first = record { others = []; are = refl; may = no_line }
+lines_are_added (outs.Submitted r ∷ xs) first =
+    let t = lines_are_added xs first in record { others = t.others; are = ap (λ (ls : List Line). Submit r ∷ ls) t.are; may = t.may }
+lines_are_added (outs.Accepted client id result ∷ xs) first =
+    let t = lines_are_added xs first in
     record { others = t.others; are = ap (λ (ls : List Line). Accept client id result ∷ ls) t.are; may = t.may }
-lines_told (x ∷ xs) first = speaks_others (x ∷ xs) first
+lines_are_added (x ∷ xs) first = speaks_others (x ∷ xs) first

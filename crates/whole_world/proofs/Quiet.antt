@@ -9,12 +9,12 @@ use Rattle.replica_state.specs.State.{PointsMeet}
 use Rattle.started_views.specs.Past.{note}
 use Rattle.protocol.specs.Conf.{Conf}
 use Rattle.protocol.specs.Invariant.{Inv}
-use Rattle.protocol.specs.Member.{Member}
+use Rattle.protocol.specs.LocalState.{LocalState}
 use Rattle.world.specs.Others.{Kind, State, seats, with_seat, count}
 use Rattle.world.specs.Seats.{Seated, seated}
 use Rattle.world.proofs.Others.{others_become}
 use Rattle.whole_world.specs.Passed.{Passed, noted, standing}
-use Rattle.refinement.specs.Projection.{member_of}
+use Rattle.refinement.specs.Projection.{local_state_of}
 use Rattle.whole_world.specs.Whole.{WholeReplica, WholeWorld}
 use Rattle.whole_world.specs.Shows.{IsShown, ShowsActors}
 use Rattle.whole_world.proofs.At.{OtherFits, ReplicaFits, Stands, At, Goes}
@@ -35,7 +35,7 @@ module _ {S : Type 0} (m : Meaning S) (f : ℕ) (config : Configuration) (p : Pa
   has_logs i q e =
       let l : i < 2 * f + 1 = omega (arith, slice_get_within w.replicas i q e, shown.replica_count, shown.config) in
       let here : 0 + i ≡ i = omega arith in
-      rw (here, at.past) (subst (λ (t : Member). c.past.log i t.last_normal ≡ Some t.log) (shown.replicas i q e) (inv.current i l))
+      rw (here, at.past) (subst (λ (t : LocalState). c.past.log i t.last_normal ≡ Some t.log) (shown.replicas i q e) (inv.current i l))
 
   -- where no replica made a step
   pub idle_past : noted f p.past 0 w.replicas w.replicas ≡ c.past
@@ -70,7 +70,7 @@ module _ {S : Type 0} (m : Meaning S) (f : ℕ) (config : Configuration) (p : Pa
       config = shown.config;
       replica_count = length-set w.replicas i new ∙ shown.replica_count;
       other_count = shown.other_count;
-      replicas = seats_same (λ j s. c.replicas j ≡ member_of s.state) w.replicas i old new there same shown.replicas;
+      replicas = seats_same (λ j s. c.replicas j ≡ local_state_of s.state) w.replicas i old new there same shown.replicas;
       points = seats_same (λ j s. PointsMeet s.state) w.replicas i old new there same shown.points;
       others = shown.others;
       givers = shown.givers;

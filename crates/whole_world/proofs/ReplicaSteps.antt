@@ -35,7 +35,7 @@ use Rattle.started_views.specs.Past.{Past, note}
 use Rattle.protocol.specs.Conf.{Conf, Install, opening}
 use Rattle.protocol.specs.Evolves.{Keeps}
 use Rattle.protocol.specs.Invariant.{Inv}
-use Rattle.protocol.specs.Member.{Member}
+use Rattle.protocol.specs.LocalState.{LocalState}
 use Rattle.protocol.specs.Runs.{run}
 use Rattle.protocol.specs.Said.{Said}
 use Rattle.protocol.proofs.Opening.{opening_meets}
@@ -48,14 +48,14 @@ use Rattle.protocol_sync.proofs.Runs.{syncs_keep}
 use Rattle.network.specs.Network.{Sent, sends_of}
 use Rattle.world.specs.Seats.{Seated, seated}
 use Rattle.refinement.specs.Datagrams.{WasSent}
-use Rattle.refinement.specs.Projection.{member_of, said_of, said_in}
+use Rattle.refinement.specs.Projection.{local_state_of, said_of, said_in}
 use Rattle.refinement.specs.Replicas as refinement
 use Rattle.refinement.specs.Replicas.{Adds, AddsSends, SameBut, ReplicaReaches}
 use Rattle.refinement.proofs.Arriving.{replicas_reach}
 use Rattle.whole_world.specs.Whole.{WholeReplica, WholeWorld, Letter, Brings, replies_in, letters_in, row_if, effect_of, arrival_of, after_row}
 use Rattle.whole_world.specs.Whole.{posts}
 use Rattle.whole_world.specs.Passed.{Passed, noted, standing}
-use Rattle.whole_world.specs.Shows.{IsThere, Carries, Tells, ShowsActors, peers_of}
+use Rattle.whole_world.specs.Shows.{IsThere, Carries, MessagesSay, ShowsActors, peers_of}
 use Rattle.whole_world.proofs.At.{ReplicaFits, Stands, At, Goes}
 use Rattle.whole_world.proofs.Coming.{arrives}
 use Rattle.whole_world.proofs.Fitting.{read_as, sent_lasts, there_still}
@@ -74,22 +74,22 @@ letters_peers number (ToReplicas dest p ∷ sends) = ap (λ (ps : List Peer). p 
 letters_peers number (_ ∷ sends) = letters_peers number sends
 
 -- what was said before, and what is said now, is what was told
-tells_on : (told : List Peer) (old new : List Said) (sends : List Sending) → AllByRecursion (SendingIsIn Whole) sends
-    → Adds old new (said_in sends) → Tells told old → Tells (told ++ peers_in sends) new
-tells_on told old new sends fits adds h = record {
-  fits = λ p i. elim (Has-append_cases told (peers_in sends) p i) [
+messages_say_on : (peers : List Peer) (old new : List Said) (sends : List Sending) → AllByRecursion (SendingIsIn Whole) sends
+    → Adds old new (said_in sends) → MessagesSay peers old → MessagesSay (peers ++ peers_in sends) new
+messages_say_on peers old new sends fits adds h = record {
+  fits = λ p i. elim (Has-append_cases peers (peers_in sends) p i) [
     | inl before ↦ h.fits p before
     | inr fresh ↦ peers_fit Whole sends p fits fresh
   ];
-  all = λ p i. elim (Has-append_cases told (peers_in sends) p i) [
+  all = λ p i. elim (Has-append_cases peers (peers_in sends) p i) [
     | inl before ↦ adds.kept (said_of p) (h.all p before)
     | inr fresh ↦ adds.added (said_of p) (peers_said sends p fresh)
   ];
   only = λ x i. elim (adds.only x i) [
     | inl before ↦ (let t = h.only x before in
-        record { peer = t.peer; has = Has-append_left told (peers_in sends) t.peer t.has; says = t.says })
+        record { peer = t.peer; has = Has-append_left peers (peers_in sends) t.peer t.has; says = t.says })
     | inr fresh ↦ (let t = said_by_peers sends x fresh in
-        record { peer = t.peer; has = Has-append_right told (peers_in sends) t.peer t.has; says = t.says })
+        record { peer = t.peer; has = Has-append_right peers (peers_in sends) t.peer t.has; says = t.says })
   ];
 }
 
@@ -243,7 +243,7 @@ module _ {S : Type 0} (m : Meaning S) (f : ℕ) (config : Configuration) (p : Pa
       lines = refl;
     };
     past = sym (note_idle f c.past r (standing old)
-        (subst (λ (t : Member). c.past.log r t.last_normal ≡ Some t.log) matches.state (inv.current r within)));
+        (subst (λ (t : LocalState). c.past.log r t.last_normal ≡ Some t.log) matches.state (inv.current r within)));
     sends = record {
       said = adds_none c.said;
       replies = adds_none c.replies;
@@ -268,13 +268,13 @@ module _ {S : Type 0} (m : Meaning S) (f : ℕ) (config : Configuration) (p : Pa
   keeps : Keeps c d
   keeps = (moves_keep m f c reaches.moves inv reaches.may).1.sent
 
-  step_tells : Tells (peers_of (w.letters ++ letters_in old.state.messages e.1)) d.said
-  step_tells =
+  step_says : MessagesSay (peers_of (w.letters ++ letters_in old.state.messages e.1)) d.said
+  step_says =
       let same : peers_of (w.letters ++ letters_in old.state.messages e.1) ≡ peers_of w.letters ++ peers_in e.1 =
       map-append (λ (x : Letter). x.peer) w.letters (letters_in old.state.messages e.1)
       ∙ ap (λ (ps : List Peer). peers_of w.letters ++ ps) (letters_peers old.state.messages e.1) in
-      subst (λ (ps : List Peer). Tells ps d.said) (sym same)
-      (tells_on (peers_of w.letters) c.said d.said e.1 row.ranges.sends reaches.sends.said at.stands.tells)
+      subst (λ (ps : List Peer). MessagesSay ps d.said) (sym same)
+      (messages_say_on (peers_of w.letters) c.said d.said e.1 row.ranges.sends reaches.sends.said at.stands.tells)
 
   step_actors : ShowsActors f (posts w r old.state e) d
   step_actors = record {
@@ -282,7 +282,7 @@ module _ {S : Type 0} (m : Meaning S) (f : ℕ) (config : Configuration) (p : Pa
     config = shown.config;
     replica_count = length-set w.replicas r new ∙ shown.replica_count;
     other_count = shown.other_count;
-    replicas = seats_become (λ j s. c.replicas j ≡ member_of s.state) (λ j s. d.replicas j ≡ member_of s.state) w.replicas r
+    replicas = seats_become (λ j s. c.replicas j ≡ local_state_of s.state) (λ j s. d.replicas j ≡ local_state_of s.state) w.replicas r
         new reaches.state (λ j s other h. reaches.others.replicas j other ∙ h) shown.replicas;
     points = seats_hold (λ s. PointsMeet s.state) w.replicas r new reaches.points shown.points;
     others = λ k j q i. still_shown c d reaches.others.sequencers reaches.others.clients reaches.others.controllers k j q.state
@@ -295,7 +295,7 @@ module _ {S : Type 0} (m : Meaning S) (f : ℕ) (config : Configuration) (p : Pa
     same = at.stands.same;
     actors = step_actors;
     carries = step_carries c d w.sent from e.1 keeps reaches.sends row.ranges.sends r reaches.others at.stands.carries;
-    tells = step_tells;
+    tells = step_says;
     ranges = record {
       replicas = seats_become ReplicaFits ReplicaFits w.replicas r new (replica_fits r old.state e row) (λ j s other h. h)
           at.stands.ranges.replicas;

@@ -26,7 +26,7 @@ use Rattle.nop_types.specs.declared.request.Request.{Request}
 use Rattle.nop_types.specs.declared.view.View.{View}
 use Rattle.lemmas.proofs.Members.{Has-one, Has-push_cases, Has-from_filter}
 use Rattle.gap_agree.specs.Votes.{with_vote}
-use Rattle.log_merge.specs.Merging.{kept_told, best, merged, merged_from}
+use Rattle.log_merge.specs.Merging.{kept_changes, best, merged, merged_from}
 use Rattle.log_merge.specs.Starting.{greatest, start_of}
 use Rattle.log_merge.proofs.Best.{best_is_best}
 use Rattle.oum_receiver.specs.Front.{Front, Nothing, Message, Dropped}
@@ -35,22 +35,22 @@ use Rattle.replica_log.proofs.Adopted.{adopted_point, overlaid_point}
 use Rattle.sync_points.specs.Synchronisation.{Round, Synchronisation, begun, with_round, with_vote_for, round_vote, closed, counted_in}
 use Rattle.sync_points.specs.Synchronisation.{vote_for, committed}
 use Rattle.view_change.specs.Gathering as gathering
-use Rattle.view_change.specs.Gathering.{Gathering, counted, has_sender, teller}
+use Rattle.view_change.specs.Gathering.{Gathering, change_added, has_sender, change_sender}
 use Rattle.replica_state.specs.declared.sending.Sending.{Sending}
 use Rattle.replica_state.specs.declared.sending.Sending.TheVariants.{ToClient, ToReplicas, Trims}
 use Rattle.replica_state.specs.declared.state.ReplicaState.{ReplicaState}
-use Rattle.replica_state.specs.State.{others, leads, is_normal, waits, drains, has_risen}
+use Rattle.replica_state.specs.State.{max_faults, leads, is_normal, waits, drains, may_trim}
 use Rattle.replica_state.specs.Sends.{Effect, still, then_do, when, to_leader, to_all, to_all_if}
 use Rattle.replica_state.specs.Replies.{leader_reply, reply_if, reply_to, reply_for, replies_to, replies_above}
 use Rattle.replica_state.specs.Moves.{hear, queue, begin_session, session_view, logged, take_front, appended, ask_if, gap_opened}
 use Rattle.replica_state.specs.Moves.{open_gap, gap_written, add_gap, count_gap_vote, drain_drop, drain_at, drain_by, drain}
-use Rattle.replica_state.specs.Moves.{entered, own_change, change_told, enter_as, enter, adopted, adopt, open_with, open_view}
-use Rattle.replica_state.specs.Moves.{overlaid, overlay, obey, sync_commit, commit_if, risen, raise}
+use Rattle.replica_state.specs.Moves.{entered, own_change, change_sent, enter_as, enter, adopted, adopt, open_with, open_view}
+use Rattle.replica_state.specs.Moves.{overlaid, overlay, obey, sync_commit, commit_if, log_trimmed, trim}
 use Rattle.replica_state.specs.Moves.{count_sync_vote}
 use Rattle.replica_state.specs.Repeating.{sync_if, sync}
 use Rattle.replica_rows.specs.Rows as rows
 use Rattle.replica_rows.specs.Messages.{Arrival, arrive}
-use Rattle.replica_rows.specs.Telling.{told_in, told_by}
+use Rattle.replica_rows.specs.MessagePoints.{point_in_body, point_in_arrival}
 use Rattle.replica_rows.proofs.EachRow.{change_in, arrive_row}
 use Rattle.replica_rows.proofs.EachMove.{Kept, all_behind, then_kept, EachMove, each_row}
 use Rattle.trimmed_rows.specs.Premises.{PointsWithin}
@@ -99,21 +99,21 @@ module _ (a : ℕ) where
   -- the own one too, and that of the log
   pub record IsLow (s : ReplicaState) : Type 0 where
     pub point : s.sync.sync_point ≤ a
-    pub told : s.log.sync_point ≤ a
+    pub log_point : s.log.sync_point ≤ a
     pub gathered : LowChanges s.changes
 
   -- that of the log of a message; and no entries move out
-  abbrev pub TellsLow : Sending → Type 0
-  TellsLow (ToClient r) = ⊤
-  TellsLow (ToReplicas dest p) = told_in p.body ≤ a
-  TellsLow (Trims first entries) = ⊥
+  abbrev pub SendsLow : Sending → Type 0
+  SendsLow (ToClient r) = ⊤
+  SendsLow (ToReplicas dest p) = point_in_body p.body ≤ a
+  SendsLow (Trims first entries) = ⊥
 
   pub record StaysLow (e : Effect) : Type 0 where
     pub state : IsLow e.0
-    pub sends : AllByRecursion TellsLow e.1
+    pub sends : AllByRecursion SendsLow e.1
 
   abbrev KeptLow : Effect → Type 0
-  KeptLow e = Kept IsLow TellsLow e
+  KeptLow e = Kept IsLow SendsLow e
 
   zero_low : 0 ≤ a
   zero_low = omega arith
@@ -124,23 +124,23 @@ module _ (a : ℕ) where
   some_low : (g : Gathering Change) → ((c : Change) → Has g.changes c → c.log.sync_point ≤ a) → LowChanges (Some g)
   some_low g h x c e i = h c (subst (λ (y : Gathering Change). Has y.changes c) (sym (same_Some g x e)) i)
 
-  both_low : (xs ys : List Sending) → AllByRecursion TellsLow xs → AllByRecursion TellsLow ys → AllByRecursion TellsLow (xs ++ ys)
-  both_low xs ys f g = all_behind IsLow TellsLow xs ys f g
+  both_low : (xs ys : List Sending) → AllByRecursion SendsLow xs → AllByRecursion SendsLow ys → AllByRecursion SendsLow (xs ++ ys)
+  both_low xs ys f g = all_behind IsLow SendsLow xs ys f g
 
   -- ---- messages
 
-  all_if_low : (b : Bool) (s : ReplicaState) (body : Body) → told_in body ≤ a → AllByRecursion TellsLow (to_all_if b s body)
+  all_if_low : (b : Bool) (s : ReplicaState) (body : Body) → point_in_body body ≤ a → AllByRecursion SendsLow (to_all_if b s body)
   all_if_low true s body h = tt
   all_if_low false s body h = (h, tt)
 
-  all_low : (s : ReplicaState) (body : Body) → told_in body ≤ a → AllByRecursion TellsLow (to_all s body)
-  all_low s body h = all_if_low (others s == 0) s body h
+  all_low : (s : ReplicaState) (body : Body) → point_in_body body ≤ a → AllByRecursion SendsLow (to_all s body)
+  all_low s body h = all_if_low (max_faults s == 0) s body h
 
   changed_low : (s t : ReplicaState) → IsLow s → t.sync.sync_point ≡ s.sync.sync_point → t.log.sync_point ≡ s.log.sync_point
       → t.changes ≡ s.changes → IsLow t
   changed_low s t low p l c = record {
     point = let x = low.point in omega (arith, p, x);
-    told = let x = low.told in omega (arith, l, x);
+    log_point = let x = low.log_point in omega (arith, l, x);
     gathered = subst LowChanges (sym c) low.gathered;
   }
 
@@ -151,37 +151,37 @@ module _ (a : ℕ) where
 
   record Grows (s : ReplicaState) (e : Effect) : Type 0 where
     point : e.0.sync.sync_point ≡ s.sync.sync_point
-    told : e.0.log.sync_point ≡ s.log.sync_point
+    log_point : e.0.log.sync_point ≡ s.log.sync_point
     changes : e.0.changes ≡ s.changes
-    front : (n : ℕ) → n ≤ length s.log.entries → take n e.0.log.entries ≡ take n s.log.entries
+    prefix : (n : ℕ) → n ≤ length s.log.entries → take n e.0.log.entries ≡ take n s.log.entries
     longer : length s.log.entries ≤ length e.0.log.entries
-    sends : AllByRecursion TellsLow e.1
+    sends : AllByRecursion SendsLow e.1
 
   -- whatever the state
   record AlwaysGrows (f : ReplicaState → Effect) : Type 0 where
     at : (s : ReplicaState) → Grows s (f s)
 
   grown_low : (s : ReplicaState) (e : Effect) → IsLow s → Grows s e → KeptLow e
-  grown_low s e low g = record { state = changed_low s e.0 low g.point g.told g.changes; sends = g.sends }
+  grown_low s e low g = record { state = changed_low s e.0 low g.point g.log_point g.changes; sends = g.sends }
 
   grows_none : (s t : ReplicaState) (sends : List Sending) → t.sync.sync_point ≡ s.sync.sync_point → t.log ≡ s.log → t.changes ≡ s.changes
-      → AllByRecursion TellsLow sends → Grows s (t, sends)
+      → AllByRecursion SendsLow sends → Grows s (t, sends)
   grows_none s t sends p l c low = record {
     point = p;
-    told = ap (λ (x : Log). x.sync_point) l;
+    log_point = ap (λ (x : Log). x.sync_point) l;
     changes = c;
-    front = λ n h. ap (λ (x : Log). take n x.entries) l;
+    prefix = λ n h. ap (λ (x : Log). take n x.entries) l;
     longer = let e = ap (λ (x : Log). length x.entries) l in omega (arith, e);
     sends = low;
   }
 
   grows_more : (s t : ReplicaState) (x : Entry) (sends : List Sending) → t.sync.sync_point ≡ s.sync.sync_point
-      → t.log ≡ logs.appended s.log x → t.changes ≡ s.changes → AllByRecursion TellsLow sends → Grows s (t, sends)
+      → t.log ≡ logs.appended s.log x → t.changes ≡ s.changes → AllByRecursion SendsLow sends → Grows s (t, sends)
   grows_more s t x sends p l c low = record {
     point = p;
-    told = ap (λ (k : Log). k.sync_point) l;
+    log_point = ap (λ (k : Log). k.sync_point) l;
     changes = c;
-    front = λ n h. ap (λ (k : Log). take n k.entries) l ∙ take-append-le n s.log.entries (x ∷ []) h;
+    prefix = λ n h. ap (λ (k : Log). take n k.entries) l ∙ take-append-le n s.log.entries (x ∷ []) h;
     longer =
         let e = ap (λ (k : Log). length k.entries) l in let len = length-append s.log.entries (x ∷ []) in omega (arith, e, len);
     sends = low;
@@ -190,9 +190,9 @@ module _ (a : ℕ) where
   then_grows : (s : ReplicaState) (e : Effect) (f : ReplicaState → Effect) → Grows s e → Grows e.0 (f e.0) → Grows s (then_do e f)
   then_grows s e f h g = record {
     point = g.point ∙ h.point;
-    told = g.told ∙ h.told;
+    log_point = g.log_point ∙ h.log_point;
     changes = g.changes ∙ h.changes;
-    front = λ n low. g.front n (let w = h.longer in omega (arith, low, w)) ∙ h.front n low;
+    prefix = λ n low. g.prefix n (let w = h.longer in omega (arith, low, w)) ∙ h.prefix n low;
     longer = let x = h.longer in let y = g.longer in omega (arith, x, y);
     sends = both_low e.1 (f e.0).1 h.sends g.sends;
   }
@@ -200,8 +200,8 @@ module _ (a : ℕ) where
   open_gap_grows : (s : ReplicaState) → Grows s (open_gap Whole s)
   unfolding open_gap
   open_gap_grows s =
-      let told : Body = bodies.GapCommit (length s.log.entries + 1) in
-      grows_more s (gap_opened Whole s) NoOp (to_all s told) refl refl refl (all_low s told zero_low)
+      let sent : Body = bodies.GapCommit (length s.log.entries + 1) in
+      grows_more s (gap_opened Whole s) NoOp (to_all s sent) refl refl refl (all_low s sent zero_low)
 
   ask_grows : (b : Bool) (s : ReplicaState) → Grows s (ask_if Whole b s)
   ask_grows true s = grows_none s s [] refl refl refl tt
@@ -218,8 +218,8 @@ module _ (a : ℕ) where
     pub before : List Sending
     pub rest : List Sending
     pub sends : e.1 ≡ before ++ Trims (s.log.sync_point + 1) (whole 0 (between Whole s.log e.0.sync.sync_point)) ∷ rest
-    pub first : AllByRecursion TellsLow before
-    pub last : AllByRecursion TellsLow rest
+    pub first : AllByRecursion SendsLow before
+    pub last : AllByRecursion SendsLow rest
     pub within : e.0.sync.sync_point ≤ length s.log.entries
     pub gathered : LowChanges e.0.changes
     pub kept : (n : ℕ) → n ≤ length s.log.entries → take n e.0.log.entries ≡ take n s.log.entries
@@ -232,39 +232,39 @@ module _ (a : ℕ) where
     log : e.0.log ≡ s.log
     changes : e.0.changes ≡ s.changes
     high : e.0.sync.sync_point ≤ length s.log.entries
-    sends : AllByRecursion TellsLow e.1
+    sends : AllByRecursion SendsLow e.1
 
   module _ {S : Type 0} (m : Meaning S) where
     -- ---- replies
 
-    leader_reply_low : (s : ReplicaState) (slot : ℕ) (r : Request) (o : Option (List ℕ)) → AllByRecursion TellsLow (leader_reply s slot r o)
+    leader_reply_low : (s : ReplicaState) (slot : ℕ) (r : Request) (o : Option (List ℕ)) → AllByRecursion SendsLow (leader_reply s slot r o)
     leader_reply_low s slot r None = tt
     leader_reply_low s slot r (Some result) = (tt, tt)
 
-    reply_if_low : (b : Bool) (s : ReplicaState) (slot : ℕ) (r : Request) → AllByRecursion TellsLow (reply_if m Whole b s slot r)
+    reply_if_low : (b : Bool) (s : ReplicaState) (slot : ℕ) (r : Request) → AllByRecursion SendsLow (reply_if m Whole b s slot r)
     reply_if_low true s slot r = leader_reply_low s slot r (slot_result m Whole s.log slot)
     reply_if_low false s slot r = (tt, tt)
 
-    reply_low : (s : ReplicaState) (slot : ℕ) (r : Request) → AllByRecursion TellsLow (reply_to m Whole s slot r)
+    reply_low : (s : ReplicaState) (slot : ℕ) (r : Request) → AllByRecursion SendsLow (reply_to m Whole s slot r)
     unfolding reply_to
     reply_low s slot r = reply_if_low (leads s) s slot r
 
-    entry_low : (s : ReplicaState) (slot : ℕ) (e : Entry) → AllByRecursion TellsLow (reply_for m Whole s slot e)
+    entry_low : (s : ReplicaState) (slot : ℕ) (e : Entry) → AllByRecursion SendsLow (reply_for m Whole s slot e)
     entry_low s slot NoOp = tt
     entry_low s slot (Req r) = reply_low s slot r
 
-    replies_low : (s : ReplicaState) (slot : ℕ) (l : List Entry) → AllByRecursion TellsLow (replies_to m Whole s slot l)
+    replies_low : (s : ReplicaState) (slot : ℕ) (l : List Entry) → AllByRecursion SendsLow (replies_to m Whole s slot l)
     replies_low s slot [] = tt
     replies_low s slot (e ∷ l) =
         both_low (reply_for m Whole s slot e) (replies_to m Whole s (slot + 1) l) (entry_low s slot e) (replies_low s (slot + 1) l)
 
-    above_low : (s : ReplicaState) (slot : ℕ) → AllByRecursion TellsLow (replies_above m Whole s slot)
+    above_low : (s : ReplicaState) (slot : ℕ) → AllByRecursion SendsLow (replies_above m Whole s slot)
     above_low s slot = replies_low s (slot + 1) (above Whole s.log slot)
 
     -- ---- drains
 
-    drain_at_grows : (again : ReplicaState → Effect) (s : ReplicaState) (b : Bool) (front : Front) → AlwaysGrows again
-        → Grows s (drain_at m Whole again s b front)
+    drain_at_grows : (again : ReplicaState → Effect) (s : ReplicaState) (b : Bool) (prefix : Front) → AlwaysGrows again
+        → Grows s (drain_at m Whole again s b prefix)
     drain_at_grows again s true (Message r) rest =
         then_grows s (take_front m Whole s r) again
         (grows_more s (logged s r) (Req r) (reply_to m Whole (logged s r) (length s.log.entries + 1) r) refl refl refl
@@ -272,7 +272,7 @@ module _ (a : ℕ) where
         (rest.at (logged s r))
     drain_at_grows again s true Dropped rest = drop_grows (leads s) again s rest
     drain_at_grows again s true Nothing rest = grows_none s s [] refl refl refl tt
-    drain_at_grows again s false front rest = grows_none s s [] refl refl refl tt
+    drain_at_grows again s false prefix rest = grows_none s s [] refl refl refl tt
 
     drain_by_grows : (room : ℕ) → AlwaysGrows (drain_by m Whole room)
     drain_by_grows zero = record { at = λ s. grows_none s s [] refl refl refl tt }
@@ -284,39 +284,39 @@ module _ (a : ℕ) where
     drain_grows s = (drain_by_grows (MAX_SLOTS - unsynced Whole s.log)).at s
 
     and_drain : (e : Effect) → KeptLow e → KeptLow (then_do e (drain m Whole))
-    and_drain e h = then_kept IsLow TellsLow e (drain m Whole) h (λ low. grown_low e.0 (drain m Whole e.0) low (drain_grows e.0))
+    and_drain e h = then_kept IsLow SendsLow e (drain m Whole) h (λ low. grown_low e.0 (drain m Whole e.0) low (drain_grows e.0))
 
     -- ---- views
 
-    own_low : (s : ReplicaState) → IsLow s → LowChanges (Some (gathering.entered s.view (others s) (own_change s)))
-    own_low s low = some_low (gathering.entered s.view (others s) (own_change s)) (λ c i.
+    own_low : (s : ReplicaState) → IsLow s → LowChanges (Some (gathering.entered s.view (max_faults s) (own_change s)))
+    own_low s low = some_low (gathering.entered s.view (max_faults s) (own_change s)) (λ c i.
         let e : c.log.sync_point ≡ s.log.sync_point = ap (λ (x : Change). x.log.sync_point) (Has-one c (own_change s) i) in
-        let t = low.told in
+        let t = low.log_point in
         omega (arith, e, t))
 
     enter_as_low : (b : Bool) (s : ReplicaState) → IsLow s → KeptLow (enter_as b s)
     enter_as_low true s low = record {
-      state = record { point = low.point; told = low.told; gathered = own_low s low };
+      state = record { point = low.point; log_point = low.log_point; gathered = own_low s low };
       sends = all_low s bodies.ViewChangeReq zero_low;
     }
     enter_as_low false s low = record {
       state = low;
-      sends = both_low (to_all s bodies.ViewChangeReq) (change_told s) (all_low s bodies.ViewChangeReq zero_low) (low.told, tt);
+      sends = both_low (to_all s bodies.ViewChangeReq) (change_sent s) (all_low s bodies.ViewChangeReq zero_low) (low.log_point, tt);
     }
 
     enter_low : (s : ReplicaState) (v : View) → IsLow s → KeptLow (enter s v)
     unfolding enter
     enter_low s v low =
-        enter_as_low (leads (entered s v)) (entered s v) (record { point = low.point; told = low.told; gathered = none_low })
+        enter_as_low (leads (entered s v)) (entered s v) (record { point = low.point; log_point = low.log_point; gathered = none_low })
 
     adopted_low : (s : ReplicaState) (v : View) (x : ℕ) (l : Log) → l.sync_point ≤ a → IsLow s → IsLow (adopted Whole s v x l)
     adopted_low s v x l le low =
         let own = low.point in
-        let log = low.told in
+        let log = low.log_point in
         let most : max s.log.sync_point l.sync_point ≤ a = omega (arith, le, log) in
         record {
           point = omega (arith, le, own);
-          told = subst (λ (n : ℕ). n ≤ a) (sym (adopted_point l s.log)) most;
+          log_point = subst (λ (n : ℕ). n ≤ a) (sym (adopted_point l s.log)) most;
           gathered = none_low;
         }
 
@@ -329,24 +329,24 @@ module _ (a : ℕ) where
 
     open_with_low : (s : ReplicaState) (x : ℕ) (l : Log) → l.sync_point ≤ a → IsLow s → KeptLow (open_with m Whole s x l)
     open_with_low s x l le low =
-        then_kept IsLow TellsLow (s, to_all s (bodies.StartView x l)) (λ t. adopt m Whole t t.view x l)
+        then_kept IsLow SendsLow (s, to_all s (bodies.StartView x l)) (λ t. adopt m Whole t t.view x l)
         (record { state = low; sends = all_low s (bodies.StartView x l) le }) (λ h. adopt_low s s.view x l le h)
 
     -- what a view starts with has the sync point of a change that was gathered
-    merged_low : (cs : List Change) → ((c : Change) → Has cs c → c.log.sync_point ≤ a) → (merged Whole (kept_told cs)).sync_point ≤ a
-    merged_low cs h = by (best (kept_told cs)) refl
+    merged_low : (cs : List Change) → ((c : Change) → Has cs c → c.log.sync_point ≤ a) → (merged Whole (kept_changes cs)).sync_point ≤ a
+    merged_low cs h = by (best (kept_changes cs)) refl
       where
-        by : (o : Option Change) → best (kept_told cs) ≡ o → (merged_from Whole (kept_told cs) o).sync_point ≤ a
+        by : (o : Option Change) → best (kept_changes cs) ≡ o → (merged_from Whole (kept_changes cs) o).sync_point ≤ a
         by None e = zero_low
         by (Some g) e =
-            let kept = (best_is_best (kept_told cs) g e).member in
+            let kept = (best_is_best (kept_changes cs) g e).member in
             h g (Has-from_filter (λ c. is_view c.last_normal (greatest (map plain cs))) g cs kept).0
 
     -- ---- changes
 
     counted_low : (g : Gathering Change) (c : Change) → LowChanges (Some g) → c.log.sync_point ≤ a
-        → LowChanges (Some (counted teller g c))
-    counted_low g c h le = some_low (counted teller g c) (by (has_sender teller g.changes c.sender))
+        → LowChanges (Some (change_added change_sender g c))
+    counted_low g c h le = some_low (change_added change_sender g c) (by (has_sender change_sender g.changes c.sender))
       where
         by : (b : Bool) (x : Change) → Has (cond b g.changes (g.changes ++ c ∷ [])) x → x.log.sync_point ≤ a
         by true x i = h g x refl i
@@ -358,11 +358,11 @@ module _ (a : ℕ) where
     -- ---- slots and sync points
 
     written_low : (n : ℕ) (s : ReplicaState) → IsLow s → IsLow (gap_written Whole s n)
-    written_low n s low = record { point = low.point; told = by (nat_le n s.sync.sync_point); gathered = low.gathered }
+    written_low n s low = record { point = low.point; log_point = by (nat_le n s.sync.sync_point); gathered = low.gathered }
       where
         by : (b : Bool) → (cond b s.log (with_noop Whole s.log n)).sync_point ≤ a
-        by true = low.told
-        by false = low.told
+        by true = low.log_point
+        by false = low.log_point
 
     overlay_low : (s : ReplicaState) (l : Log) → l.sync_point ≤ a → IsLow s → KeptLow (overlay m Whole s l)
     unfolding overlay
@@ -370,12 +370,12 @@ module _ (a : ℕ) where
         let t : ReplicaState = overlaid Whole s l in
         let from : ℕ = max (length s.log.entries) t.sync.sync_point in
         let own = low.point in
-        let log = low.told in
+        let log = low.log_point in
         let most : max s.log.sync_point l.sync_point ≤ a = omega (arith, le, log) in
         record {
           state = record {
             point = omega (arith, le, own);
-            told = subst (λ (n : ℕ). n ≤ a) (sym (overlaid_point l s.log)) most;
+            log_point = subst (λ (n : ℕ). n ≤ a) (sym (overlaid_point l s.log)) most;
             gathered = low.gathered;
           };
           sends = both_low (replies_above m Whole t from) (to_leader s (bodies.SyncRep (length l.entries))) (above_low t from)
@@ -384,17 +384,17 @@ module _ (a : ℕ) where
 
     -- ---- rows that let the sync point rise
 
-    rises : (s : ReplicaState) (e : Effect) → IsLow s → Moves s e → Leaves s (then_do e (rows.raise_and_drain m Whole))
-    rises s e low h = by (has_risen e.0) refl
+    rises : (s : ReplicaState) (e : Effect) → IsLow s → Moves s e → Leaves s (then_do e (rows.trim_and_drain m Whole))
+    rises s e low h = by (may_trim e.0) refl
       where
         point : e.0.log.sync_point ≡ s.log.sync_point
         point = ap (λ (x : Log). x.sync_point) h.log
 
-        by : (b : Bool) → has_risen e.0 ≡ b → Leaves s (then_do e (when b (λ t. then_do (raise m Whole t) (drain m Whole))))
+        by : (b : Bool) → may_trim e.0 ≡ b → Leaves s (then_do e (when b (λ t. then_do (trim m Whole t) (drain m Whole))))
         by true is =
             let t : ReplicaState = e.0 in
-            let d : Effect = drain m Whole (risen m Whole t) in
-            let g = drain_grows (risen m Whole t) in
+            let d : Effect = drain m Whole (log_trimmed m Whole t) in
+            let g = drain_grows (log_trimmed m Whole t) in
             let same : d.0.sync.sync_point ≡ t.sync.sync_point = g.point in
             let len : length t.log.entries ≡ length s.log.entries = ap (λ (x : Log). length x.entries) h.log in
             let high = h.high in
@@ -408,15 +408,15 @@ module _ (a : ℕ) where
               last = g.sends;
               within = omega (arith, same, high);
               gathered = subst LowChanges (sym (g.changes ∙ h.changes)) low.gathered;
-              kept = λ n le. g.front n (omega (arith, len, le)) ∙ ap (λ (x : Log). take n x.entries) h.log;
+              kept = λ n le. g.prefix n (omega (arith, len, le)) ∙ ap (λ (x : Log). take n x.entries) h.log;
             })
         by false is =
             let most = ltb-false e.0.log.sync_point e.0.sync.sync_point is in
-            let log = low.told in
+            let log = low.log_point in
             inl (record {
               state = record {
                 point = omega (arith, most, point, log);
-                told = omega (arith, point, log);
+                log_point = omega (arith, point, log);
                 gathered = subst LowChanges (sym h.changes) low.gathered;
               };
               sends = both_low e.1 [] h.sends tt;
@@ -439,7 +439,7 @@ module _ (a : ℕ) where
     unfolding rows.sync_commit
     commit_leaves n s w low = rises s (sync_commit n s) low (commit_moves n s w)
 
-    commit_if_low : (s : ReplicaState) (n : ℕ) (v : Vote) → AllByRecursion TellsLow (commit_if s n v)
+    commit_if_low : (s : ReplicaState) (n : ℕ) (v : Vote) → AllByRecursion SendsLow (commit_if s n v)
     commit_if_low s n Settled = all_low s (bodies.SyncCommit n) zero_low
     commit_if_low s n Waiting = tt
 
@@ -457,7 +457,7 @@ module _ (a : ℕ) where
       log = refl;
       changes = refl;
       high = round_high s.sync (length s.log.entries) w.sync_point;
-      sends = all_low s (bodies.SyncPrepare s.log) low.told;
+      sends = all_low s (bodies.SyncPrepare s.log) low.log_point;
     }
     sync_if_moves false s w low = record {
       log = refl;
@@ -482,10 +482,10 @@ module _ (a : ℕ) where
 
     open_low : (s : ReplicaState) (g : Gathering Change) → s.changes ≡ Some g → IsLow s → KeptLow (open_view m Whole g s)
     open_low s g is low =
-        open_with_low s (start_of g.view (map plain g.changes)).next (merged Whole (kept_told g.changes))
+        open_with_low s (start_of g.view (map plain g.changes)).next (merged Whole (kept_changes g.changes))
         (merged_low g.changes (λ c i. low.gathered g c is i)) low
 
-    move_low : EachMove m Whole IsLow (λ p. ⊤) (λ p. told_in p.body ≤ a) TellsLow (λ s e. PointsWithin s → Leaves s e)
+    move_low : EachMove m Whole IsLow (λ p. ⊤) (λ p. point_in_body p.body ≤ a) SendsLow (λ s e. PointsWithin s → Leaves s e)
     move_low = record {
       ends = λ s e low h w. inl (record { state = h.state; sends = h.sends });
       sync_commit = λ s p n low g w. commit_leaves n s w low;
@@ -500,8 +500,8 @@ module _ (a : ℕ) where
       opens = λ s g low is many. open_low s g is low;
       gather = λ s p u x l g low le is.
           let more = counted_low g (change_in p u x l) (subst LowChanges is low.gathered) le in
-          record { point = low.point; told = low.told; gathered = more };
-      start_again = λ s p low g. (low.told, tt);
+          record { point = low.point; log_point = low.log_point; gathered = more };
+      start_again = λ s p low g. (low.log_point, tt);
       adopt = λ s p x l low le. adopt_low s p.view x l le low;
       write_gap = λ s p n low g. record { state = written_low n (hear s) (heard_low s low); sends = (zero_low, tt) };
       add_gap = λ s low may. record { state = changed_low s (add_gap Whole (hear s)).0 low refl refl refl; sends = (zero_low, tt) };
@@ -510,22 +510,22 @@ module _ (a : ℕ) where
         sends = reply_low (appended (hear s) (Req r)) (length s.log.entries + 1) r;
       };
       overlay = λ s p l low le high. overlay_low (hear s) l le (heard_low s low);
-      synced = λ s p low g. (low.told, tt);
+      synced = λ s p low g. (low.log_point, tt);
       found_again = λ s p n r low g is. (zero_low, tt);
       gap_told = λ s p n low g. (zero_low, tt);
       open_gap = λ s n low is high. grown_low s (open_gap Whole s) low (open_gap_grows s);
       vote = λ s g q low is. changed_low s (count_gap_vote s g q).0 low refl refl refl;
       unheard = λ s low. changed_low s (record s { heard = false }) low refl refl refl;
       request_again = λ s low. all_low s bodies.ViewChangeReq zero_low;
-      change_again = λ s low. (low.told, tt);
+      change_again = λ s low. (low.log_point, tt);
       gap_again = λ s g low is. all_low s (bodies.GapCommit g.slot) zero_low;
       lookup_again = λ s low room. (zero_low, tt);
     }
 
-    pub row_leaves : (s : ReplicaState) (x : Arrival) → told_by x ≤ a → PointsWithin s → IsLow s → Leaves s (arrive m Whole s x)
+    pub row_leaves : (s : ReplicaState) (x : Arrival) → point_in_arrival x ≤ a → PointsWithin s → IsLow s → Leaves s (arrive m Whole s x)
     row_leaves s x le w low =
         arrive_row m Whole _ _ _ _ (each_row m Whole _ _ _ _ _ move_low) s x low (λ p e. tt)
-        (λ p e is. subst (λ (y : Arrival). told_by y ≤ a) e le) w
+        (λ p e is. subst (λ (y : Arrival). point_in_arrival y ≤ a) e le) w
 
     -- where nothing is taken
     pub rest_leaves : (s : ReplicaState) → IsLow s → Leaves s (still s)

@@ -1,4 +1,4 @@
--- What a row does for what an event brings is in its ranges, and its messages find numbers.
+-- What a row does for what an event delivers is in its ranges, and its messages find numbers.
 use Rattle.std.proofs.Common.{◌≡◌, ◌<◌, ◌≤◌, ◌+◌, ◌^◌, ℕ, Bool, true, false, Option, Some, None, refl, sym, subst, ◌∙◌, arith}
 use Rattle.std.specs.Prelude.{nat_lt, length}
 use Rattle.std.specs.List.{AllByRecursion}

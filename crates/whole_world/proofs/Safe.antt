@@ -51,9 +51,9 @@ module _ {S : Type 0} (m : Meaning S) (config : Configuration) (count : config.r
       subst (GoesOn f c) on.ends
       (subst (λ (d : Conf). GoesOn f d (run m f d on.moves)) ran.ends (runs_go_on m f config ran.moves on.moves count ran.may may))
 
-  was_safe : (front : List (Actor × Brings)) (last : Conf) → Before m f config (first config) front last → WasSafe m config front last
-  was_safe front last h = record {
-    then = is_safe front h.conf h.at;
+  was_safe : (prefix : List (Actor × Brings)) (last : Conf) → Before m f config (first config) prefix last → WasSafe m config prefix last
+  was_safe prefix last h = record {
+    then = is_safe prefix h.conf h.at;
     leads = h.leads;
     goes_on = leads_on h.conf last h.at.ran h.leads;
   }
@@ -65,5 +65,5 @@ whole_runs_are_safe m short config es is fit =
     fit (opening_stands m (config.replicas / 2) config is count) in
     record {
       at_last = is_safe m config count es r.last r.at;
-      before = λ front rest split. was_safe m config count front r.last (r.before front rest split);
+      before = λ prefix rest split. was_safe m config count prefix r.last (r.before prefix rest split);
     }

@@ -13,7 +13,7 @@ use Rattle.replica_state.specs.Sends.{SendingIsIn}
 use Rattle.protocol.specs.Said.{Said}
 use Rattle.network_laws.specs.Sends.{peers_in}
 use Rattle.refinement.specs.Projection.{said_of, said_in, replied_in}
-use Rattle.whole_world.specs.Shows.{WasTold}
+use Rattle.whole_world.specs.Shows.{MessageSays}
 
 -- ---- replies
 
@@ -67,7 +67,7 @@ peers_said (ToReplicas dest q ∷ sends) p h = elim (Has-cases p q (peers_in sen
 ]
 peers_said (Trims n l ∷ sends) p h = peers_said sends p h
 
-pub said_by_peers : (sends : List Sending) (x : Said) → Has (said_in sends) x → WasTold (peers_in sends) x
+pub said_by_peers : (sends : List Sending) (x : Said) → Has (said_in sends) x → MessageSays (peers_in sends) x
 said_by_peers [] x h = absurd (Has-none x h)
 said_by_peers (ToClient r ∷ sends) x h = said_by_peers sends x h
 said_by_peers (ToReplicas dest q ∷ sends) x h = elim (Has-cases x (said_of q) (said_in sends) h) [

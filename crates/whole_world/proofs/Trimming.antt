@@ -16,11 +16,11 @@ use Rattle.nop_types.specs.declared.view.View.{View}
 use Rattle.started_views.specs.Logs.{SameTo}
 use Rattle.started_views.proofs.Logs.{same_from_prefix, same_sym, same_trans, same_less}
 use Rattle.lemmas.proofs.Prefixes.{IsPrefixOf-take}
-use Rattle.view_change.specs.Gathering.{Gathering, counted, teller}
+use Rattle.view_change.specs.Gathering.{Gathering, change_added, change_sender}
 use Rattle.replica_state.specs.declared.state.ReplicaState.{ReplicaState}
 use Rattle.replica_state.specs.State.{PointsMeet, is_other}
 use Rattle.protocol.specs.Conf.{Conf, opening}
-use Rattle.protocol.specs.Member.{Member}
+use Rattle.protocol.specs.LocalState.{LocalState}
 use Rattle.protocol.specs.Said.{says}
 use Rattle.protocol.proofs.Opening.{opening_meets}
 use Rattle.protocol_sync.specs.Above.{GapsAreAbove}
@@ -28,13 +28,13 @@ use Rattle.protocol_sync.specs.Synced.{GoodSync}
 use Rattle.protocol_sync.proofs.Above.{gaps_open_above, gaps_stay_above}
 use Rattle.protocol_sync.proofs.Opening.{opening_is_synced}
 use Rattle.world.specs.Seats.{Seated}
-use Rattle.refinement.specs.Projection.{member_of, word_of, said_of}
+use Rattle.refinement.specs.Projection.{local_state_of, word_of, said_of}
 use Rattle.refinement.specs.Replicas.{Matches}
 use Rattle.whole_world.specs.Passed.{passed}
 use Rattle.whole_world.specs.Safe.{IsSafe}
 use Rattle.trimmed_rows.specs.Premises.{PointsWithin, Opens, after_request}
 use Rattle.trimmed_rows.proofs.Alone.{entered_opens}
-use Rattle.whole_world.specs.Trimming.{told_log, AllWithin, StartsAgree, FrontsAgree, CanTrim}
+use Rattle.whole_world.specs.Trimming.{log_in_body, AllWithin, StartsAgree, PrefixesAgree, CanTrim}
 use Rattle.whole_world.specs.Trimming.{SafeCanTrim, WholeCanTrim}
 use Rattle.whole_world.specs.Whole.{WholeReplica, WholeWorld, Letter, Brings, main_view, main_log}
 use Rattle.whole_world.proofs.Counts.{counts_from}
@@ -42,37 +42,37 @@ use Rattle.whole_world.proofs.Gathered.{gathered_within, gathered_open, with_cha
 use Rattle.whole_world.proofs.MainLogs.{is_main_log}
 use Rattle.whole_world.proofs.Mapped.{Has-map}
 use Rattle.whole_world.proofs.Safe.{whole_runs_are_safe}
-use Rattle.whole_world.proofs.Told.{FrontOf, log_front}
+use Rattle.whole_world.proofs.MainPrefixes.{MainPrefix, log_prefix}
 
-prepared_within : (f : ℕ) (c : Conf) (r : ℕ) (p : Member) → GoodSync f c r p → (n : ℕ) → p.sync.prepared ≡ n → n ≤ length p.log
+prepared_within : (f : ℕ) (c : Conf) (r : ℕ) (p : LocalState) → GoodSync f c r p → (n : ℕ) → p.sync.prepared ≡ n → n ≤ length p.log
 prepared_within f c r p good zero is = omega arith
 prepared_within f c r p good (suc n) is =
     let h = good.prepared (omega (arith, is)) in
     let low : p.sync.prepared ≤ length p.log = h.agrees.same.left in
     omega (arith, low, is)
 
-good_within : (f : ℕ) (c : Conf) (r : ℕ) (s : ReplicaState) → PointsMeet s → GoodSync f c r (member_of s) → PointsWithin s
+good_within : (f : ℕ) (c : Conf) (r : ℕ) (s : ReplicaState) → PointsMeet s → GoodSync f c r (local_state_of s) → PointsWithin s
 good_within f c r s meet good = record {
   points = meet;
   sync_point = good.agrees.same.left;
-  prepared = prepared_within f c r (member_of s) good s.sync.prepared refl;
+  prepared = prepared_within f c r (local_state_of s) good s.sync.prepared refl;
   round = λ x e. (let h = good.syncing x e in (h.above, h.within));
 }
 
 -- a log that has a front of another up to there is the same up to there
-front_same : (s : ℕ) (l a : List Entry) → s ≤ length l → IsPrefixOf (take s l) a → SameTo s l a
-front_same s l a low h =
+prefix_same : (s : ℕ) (l a : List Entry) → s ≤ length l → IsPrefixOf (take s l) a → SameTo s l a
+prefix_same s l a low h =
     let long : s ≤ length (take s l) = simp length-take (omega (arith, low)) in
     same_from_prefix s (take s l) l a long (IsPrefixOf-take s l) h
 
 -- two logs that have fronts of a third are the same as far as both fronts go
-fronts_same : (s t n : ℕ) (l k a : List Entry) → SameTo s l a → SameTo t k a → n ≤ s → n ≤ t → SameTo n l k
-fronts_same s t n l k a h g low other = same_trans n l a k (same_less s n l a low h) (same_sym n k a (same_less t n k a other g))
+prefixes_same : (s t n : ℕ) (l k a : List Entry) → SameTo s l a → SameTo t k a → n ≤ s → n ≤ t → SameTo n l k
+prefixes_same s t n l k a h g low other = same_trans n l a k (same_less s n l a low h) (same_sym n k a (same_less t n k a other g))
 
--- a log that is told is whole
-no_checkpoint : (b : Body) (l : Log) → BodyIsIn Whole b → told_log b ≡ Some l → l.checkpoint ≡ None
-no_checkpoint (bodies.ViewChange u n l) k fits e = subst (λ (x : Log). x.checkpoint ≡ None) (same_Some l k e) fits.told.checkpoint
-no_checkpoint (bodies.StartView n l) k fits e = subst (λ (x : Log). x.checkpoint ≡ None) (same_Some l k e) fits.told.checkpoint
+-- a log that is sent is whole
+no_checkpoint : (b : Body) (l : Log) → BodyIsIn Whole b → log_in_body b ≡ Some l → l.checkpoint ≡ None
+no_checkpoint (bodies.ViewChange u n l) k fits e = subst (λ (x : Log). x.checkpoint ≡ None) (same_Some l k e) fits.log_fits.checkpoint
+no_checkpoint (bodies.StartView n l) k fits e = subst (λ (x : Log). x.checkpoint ≡ None) (same_Some l k e) fits.log_fits.checkpoint
 no_checkpoint (bodies.SyncPrepare l) k fits e = subst (λ (x : Log). x.checkpoint ≡ None) (same_Some l k e) fits.checkpoint
 no_checkpoint _ k fits e = absurd cc
 
@@ -111,9 +111,9 @@ module _ {S : Type 0} (m : Meaning S) (config : Configuration) (count : config.r
   said : (x : Letter) → Has w.letters x → Has c.said (said_of x.peer)
   said x i = safe.shows.tells.all x.peer (Has-map (λ (y : Letter). y.peer) w.letters x i)
 
-  told : (x : Letter) (l : Log) → Has w.letters x → told_log x.peer.body ≡ Some l → FrontOf (main_log w) l
-  told x l i e =
-      log_front m f c safe.inv safe.sync (main_view w) (main_log w) (is_main_log m f w c safe.inv safe.shows.actors) x.peer.sender
+  log_is_prefix : (x : Letter) (l : Log) → Has w.letters x → log_in_body x.peer.body ≡ Some l → MainPrefix (main_log w) l
+  log_is_prefix x l i e =
+      log_prefix m f c safe.inv safe.sync (main_view w) (main_log w) (is_main_log m f w c safe.inv safe.shows.actors) x.peer.sender
       x.peer.view x.peer.body l (said x i) e
 
   -- ---- sync points
@@ -126,7 +126,7 @@ module _ {S : Type 0} (m : Meaning S) (config : Configuration) (count : config.r
   within : AllWithin w
   within = record {
     replicas = good;
-    letters = λ x l i e. (told x l i e).within;
+    letters = λ x l i e. (log_is_prefix x l i e).within;
     whole = λ x l i e. no_checkpoint x.peer.body l (safe.shows.tells.fits x.peer (Has-map (λ (y : Letter). y.peer) w.letters x i)).body e;
     gathered = λ i p g x e gathers has. gathered_within m f c i p.state.state (matches i p e) g gathers x has;
   }
@@ -137,7 +137,7 @@ module _ {S : Type 0} (m : Meaning S) (config : Configuration) (count : config.r
       → slice_get w.replicas i ≡ Some p → Has w.letters x → is_other p.state.state x.peer.sender ≡ true
       → x.peer.body ≡ bodies.ViewChange u n l
       → (after_request m x.peer p.state.state).view ≡ x.peer.view → (after_request m x.peer p.state.state).changes ≡ Some g
-      → Opens (counted teller g (record { sender = x.peer.sender; last_normal = u; next = n; log = l }))
+      → Opens (change_added change_sender g (record { sender = x.peer.sender; last_normal = u; next = n; log = l }))
   with_letter i p x u n l g e has other body view gathers =
       with_change_opens m f c i p.state.state x.peer.view
       (record { sender = x.peer.sender; last_normal = u; next = n; log = l }) g (matches i p e) other
@@ -155,21 +155,21 @@ module _ {S : Type 0} (m : Meaning S) (config : Configuration) (count : config.r
   own_same : (i : ℕ) (p : Seated WholeReplica) → slice_get w.replicas i ≡ Some p
       → SameTo p.state.state.sync.sync_point p.state.state.log.entries (main_log w)
   own_same i p e =
-      front_same p.state.state.sync.sync_point p.state.state.log.entries (main_log w) (good i p e).sync_point (safe.agreed.main i p e)
+      prefix_same p.state.state.sync.sync_point p.state.state.log.entries (main_log w) (good i p e).sync_point (safe.agreed.main i p e)
 
-  told_same : (x : Letter) (l : Log) → Has w.letters x → told_log x.peer.body ≡ Some l → SameTo l.sync_point l.entries (main_log w)
-  told_same x l i e = let h = told x l i e in front_same l.sync_point l.entries (main_log w) h.within h.begins
+  same_to_main : (x : Letter) (l : Log) → Has w.letters x → log_in_body x.peer.body ≡ Some l → SameTo l.sync_point l.entries (main_log w)
+  same_to_main x l i e = let h = log_is_prefix x l i e in prefix_same l.sync_point l.entries (main_log w) h.within h.begins
 
-  fronts : FrontsAgree w
-  fronts = record {
-    replicas = λ i j n p q a b low other. fronts_same p.state.state.sync.sync_point q.state.state.sync.sync_point n
+  prefixes : PrefixesAgree w
+  prefixes = record {
+    replicas = λ i j n p q a b low other. prefixes_same p.state.state.sync.sync_point q.state.state.sync.sync_point n
         p.state.state.log.entries q.state.state.log.entries (main_log w) (own_same i p a) (own_same j q b) low other;
-    letters = λ i n p x l a b e low other. fronts_same p.state.state.sync.sync_point l.sync_point n p.state.state.log.entries
-        l.entries (main_log w) (own_same i p a) (told_same x l b e) low other;
+    letters = λ i n p x l a b e low other. prefixes_same p.state.state.sync.sync_point l.sync_point n p.state.state.log.entries
+        l.entries (main_log w) (own_same i p a) (same_to_main x l b e) low other;
   }
 
   can_trim : CanTrim m w
-  can_trim = record { within = within; starts = starts; fronts = fronts }
+  can_trim = record { within = within; starts = starts; prefixes = prefixes }
 
 pub safe_can_trim : {S : Type 0} (m : Meaning S) → SafeCanTrim m
 safe_can_trim m config es is safe = can_trim m config (counts_from config is).replicas es safe

@@ -17,7 +17,7 @@ use Rattle.world.specs.Seats.{Seated}
 use Rattle.whole_world.specs.Whole.{WholeReplica, WholeWorld, Letter, Brings, is_crash, effect_of, arrival_of, whole_step}
 use Rattle.whole_world.specs.Passed.{passed}
 use Rattle.whole_world.specs.Safe.{BringsFits, AllFit}
-use Rattle.whole_world.specs.Trimming.{told_log}
+use Rattle.whole_world.specs.Trimming.{log_in_body}
 
 -- ---- what a step adds
 
@@ -50,18 +50,18 @@ pub record Reaches (archive : List Entry) (w : WholeWorld) : Type 0 where
   pub there : slice_get w.replicas replica ≡ Some seat
   pub far : seat.state.state.sync.sync_point ≡ length archive
 
--- the archive has what is synchronised of each replica, and one is synchronised just as far; no log that is told or gathered is
+-- the archive has what is synchronised of each replica, and one is synchronised just as far; no log that is sent or gathered is
 -- synchronised further
 pub record IsArchive (archive : List Entry) (w : WholeWorld) : Type 0 where
   pub within : (i : ℕ) (p : Seated WholeReplica) → slice_get w.replicas i ≡ Some p → p.state.state.sync.sync_point ≤ length archive
-  pub fronts : (i : ℕ) (p : Seated WholeReplica) → slice_get w.replicas i ≡ Some p
+  pub prefixes : (i : ℕ) (p : Seated WholeReplica) → slice_get w.replicas i ≡ Some p
       → take p.state.state.sync.sync_point archive ≡ take p.state.state.sync.sync_point p.state.state.log.entries
   pub reaches : Reaches archive w
-  pub letters : (x : Letter) (l : Log) → Has w.letters x → told_log x.peer.body ≡ Some l → l.sync_point ≤ length archive
+  pub letters : (x : Letter) (l : Log) → Has w.letters x → log_in_body x.peer.body ≡ Some l → l.sync_point ≤ length archive
   pub gathered : (i : ℕ) (p : Seated WholeReplica) (g : Gathering Change) (c : Change) → slice_get w.replicas i ≡ Some p
       → p.state.state.changes ≡ Some g → Has g.changes c → c.log.sync_point ≤ length archive
 
--- after any list of events in their ranges, an archive goes on to be one, whatever the next event brings
+-- after any list of events in their ranges, an archive goes on to be one, whatever the next event delivers
 abbrev pub ArchivesGoOn : {S : Type 0} → Meaning S → Type 0
 ArchivesGoOn m = ResultsShort m → (config : Configuration) (es : List (Actor × Brings)) → is_configuration config ≡ true → AllFit es
     → (archive : List Entry) → IsArchive archive (passed m config es).world → (actor : Actor) (b : Brings) → BringsFits b

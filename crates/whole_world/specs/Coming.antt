@@ -3,7 +3,7 @@ use Rattle.std.specs.Prelude.{◌≡◌, ℕ, List, Some}
 use Rattle.nop_types.specs.Given.{Given, Packet}
 use Rattle.nop_types.specs.Lists.{Has}
 use Rattle.nop_types.specs.declared.peer.Peer.{Peer}
-use Rattle.replica_rows.specs.Messages.{Arrival, Told}
+use Rattle.replica_rows.specs.Messages.{Arrival, PeerMessage}
 use Rattle.network.specs.Network.{Sent}
 use Rattle.network_laws.specs.Network.{IsNoDatagram}
 use Rattle.whole_world.specs.Whole.{WholeWorld, Letter, Junk, Equal, Message, input_of, arrival_of}
@@ -34,4 +34,4 @@ JunkIsNoDatagram = (sent : List Sent) (bytes : List ℕ) (i : Given) → input_o
 
 abbrev pub MessagesWereSent : Type 0
 MessagesWereSent = (w : WholeWorld) (q n : ℕ) (a : Arrival) → arrival_of w (Message q n) ≡ Some a
-    → (p : Peer) × (a ≡ Told p) × IsLetter w.letters q n p
+    → (p : Peer) × (a ≡ PeerMessage p) × IsLetter w.letters q n p

@@ -4,14 +4,14 @@ use Rattle.nop_types.specs.Configuration.{Configuration}
 use Rattle.nop_types.specs.Meaning.{Meaning}
 use Rattle.nop_types.specs.declared.output.Actor.{Actor}
 use Rattle.started_views.specs.Past.{Past, Standing, first_past, note}
-use Rattle.protocol.specs.Member as member
+use Rattle.protocol.specs.LocalState as member
 use Rattle.world.specs.Seats.{Seated}
-use Rattle.refinement.specs.Projection.{member_of}
+use Rattle.refinement.specs.Projection.{local_state_of}
 use Rattle.whole_world.specs.Whole.{WholeReplica, WholeWorld, Brings, whole_step, opening}
 
 -- what is noted of a replica
 abbrev pub standing : Seated WholeReplica → Standing
-standing p = member.standing (member_of p.state.state)
+standing p = member.standing (local_state_of p.state.state)
 
 -- the last world, and the past
 pub record Passed : Type 0 where

@@ -47,15 +47,15 @@ pub record IsSafe {S : Type 0} (m : Meaning S) (config : Configuration) (es : Li
   pub legal : Legal m (passed m config es).world.lines (history (passed m config es).world)
 
 -- so it was after the first of the events; moves lead on from there, and nothing of that was taken back
-pub record WasSafe {S : Type 0} (m : Meaning S) (config : Configuration) (front : List (Actor × Brings)) (last : Conf) : Type 0 where
-  pub then : IsSafe m config front
+pub record WasSafe {S : Type 0} (m : Meaning S) (config : Configuration) (prefix : List (Actor × Brings)) (last : Conf) : Type 0 where
+  pub then : IsSafe m config prefix
   pub leads : Leads m (config.replicas / 2) then.conf last
   pub goes_on : GoesOn (config.replicas / 2) then.conf last
 
 -- so it is after the events, and after any first of them
 pub record IsSafeThroughout {S : Type 0} (m : Meaning S) (config : Configuration) (es : List (Actor × Brings)) : Type 0 where
   pub at_last : IsSafe m config es
-  pub before : (front rest : List (Actor × Brings)) → es ≡ front ++ rest → WasSafe m config front at_last.conf
+  pub before : (prefix rest : List (Actor × Brings)) → es ≡ prefix ++ rest → WasSafe m config prefix at_last.conf
 
 -- over each host with short results, and for every list of events in their ranges
 abbrev pub WholeRunsAreSafe : {S : Type 0} → Meaning S → Type 0

@@ -22,7 +22,7 @@ use Rattle.network_laws.specs.Network.{IsDatagram}
 use Rattle.refinement.specs.Controllers.{control_of}
 use Rattle.refinement.specs.Datagrams.{WasSent}
 use Rattle.replica_state.specs.State.{PointsMeet}
-use Rattle.refinement.specs.Projection.{member_of, said_of}
+use Rattle.refinement.specs.Projection.{local_state_of, said_of}
 use Rattle.whole_world.specs.Whole.{WholeReplica, WholeWorld, Letter}
 use Rattle.whole_world.specs.Passed.{Passed}
 
@@ -36,17 +36,17 @@ pub record IsThere (sent : List Sent) (d : Datagram) : Type 0 where
 abbrev pub peers_of : List Letter → List Peer
 peers_of letters = map (λ x. x.peer) letters
 
--- a message that says this was told
-pub record WasTold (told : List Peer) (x : Said) : Type 0 where
+-- a message that says this was sent
+pub record MessageSays (peers : List Peer) (x : Said) : Type 0 where
   pub peer : Peer
-  pub has : Has told peer
+  pub has : Has peers peer
   pub says : said_of peer ≡ x
 
--- what was said is what was told, with whole logs in their ranges
-pub record Tells (told : List Peer) (said : List Said) : Type 0 where
-  pub fits : (p : Peer) → Has told p → PeerIsIn Whole p
-  pub all : (p : Peer) → Has told p → Has said (said_of p)
-  pub only : (x : Said) → Has said x → WasTold told x
+-- what was said is what was sent, with whole logs in their ranges
+pub record MessagesSay (peers : List Peer) (said : List Said) : Type 0 where
+  pub fits : (p : Peer) → Has peers p → PeerIsIn Whole p
+  pub all : (p : Peer) → Has peers p → Has said (said_of p)
+  pub only : (x : Said) → Has said x → MessageSays peers x
 
 -- each datagram that was sent is in its ranges and says what was sent, and nothing else was
 pub record Carries (sent : List Sent) (c : Conf) : Type 0 where
@@ -70,7 +70,7 @@ pub record ShowsActors (f : ℕ) (w : WholeWorld) (c : Conf) : Type 0 where
   pub config : w.config.replicas ≡ 2 * f + 1
   pub replica_count : length w.replicas ≡ w.config.replicas
   pub other_count : (k : Kind) → length (seats k w.others) ≡ count k w.config
-  pub replicas : (i : ℕ) (p : Seated WholeReplica) → slice_get w.replicas i ≡ Some p → c.replicas i ≡ member_of p.state.state
+  pub replicas : (i : ℕ) (p : Seated WholeReplica) → slice_get w.replicas i ≡ Some p → c.replicas i ≡ local_state_of p.state.state
   pub points : (i : ℕ) (p : Seated WholeReplica) → slice_get w.replicas i ≡ Some p → PointsMeet p.state.state
   pub others : (k : Kind) (i : ℕ) (p : Seated (State k)) → slice_get (seats k w.others) i ≡ Some p → IsShown k c i p.state
   pub givers : (x : Install) → Has c.installs x → home x.session < w.config.controllers
@@ -79,6 +79,6 @@ pub record ShowsActors (f : ℕ) (w : WholeWorld) (c : Conf) : Type 0 where
 pub record Shows (f : ℕ) (p : Passed) (c : Conf) : Type 0 where
   pub actors : ShowsActors f p.world c
   pub carries : Carries p.world.sent c
-  pub tells : Tells (peers_of p.world.letters) c.said
+  pub tells : MessagesSay (peers_of p.world.letters) c.said
   pub lines : p.world.lines ≡ c.lines
   pub past : p.past ≡ c.past

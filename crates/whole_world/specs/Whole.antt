@@ -39,7 +39,7 @@ use Rattle.world.specs.Others.{Kind, State, next, Others, seats, with_seat, Who,
 use Rattle.world.specs.Seats.{Seated, seated}
 use Rattle.transcript_text.specs.Transcript.{replica_line}
 use Rattle.world.specs.StateLines.{entries_text}
-use Rattle.world.specs.WorldSteps.{counted, opening_others, greatest_of}
+use Rattle.world.specs.WorldSteps.{numbered_seats, opening_others, greatest_of}
 
 -- its state, and the last message number that it used
 pub record WholeReplica : Type 0 where
@@ -62,7 +62,7 @@ pub record WholeWorld : Type 0 where
   -- those that submit, accept, or find a client busy
   pub lines : List Line
 
--- what an event brings to its actor: nothing that others said but what was said here
+-- what an event delivers to its actor: nothing that others said but what was said here
 pub data Brings : Type 0 where
   Nothing : Brings
   Op : (op : List ℕ) → Brings
@@ -101,9 +101,9 @@ input_of sent (Junk bytes) = junk_if (reading bytes) bytes
 input_of sent (Equal bytes) = given_if (was_sent sent bytes) bytes
 input_of sent _ = None
 
-abbrev pub told_if : Option Peer → Option messages.Arrival
-told_if None = None
-told_if (Some p) = Some (messages.Told p)
+abbrev pub message_if : Option Peer → Option messages.Arrival
+message_if None = None
+message_if (Some p) = Some (messages.PeerMessage p)
 
 abbrev pub arrival_read : Result Datagram Bad → Option messages.Arrival
 arrival_read (Ok (datagrams.Stamped p)) = Some (messages.Packet p)
@@ -117,7 +117,7 @@ arrival_given (Some (Submit op)) = None
 
 -- what arrives at a replica
 abbrev pub arrival_of : WholeWorld → Brings → Option messages.Arrival
-arrival_of w (Message q n) = told_if (letter_of w.letters q n)
+arrival_of w (Message q n) = message_if (letter_of w.letters q n)
 arrival_of w (Timer tick) = Some (messages.Ticked tick)
 arrival_of w (Junk bytes) = arrival_given (input_of w.sent (Junk bytes))
 arrival_of w (Equal bytes) = arrival_given (input_of w.sent (Equal bytes))
@@ -214,7 +214,7 @@ module _ {S : Type 0} (m : Meaning S) where
   step_of w (AReplica i) b = step_replica w i (slice_get w.replicas i) b
   step_of w (Another k i) b = step_other k w i (slice_get (seats k w.others) i) b
 
-  -- what an event brings to its actor
+  -- what an event delivers to its actor
   abbrev pub whole_step : WholeWorld → Actor → Brings → WholeWorld
   whole_step w actor b = step_of w (who actor) b
 
@@ -229,7 +229,7 @@ abbrev pub opening : Configuration → WholeWorld
 opening c =
     record {
       config = c;
-      replicas = counted (opening_replica c) c.replicas;
+      replicas = numbered_seats (opening_replica c) c.replicas;
       others = opening_others c;
       sent = [];
       letters = [];

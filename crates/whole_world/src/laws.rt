@@ -45,7 +45,7 @@ pub fn archives_go_on<S>()
     ensures goes_on { (m : Meaning S) → ArchivesGoOn m }
 {}
 
-/// After any list of events in their ranges, whatever the next event brings to a replica: the row over its trimmed log does what the row
+/// After any list of events in their ranges, whatever the next event delivers to a replica: the row over its trimmed log does what the row
 /// over the whole one does, trimmed.
 pub fn whole_rows_trim<H: Host>()
     ensures { (config : Configuration) (es : List (Actor × Brings))

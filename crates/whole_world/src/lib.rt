@@ -2,7 +2,7 @@
 //! events is taken, it is safe.
 //!
 //! `WholeWorld` has the actors, all datagrams that are no fragments, and letters: a peer message, whole, with its sender, its
-//! number and its destination. An event says what it brings to its actor (`Brings`): a tick, an op, malformed bytes, a crash; the
+//! number and its destination. An event says what it delivers to its actor (`Brings`): a tick, an op, malformed bytes, a crash; the
 //! datagram with these bytes; or the message of this sender and number. The last two are looked up, so nothing comes that was
 //! not sent (`what_comes_was_sent`); a crashed replica takes no step (`crashed_replicas_stay`). `whole_step` is one event,
 //! `whole_run` a list of them, and both are total. A replica's row is that of the step table (`arrive`).
@@ -15,8 +15,8 @@
 //!
 //! `whole_can_trim`: after any list of events in their ranges, and so of each safe run, three facts hold that trimming needs.
 //! Sync points of replicas, of messages and of changes that are gathered are within their logs (`AllWithin`). The changes with
-//! which a view starts agree up to the greatest of their sync points (`Agree` of `trimming`), also with one that a letter brings
-//! to what is gathered (`StartsAgree`). What is synchronised is the same in all replicas and messages (`FrontsAgree`). So each row
+//! which a view starts agree up to the greatest of their sync points (`Agree` of `trimming`), also with one that a letter delivers
+//! to what is gathered (`StartsAgree`). What is synchronised is the same in all replicas and messages (`PrefixesAgree`). So each row
 //! that such a world takes is, over trimmed logs, the same row trimmed (`whole_rows_trim`, by `rows_trim` of `trimmed_rows`).
 //!
 //! `archives_go_on`: the entries that move out of logs as sync points rise, each appended once, are what

@@ -15,23 +15,23 @@ use Rattle.world.specs.declared.seat.Seat.{Seat}
 use Rattle.network.specs.Network.{Sent}
 use Rattle.world.specs.Seats.{Seated, seated}
 use Rattle.world.specs.SeatOutcomes.{seated_of}
-use Rattle.world.specs.WorldSteps.{WorldState, counted, opening, opening_client}
+use Rattle.world.specs.WorldSteps.{WorldState, numbered_seats, opening, opening_client}
 
 -- one more actor
 pub counted_more : {C S : Type 0} (state : C → S) (make : ℕ → S) (n : ℕ) (old new : List (Seat C)) (made : Seat C)
-    → map (seated_of state) old ≡ counted make n → new ≡ old ++ made ∷ [] → seated_of state made ≡ seated (make n)
-    → map (seated_of state) new ≡ counted make (n + 1)
+    → map (seated_of state) old ≡ numbered_seats make n → new ≡ old ++ made ∷ [] → seated_of state made ≡ seated (make n)
+    → map (seated_of state) new ≡ numbered_seats make (n + 1)
 counted_more {C} {S} state make n old new made so_far pushed opens =
     ap (map (seated_of state)) pushed ∙ map-append (seated_of state) old (made ∷ [])
     ∙ ap (λ (ps : List (Seated S)). ps ++ seated_of state made ∷ []) so_far
-    ∙ ap (λ (p : Seated S). counted make n ++ p ∷ []) opens ∙ sym (ap (counted make) (add-one n))
+    ∙ ap (λ (p : Seated S). numbered_seats make n ++ p ∷ []) opens ∙ sym (ap (numbered_seats make) (add-one n))
 
 -- all actors in their opening states, and nothing sent or archived
 pub world_opens : (config : Configuration) (rs : List (Seated Replica)) (ss : List (Seated SequencerState)) (cs : List (Seated Client))
     (ks : List (Seated ControllerState)) (sent : List Sent) (archive : List Entry)
-    → rs ≡ counted (replica.opening config) config.replicas → ss ≡ counted sequencer.opening config.sequencers
-    → cs ≡ counted (opening_client config) config.clients
-    → ks ≡ counted (controller.opening config) config.controllers → sent ≡ [] → archive ≡ []
+    → rs ≡ numbered_seats (replica.opening config) config.replicas → ss ≡ numbered_seats sequencer.opening config.sequencers
+    → cs ≡ numbered_seats (opening_client config) config.clients
+    → ks ≡ numbered_seats (controller.opening config) config.controllers → sent ≡ [] → archive ≡ []
     → (let w : WorldState = record {
       config = config;
       replicas = rs;

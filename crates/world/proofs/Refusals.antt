@@ -24,7 +24,7 @@ use Rattle.network.specs.Network.{Sent, Did}
 use Rattle.world.specs.Seats.{Seated, Stimulus, seated}
 use Rattle.world.specs.Others.{Kind, Sequencers, Clients, Controllers, next, seats, count, Who, AReplica, Another, who}
 use Rattle.world.specs.Refusals.{HasActors, is_one_of, is_actor, has_input, forged_if, later_cause, cause_of, refusal_in}
-use Rattle.world.specs.WorldSteps.{WorldState, Refusal, NoSuchActor, NoSuchDatagram, Happened, actor_of, counted, opening}
+use Rattle.world.specs.WorldSteps.{WorldState, Refusal, NoSuchActor, NoSuchDatagram, Happened, actor_of, numbered_seats, opening}
 use Rattle.world.specs.WorldSteps.{opening_client, tick_if, datagram_at, junk_of, stimulus_of, step_with, step_at, step_of, step}
 use Rattle.world.specs.WorldSteps.{at_replica, at_other, then_at, opening_others}
 use Rattle.world.proofs.Others.{others_become}
@@ -59,7 +59,7 @@ actor_refusal m w (AReplica i) what h =
 actor_refusal m w (Another k i) what h =
     then_refusal (at_other k w i) _ ∙ at_refusal (next k) (seats k w.others) i (count k w.config) what (h.others k)
 
--- ---- what the event brings
+-- ---- what the event delivers
 
 tick_refusal : (b : Bool) (tick : Tick) → refusal_in (tick_if b tick) ≡ (if b then None else Some NoSuchActor)
 tick_refusal true tick = refl
@@ -108,9 +108,9 @@ refuses_by_cause m w e h =
 
 -- ---- the actors are there
 
-length-counted : {S : Type 0} (make : ℕ → S) (n : ℕ) → length (counted make n) ≡ n
+length-counted : {S : Type 0} (make : ℕ → S) (n : ℕ) → length (numbered_seats make n) ≡ n
 length-counted make zero = refl
-length-counted make (suc n) = omega (arith, length-append (counted make n) (seated (make n) ∷ []), length-counted make n)
+length-counted make (suc n) = omega (arith, length-append (numbered_seats make n) (seated (make n) ∷ []), length-counted make n)
 
 pub opening_has_actors : (c : Configuration) → HasActors (opening c)
 opening_has_actors c = record {

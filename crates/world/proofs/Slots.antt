@@ -12,8 +12,8 @@ module _ {A : Type 0} (xs ys all : List A) (slot place : ℕ) (next : slot ≡ p
   at_place : slice_get (xs ++ ys) place ≡ slot_of all slot
   at_place = ap (λ (zs : List A). slice_get zs place) parts ∙ sym (ap (slot_of all) (next ∙ add-one place))
 
-  pub slot_in_front : (x : A) → place < length xs → x ≡ get_or xs place x → Some x ≡ slot_of all slot
-  slot_in_front x less is =
+  pub slot_in_prefix : (x : A) → place < length xs → x ≡ get_or xs place x → Some x ≡ slot_of all slot
+  slot_in_prefix x less is =
       let found = slice_get-some xs place less in
       let same : Some x ≡ Some found.0 = ap (λ (y : A). Some y) (is ∙ get_or_from_slice_get xs place found.0 x found.1) in
       same ∙ sym (slice_get-append_left xs ys place found.0 found.1) ∙ at_place

@@ -11,7 +11,7 @@ pub record Seated (S : Type 0) : Type 0 where
 abbrev pub seated : {S : Type 0} → S → Seated S
 seated s = record { state = s; crashed = false }
 
--- what an event brings to its actor: an input, or a crash
+-- what an event delivers to its actor: an input, or a crash
 pub data Stimulus : Type 0 where
   Takes : Given → Stimulus
   Crashes : Stimulus

@@ -51,7 +51,7 @@ pub record Happened : Type 0 where
   pub world : WorldState
   pub lines : List Line
 
--- ---- what an event brings to its actor
+-- ---- what an event delivers to its actor
 
 abbrev pub actor_of : Event → Actor
 actor_of (events.Submit client op) = actors.Client client
@@ -75,7 +75,7 @@ abbrev pub junk_of : List ℕ → Result Datagram Bad → Result Stimulus Refusa
 junk_of bytes (Ok d) = Err Forged
 junk_of bytes (Err e) = Ok (Takes (Packet bytes))
 
--- what an event brings, in a configuration and where these datagrams were sent
+-- what an event delivers, in a configuration and where these datagrams were sent
 unfoldable pub stimulus_of : Configuration → List Sent → Event → Result Stimulus Refusal
 stimulus_of c sent (events.Submit number op) = Ok (Takes (Submit op))
 stimulus_of c sent (events.Deliver index actor) = datagram_at index (length sent) (slice_get sent index)
@@ -135,9 +135,9 @@ module _ {S : Type 0} (m : Meaning S) where
 
 -- ---- the opening
 
-abbrev pub counted : {S : Type 0} → (ℕ → S) → ℕ → List (Seated S)
-counted make zero = []
-counted make (suc n) = counted make n ++ seated (make n) ∷ []
+abbrev pub numbered_seats : {S : Type 0} → (ℕ → S) → ℕ → List (Seated S)
+numbered_seats make zero = []
+numbered_seats make (suc n) = numbered_seats make n ++ seated (make n) ∷ []
 
 -- no client has ops of its own
 abbrev pub opening_client : Configuration → ℕ → client.Client
@@ -146,16 +146,16 @@ opening_client c number = client.opening c number []
 abbrev pub opening_others : Configuration → Others
 opening_others c =
     record {
-      sequencers = counted sequencer.opening c.sequencers;
-      clients = counted (opening_client c) c.clients;
-      controllers = counted (controller.opening c) c.controllers;
+      sequencers = numbered_seats sequencer.opening c.sequencers;
+      clients = numbered_seats (opening_client c) c.clients;
+      controllers = numbered_seats (controller.opening c) c.controllers;
     }
 
 abbrev pub opening : Configuration → WorldState
 opening c =
     record {
       config = c;
-      replicas = counted (replica.opening c) c.replicas;
+      replicas = numbered_seats (replica.opening c) c.replicas;
       others = opening_others c;
       sent = [];
       archive = [];
@@ -193,7 +193,7 @@ main_log w = log_of w.archive (slice_get w.replicas (leader_of (main_view w) w.c
 abbrev pub history : WorldState → List Request
 history w = history_of (main_log w)
 
--- what stands in a slot of a replica's log, if anything
+-- what is in a slot of a replica's log, if anything
 abbrev pub entry : WorldState → ℕ → ℕ → Option Entry
 entry w i slot = slot_of (log_of w.archive (slice_get w.replicas i)) slot
 

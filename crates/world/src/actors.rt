@@ -10,7 +10,7 @@ ghost use Rattle.world.specs.Untrimmed.{untrimmed};
 ghost use Rattle.world.specs.WorldSteps.{
   actor_of,
   carried,
-  counted,
+  numbered_seats,
   has_crashed,
   opening,
   opening_client,
@@ -46,7 +46,7 @@ pub struct Actors<H: Host> {
 
 fn replicas<H: Host>(alloc: Global, config: Config) -> Result<Vec<Seat<Replica<H>>>, NoMemory>
     ensures seats { IfOk result (λ v. map (seated_of (λ r. r.state)) v.items
-        ≡ counted (replica.opening config) config.replicas) }
+        ≡ numbered_seats (replica.opening config) config.replicas) }
     ensures count { IfOk result (λ v. length v.items ≡ config.replicas) }
 {
     let mut seats = Vec::new(alloc);
@@ -58,7 +58,7 @@ fn replicas<H: Host>(alloc: Global, config: Config) -> Result<Vec<Seat<Replica<H
 
 fn sequencers(alloc: Global, config: Config) -> Result<Vec<Seat<Sequencer>>, NoMemory>
     ensures { IfOk result (λ v. map (seated_of (λ s. s.state)) v.items
-        ≡ counted sequencer.opening config.sequencers) }
+        ≡ numbered_seats sequencer.opening config.sequencers) }
 {
     let mut seats = Vec::new(alloc);
     for number in 0..config.sequencers() {
@@ -70,7 +70,7 @@ fn sequencers(alloc: Global, config: Config) -> Result<Vec<Seat<Sequencer>>, NoM
 /// Clients without ops of their own: events submit theirs.
 fn clients(alloc: Global, config: Config) -> Result<Vec<Seat<Client>>, NoMemory>
     ensures { IfOk result (λ v. map (seated_of (λ c. c.state)) v.items
-        ≡ counted (opening_client config) config.clients) }
+        ≡ numbered_seats (opening_client config) config.clients) }
 {
     let mut seats = Vec::new(alloc);
     for number in 0..config.clients() {
@@ -82,7 +82,7 @@ fn clients(alloc: Global, config: Config) -> Result<Vec<Seat<Client>>, NoMemory>
 
 fn controllers(alloc: Global, config: Config) -> Result<Vec<Seat<Controller>>, NoMemory>
     ensures { IfOk result (λ v. map (seated_of (λ c. c.state)) v.items
-        ≡ counted (controller.opening config) config.controllers) }
+        ≡ numbered_seats (controller.opening config) config.controllers) }
 {
     let mut seats = Vec::new(alloc);
     for number in 0..config.controllers() {

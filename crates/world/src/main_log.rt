@@ -55,8 +55,8 @@ pub struct LogParts<'a> {
 }
 
 /// The first entries, all where there are fewer.
-pub fn front(entries: &[Entry], count: u32) -> &[Entry]
-    ensures front { result.now ≡ take count entries.now }
+pub fn prefix(entries: &[Entry], count: u32) -> &[Entry]
+    ensures prefix { result.now ≡ take count entries.now }
     ensures count { length result.now ≤ count }
 {
     let count = (count as usize).min(entries.len());
@@ -76,7 +76,7 @@ pub fn log_at<'a, H: Host>(
         Some(seat) => {
             let log = seat.core.log();
             LogParts {
-                synchronised: front(archive, log.sync_point()),
+                synchronised: prefix(archive, log.sync_point()),
                 kept: log.entries(),
             }
         }

@@ -2,7 +2,7 @@ ghost use Rattle.std.specs.Prelude.{◌≡◌, ◌≤◌, ◌++◌, OnOk, length
 ghost use Rattle.world.specs.SeatOutcomes.{seated_of};
 ghost use Rattle.world.specs.StateLines.{entries_text, replica_text, replicas_text};
 
-use crate::main_log::front;
+use crate::main_log::prefix;
 use crate::seat::Seat;
 use nop_types::{Entry, Host, MAX_LENGTH, MAX_REPLICAS, NoMemory};
 use replica_core::Replica;
@@ -38,7 +38,7 @@ fn put_replica<H: Host>(
         core.sync_point(),
         to,
     )?;
-    put_entries(number, front(archive, core.sync_point()), to)
+    put_entries(number, prefix(archive, core.sync_point()), to)
 }
 
 /// Appends the lines of all replicas, whose synchronised entries are in the archive. Where memory runs out, `to` keeps the lines

@@ -16,7 +16,7 @@ use oum_codec::read_datagram;
 use schedule_text::{Event, takes_tick};
 use std::alloc::Global;
 
-/// What an event brings to its actor.
+/// What an event delivers to its actor.
 #[derive(Drop)]
 pub enum Stimulus<'a> {
     Input(Input<'a>),
@@ -80,7 +80,7 @@ fn junk(alloc: Global, bytes: &[u8]) -> Result<Stimulus<'_>, StepError>
     }
 }
 
-/// What the event brings to its actor, where these datagrams were sent.
+/// What the event delivers to its actor, where these datagrams were sent.
 #[tactic(auto, unfolding(crate::specs::WorldSteps::stimulus_of))]
 pub fn stimulus_of<'a>(
     alloc: Global,

@@ -85,7 +85,7 @@ fn count(text: &str, word: &str) -> usize {
 }
 
 /// The events of a number are drawn, and their replay sends, accepts and keeps as much as the summary says, which is the one that is told.
-fn check_drawn(rt: &impl Abort, alloc: Global, number: u64, events_count: u32, told: &str)
+fn check_drawn(rt: &impl Abort, alloc: Global, number: u64, events_count: u32, expected: &str)
     requires least { 1 ≤ events_count }
     requires limit { events_count ≤ MAX_DRAWN_EVENTS }
 {
@@ -99,10 +99,10 @@ fn check_drawn(rt: &impl Abort, alloc: Global, number: u64, events_count: u32, t
         "gen {number} {events_count}\nsends {sends} accepts {accepts}\nview "
     ).expect(rt, "memory");
     let tail = format!(in alloc; "\nhistory {members}\n").expect(rt, "memory");
-    assert!(rt; told.starts_with(head.as_str()), "{head}");
-    assert!(rt; told.ends_with(tail.as_str()), "{tail}");
+    assert!(rt; expected.starts_with(head.as_str()), "{head}");
+    assert!(rt; expected.ends_with(tail.as_str()), "{tail}");
     let summary = summary_of(rt, alloc, number, events_count);
-    assert!(rt; summary.as_str() == told, "{summary}");
+    assert!(rt; summary.as_str() == expected, "{summary}");
 }
 
 /// The summary as another program for the same protocol has it.

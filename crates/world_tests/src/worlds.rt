@@ -93,13 +93,13 @@ fn bytes_of(rt: &impl Abort, alloc: Global, row: &str) -> Vec<u8> {
 }
 
 fn check_sent<H: Host>(rt: &impl Abort, alloc: Global, world: &World<H>, index: u64, row: &str) {
-    let told = bytes_of(rt, alloc, row);
+    let expected = bytes_of(rt, alloc, row);
     let given = world.sent(index).expect(rt, "memory");
     let given = given.expect(rt, "a datagram");
-    assert!(rt; given.as_slice() == told.as_slice(), "{index}");
+    assert!(rt; given.as_slice() == expected.as_slice(), "{index}");
 }
 
-/// The put alone stands in its slot. Of the main log it is what is synchronised.
+/// The put alone is in its slot. Of the main log it is what is synchronised.
 fn check_slots<H: Host>(rt: &impl Abort, world: &World<H>) {
     for (replica, slot, there) in &SLOTS {
         let found = match world.entry(*replica, *slot) {
@@ -138,8 +138,8 @@ fn check_world<H: Host>(rt: &impl Abort, alloc: Global, world: &World<H>) {
 /// The events without the last one give that world; with it they are refused.
 fn check_events<H: Host>(rt: &impl Abort, alloc: Global, config: Config, events: &[Event]) {
     let refused: Result<World<H>, StepError> = run_events(alloc, config, events);
-    let told = StepError::NoSuchDatagram { index: 8, sent: 8 };
-    assert!(rt; refused.err() == Some(told));
+    let expected = StepError::NoSuchDatagram { index: 8, sent: 8 };
+    assert!(rt; refused.err() == Some(expected));
     let (_last, events) = events.split_last().expect(rt, "events");
     let world: Result<World<H>, StepError> = run_events(alloc, config, events);
     check_world(rt, alloc, &world.ok().expect(rt, "refused"));
@@ -155,9 +155,9 @@ fn a_put_over_three_replicas(rt: HostRuntime) {
 /// How many outputs the submit gives and the delivery of what it sent, and where the last one of them sends its datagram.
 const GIVEN: [(usize, Dest); 2] = [(2, Dest::Sequencers), (1, Dest::Replicas)];
 
-fn is_send(out: &Out, to: Dest, told: &[u8]) -> bool {
+fn is_send(out: &Out, to: Dest, expected: &[u8]) -> bool {
     match out {
-        Out::Send(dest, bytes) => *dest == to && bytes.as_slice() == told,
+        Out::Send(dest, bytes) => *dest == to && bytes.as_slice() == expected,
         _ => false,
     }
 }

@@ -18,8 +18,8 @@ fn is_datagram(bytes: &[u8], mark: Mark, wanted: &[u8]) -> bool
     if wanted.len() != head.len() + rest.len() {
         return false;
     }
-    let (front, back) = wanted.split_at(head.len());
-    front == head && back == rest
+    let (prefix, back) = wanted.split_at(head.len());
+    prefix == head && back == rest
 }
 
 /// The index of the first datagram with the wanted bytes, by a walk over all.

@@ -31,7 +31,7 @@ impl<H: Host> World<H> {
         main_log(&self.actors)
     }
 
-    /// What stands in a slot of a replica's log, also in one that is synchronised. None exactly where the replica is not of the
+    /// What is in a slot of a replica's log, also in one that is synchronised. None exactly where the replica is not of the
     /// configuration or no entry stands there.
     pub fn entry(&self, replica: u8, slot: u32) -> Option<&Entry>
         ensures { option_copied result ≡ entry self.now.state replica slot }

@@ -1,10 +1,10 @@
-use Rattle.commands.proofs.CheckLemmas.{told, may_have_risen, verdict_reads}
+use Rattle.commands.proofs.CheckLemmas.{wrote_verdict, may_have_risen, verdict_reads}
 use Rattle.commands.proofs.check.run_check.Goals as goal
 
 pub returns-in-Ok-clause-ends : goal.returns-in-Ok-clause-ends
 returns-in-Ok-clause-ends g c =
     let verdict = c.check-verdict in
-    told g.H.Host.meaning (g.S.Source.left c.args.source.now) (g.S.Source.left verdict.new.source) (g.K.Sink.held c.args.sink.now)
+    wrote_verdict g.H.Host.meaning (g.S.Source.left c.args.source.now) (g.S.Source.left verdict.new.source) (g.K.Sink.held c.args.sink.now)
     (g.K.Sink.held c.write_verdict.new.sink) verdict.result c.verdict_status.result c.verdict_status.ensures
     (record { checked = verdict.ensures.checked; passes = verdict.ensures.passes }) c.in-Ok.ensures.writes
 

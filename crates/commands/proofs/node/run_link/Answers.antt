@@ -81,10 +81,10 @@ returns-in-Err-NoMemory-clause-run g c =
 
 pub returns-in-Ok-write_served-clause-writes : goal.returns-in-Ok-write_served-clause-writes
 returns-in-Ok-write_served-clause-writes g c =
-    counts_none _ _ _ (c.in-Ok-write_served.ensures.count.others (λ told. cc) ∙ c.in-Ok.ensures.writes.others (λ told. cc))
+    counts_none _ _ _ (c.in-Ok-write_served.ensures.count.others (λ failed. cc) ∙ c.in-Ok.ensures.writes.others (λ failed. cc))
     (end_is_no_fault c.args.task.now.waits c.in-Ok.served.done c.end_status.result c.end_status.ensures).0
 
 pub returns-in-Ok-write_served-clause-polls : goal.returns-in-Ok-write_served-clause-polls
 returns-in-Ok-write_served-clause-polls g c =
-    counts_none _ _ _ (c.in-Ok.ensures.polls.others (λ told. cc))
+    counts_none _ _ _ (c.in-Ok.ensures.polls.others (λ failed. cc))
     (end_is_no_fault c.args.task.now.waits c.in-Ok.served.done c.end_status.result c.end_status.ensures).1

@@ -3,14 +3,14 @@ use Rattle.outside.proofs.Counts.{counts_none}
 use Rattle.commands.proofs.AnswerLemmas.{no_answers}
 use Rattle.commands.proofs.CheckLemmas.{unchecked}
 use Rattle.commands.proofs.ClusterLemmas.{not_served}
-use Rattle.commands.proofs.CommandLemmas.{no_drawing, no_front, no_usage, not_begun}
+use Rattle.commands.proofs.CommandLemmas.{no_drawing, no_prefix, no_usage, not_begun}
 use Rattle.one_box.specs.Showing.{links_of}
 use Rattle.commands.specs.Nodes.{ports_of}
 use Rattle.commands.specs.Words.{asked}
 use Rattle.commands.proofs.running.run.Goals as goal
 
 pub returns-in-Err-clause-replay : goal.returns-in-Err-clause-replay
-returns-in-Err-clause-replay g c = λ is. no_front g.H.Host.meaning (g.S.Source.left c.args.source.now) (g.K.Sink.held c.args.sink.now)
+returns-in-Err-clause-replay g c = λ is. no_prefix g.H.Host.meaning (g.S.Source.left c.args.source.now) (g.K.Sink.held c.args.sink.now)
 
 pub returns-in-Err-clause-usage : goal.returns-in-Err-clause-usage
 returns-in-Err-clause-usage g c = λ refused. no_usage c.args.program.now (g.K.Sink.held c.args.sink.now)

@@ -1,4 +1,4 @@
-use Rattle.executor.proofs.FrontLemmas.{executed_append, executed_noop, executed_other}
+use Rattle.executor.proofs.PrefixLemmas.{executed_append, executed_noop, executed_other}
 use Rattle.executor.proofs.laws.execution_stays.Goals as goal
 
 pub returns-clause-append : goal.returns-clause-append

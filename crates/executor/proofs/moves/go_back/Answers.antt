@@ -1,7 +1,7 @@
 use Rattle.std.proofs.Common.{rules}
 use Rattle.nop_types.specs.CheckpointedLogs.{beginning}
 use Rattle.executor.specs.Running.{execution}
-use Rattle.executor.proofs.ExecutedLemmas.{last_is_kept, executed_before, fit_front, fit_still}
+use Rattle.executor.proofs.ExecutedLemmas.{last_is_kept, executed_before, fit_prefix, fit_still}
 use Rattle.executor.proofs.moves.go_back.Goals as goal
 
 pub leave-requires-clause-kept : goal.leave-requires-clause-kept
@@ -24,6 +24,6 @@ loop-undos-preserved-in-Some g c =
           (rw c.in-Some.ensures.items at c.loop-undos.invariant.run) c.leave.ensures.execution;
       fits =
           fit_still (g.H.Host.fits c.loop-undos.host) (g.H.Host.fits c.leave.new.host) c.leave.ensures.still_fits c.pop.new.self.items
-          (fit_front (g.H.Host.fits c.loop-undos.host) c.pop.new.self.items c.in-Some.slot_undo
+          (fit_prefix (g.H.Host.fits c.loop-undos.host) c.pop.new.self.items c.in-Some.slot_undo
           (rw c.in-Some.ensures.items at c.loop-undos.invariant.fits)).0;
     }

@@ -1,4 +1,4 @@
-use Rattle.judge.proofs.ToldLines.{runs_are_judged}
+use Rattle.judge.proofs.LineRows.{runs_are_judged}
 use Rattle.judge.proofs.laws.runs_are_judged.Goals as goal
 
 pub returns : goal.returns

@@ -9,7 +9,7 @@ use Rattle.nop_types.specs.Views.{is_view}
 use Rattle.log_merge.specs.Given.{rests}
 use Rattle.log_merge.specs.Merging.{best}
 use Rattle.log_merge.specs.Pairs.{of_logs}
-use Rattle.log_merge.proofs.Descending.{of_all, rests_more, taken, taken_more, length-of_logs, none_left, of_sorted_told}
+use Rattle.log_merge.proofs.Descending.{of_all, rests_more, taken, taken_more, length-of_logs, none_left, of_sorted_changes}
 use Rattle.log_merge.proofs.Descending.{taken_best, merged_of_best}
 use Rattle.log_merge.proofs.moving.merge_moved.Goals as goal
 
@@ -17,7 +17,7 @@ pub loop-change-preserved-then-is : goal.loop-change-preserved-then-is
 loop-change-preserved-then-is c =
     let view = c.args.view in
     let counts : Change → Bool = λ d. is_view d.last_normal view in
-    let told_view = c.is.ensures in
+    let is_of_view = c.is.ensures in
     let change = c.in-Some-pop.change in
     let here : counts change ≡ true = cc in
     let slot = c.sync_point-sync_point.result in
@@ -55,7 +55,7 @@ returns c =
     let entries =
     ap (λ (ds : List Change). of_all (rests view slot ds) c.loop-change.entries.items) (sym none)
     ∙ c.loop-change.invariant.merged
-    ∙ of_sorted_told view slot c.args.changes.items c.sort_by_sender.new.changes.items c.requires c.sort_by_sender.ensures.same
+    ∙ of_sorted_changes view slot c.args.changes.items c.sort_by_sender.new.changes.items c.requires c.sort_by_sender.ensures.same
     c.in_ok-sort_by_sender.ensures.ascend in
     let found : best (filter counts c.args.changes.items) ≡ Some g =
     ap (λ (ds : List Change). best (filter counts ds)) (sym c.deref.ensures.value)

@@ -1,6 +1,6 @@
 use Rattle.std.proofs.Common.{rules}
-use Rattle.network.specs.Network.{SendsFront, sends_of}
-use Rattle.network.proofs.LineLemmas.{carried_more, front_stays}
+use Rattle.network.specs.Network.{SendsPrefix, sends_of}
+use Rattle.network.proofs.LineLemmas.{carried_more, prefix_stays}
 use Rattle.network.proofs.lines.carry_out_all.Goals as goal
 
 pub loop-out-preserved : goal.loop-out-preserved
@@ -12,9 +12,9 @@ loop-out-preserved c =
     c.in_ok-carry_out_one.ensures.lines in
     record { network = more.network; lines = more.lines }
 
-pub returns-in_err-carry_out_one-clause-front : goal.returns-in_err-carry_out_one-clause-front
-returns-in_err-carry_out_one-clause-front c =
-    let front : SendsFront c.args.network.now c.carry_out_one.new.network (sends_of c.args.from c.args.outs.now) =
-    front_stays c.args.from c.args.network.now c.loop-out.network c.carry_out_one.new.network c.args.outs.now c.loop-out.out-index
-    c.out-item.result c.loop-out-test.true c.out-item.is c.loop-out.invariant.network c.in_err-carry_out_one.ensures.front in
+pub returns-in_err-carry_out_one-clause-prefix : goal.returns-in_err-carry_out_one-clause-prefix
+returns-in_err-carry_out_one-clause-prefix c =
+    let prefix : SendsPrefix c.args.network.now c.carry_out_one.new.network (sends_of c.args.from c.args.outs.now) =
+    prefix_stays c.args.from c.args.network.now c.loop-out.network c.carry_out_one.new.network c.args.outs.now c.loop-out.out-index
+    c.out-item.result c.loop-out-test.true c.out-item.is c.loop-out.invariant.network c.in_err-carry_out_one.ensures.prefix in
     search rules

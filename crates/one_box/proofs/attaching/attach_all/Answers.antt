@@ -65,7 +65,7 @@ loop-i-preserved g c =
           c.attach_actor.new.nodes.items one.node one.added attached.attached attached.given
           attached.room c.loop-i.invariant.room;
       given = attached.given ∙ c.loop-i.invariant.given;
-      same = c.in_default.ensures.count.others (λ told. cc) ∙ c.loop-i.invariant.same;
+      same = c.in_default.ensures.count.others (λ failed. cc) ∙ c.loop-i.invariant.same;
     }
 
 pub returns-clause-attaches : goal.returns-clause-attaches
@@ -75,7 +75,7 @@ returns-clause-attaches g c =
     let xs = c.loop-i.nodes.items in
     let past = c.loop-i-test.false in
     record {
-      told = attached_all v c.args.base c.args.config c.args.now all c.loop-i.i (g.P.Ports.to_come c.args.ports.now)
+      observed = attached_all v c.args.base c.args.config c.args.now all c.loop-i.i (g.P.Ports.to_come c.args.ports.now)
           (g.P.Ports.to_come c.loop-i.ports) xs past c.loop-i.invariant.on;
       places = places_all v c.args.base c.args.config c.args.now all c.loop-i.i xs past c.loop-i.invariant.places;
       given = c.loop-i.invariant.given;
@@ -89,4 +89,4 @@ pub returns-clause-room : goal.returns-clause-room
 returns-clause-room g c = c.loop-i.invariant.room
 
 pub returns-clause-count : goal.returns-clause-count
-returns-clause-count g c = counts_none _ _ _ c.loop-i.invariant.same (λ told. cc)
+returns-clause-count g c = counts_none _ _ _ c.loop-i.invariant.same (λ failed. cc)

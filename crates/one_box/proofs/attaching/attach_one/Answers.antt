@@ -33,7 +33,7 @@ returns-in-Err-push-clause-attaches g c = record {
 }
 
 pub returns-in-Err-push-clause-count : goal.returns-in-Err-push-clause-count
-returns-in-Err-push-clause-count g c = counts_none _ _ _ (c.detach_one.ensures.faults ∙ c.in-Ok.ensures.count) (λ told. cc)
+returns-in-Err-push-clause-count g c = counts_none _ _ _ (c.detach_one.ensures.faults ∙ c.in-Ok.ensures.count) (λ failed. cc)
 
 pub returns-in-Err-clause-attaches : goal.returns-in-Err-clause-attaches
 returns-in-Err-clause-attaches g c = record {

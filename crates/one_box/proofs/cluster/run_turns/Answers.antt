@@ -14,9 +14,9 @@ returns-in-Ok-attached-clause-runs g c =
     (g.C.Clock.values c.args.clock.now) (g.C.Clock.values c.now-now.new.self) (course_of c.args.course.now)
     (course_of c.take_turns.new.course) c.attach_all-attached.new.nodes.items c.take_turns.new.nodes.items c.now-now.ensures
     (subst (λ (all : List Actor). AttachesAll v c.args.base c.args.config c.now-now.result all (g.P.Ports.to_come c.args.ports.now)
-    c.attach_all-attached.new.nodes.items) actors attached.told) c.requires.opens c.take_turns.result
+    c.attach_all-attached.new.nodes.items) actors attached.observed) c.requires.opens c.take_turns.result
     (g.P.Ports.fault_count c.args.ports.now) (g.P.Ports.fault_count c.attach_all-attached.new.ports)
-    (g.P.Ports.detached c.args.ports.now) (g.P.Ports.detached c.attach_all-attached.new.ports) c.take_turns.ensures.told
+    (g.P.Ports.detached c.args.ports.now) (g.P.Ports.detached c.attach_all-attached.new.ports) c.take_turns.ensures.observed
     c.take_turns.ensures.runs attached.lost
     (c.take_turns.ensures.places ∙ attached.places ∙ ap (map (place_for c.args.base c.args.config)) actors) attached.given
 

@@ -1,12 +1,12 @@
 use Rattle.std.proofs.Common.{◌≡◌, drop}
-use Rattle.one_box.specs.ClusterRun.{Node}
+use Rattle.one_box.specs.ClusterRun.{BoxActor}
 use Rattle.one_box.specs.Progress.{FiringOn}
 use Rattle.one_box.specs.Showing.{course_of, links_of, GoesOn, LostFits, Shows, place_of}
 use Rattle.one_box.proofs.firing.fire_due.Given as goal
 
 abbrev pub invariant-loop-i : goal.invariant-loop-i
 invariant-loop-i g l = record {
-  fires : (n : Node) → Shows (links_of g.L.Link) n
+  fires : (n : BoxActor) → Shows (links_of g.L.Link) n
       l.fn.node → FiringOn g.H.Host.meaning
       (links_of g.L.Link) l.ops l.now
       l.fn.node.timers.items (drop l.i l.fn.node.timers.items) (course_of l.fn.course) n (course_of l.course) l.node;

@@ -1,6 +1,6 @@
 use Rattle.std.proofs.Common.{◌≡◌}
 use Rattle.std.specs.Prelude.{slice_range}
-use Rattle.outside.specs.Told.{Stays}
+use Rattle.outside.specs.Observed.{Stays}
 use Rattle.udp_node.specs.Sends.{Sends, side}
 use Rattle.one_box.specs.ClusterRun.{posts}
 use Rattle.one_box.proofs.sending.send_since.Given as goal

@@ -4,8 +4,8 @@ use Rattle.one_box.proofs.LeadingLemmas.{goes_through}
 use Rattle.one_box.proofs.RunningLemmas.{run_stops, turn_done, going_on, turns_over, runs_fail}
 use Rattle.one_box.proofs.serving.take_turns.Goals as goal
 
-pub returns-in-Err-clause-told : goal.returns-in-Err-clause-told
-returns-in-Err-clause-told g c =
+pub returns-in-Err-clause-observed : goal.returns-in-Err-clause-observed
+returns-in-Err-clause-observed g c =
     let v = links_of g.L.Link in
     run_stops g.H.Host.meaning v
     c.args.ops.now c.args.turns c.args.now c.loop-taken.taken c.loop-taken.now (g.C.Clock.values c.loop-taken.clock)
@@ -13,8 +13,8 @@ returns-in-Err-clause-told g c =
     c.args.nodes.now.items c.loop-taken.nodes.items c.turn.new.nodes.items c.loop-taken-test.true c.in-Err.e
     c.loop-taken.invariant.going c.in-Err.ensures.turns
 
-pub returns-then-all_accepted-clause-told : goal.returns-then-all_accepted-clause-told
-returns-then-all_accepted-clause-told g c =
+pub returns-then-all_accepted-clause-observed : goal.returns-then-all_accepted-clause-observed
+returns-then-all_accepted-clause-observed g c =
     let v = links_of g.L.Link in
     turn_done g.H.Host.meaning v
     c.args.ops.now c.args.turns c.args.now c.loop-taken.taken c.loop-taken.now (g.C.Clock.values c.loop-taken.clock)
@@ -41,8 +41,8 @@ loop-taken-preserved g c =
       within = omega (arith, c.loop-taken-test.true);
     }
 
-pub returns-clause-told : goal.returns-clause-told
-returns-clause-told g c =
+pub returns-clause-observed : goal.returns-clause-observed
+returns-clause-observed g c =
     let v = links_of g.L.Link in
     turns_over g.H.Host.meaning v
     c.args.ops.now c.args.turns c.args.now c.loop-taken.taken c.loop-taken.now (g.C.Clock.values c.loop-taken.clock)

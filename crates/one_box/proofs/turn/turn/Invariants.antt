@@ -1,12 +1,12 @@
 use Rattle.std.proofs.Common.{◌≡◌, length, map, List}
-use Rattle.one_box.specs.ClusterRun.{Node}
+use Rattle.one_box.specs.ClusterRun.{BoxActor}
 use Rattle.one_box.specs.Progress.{TurningOn}
 use Rattle.one_box.specs.Showing.{course_of, links_of, AllLostFit, AllShow, GoesOn, place_of}
 use Rattle.one_box.proofs.turn.turn.Given as goal
 
 abbrev pub invariant-loop-i : goal.invariant-loop-i
 invariant-loop-i g l = record {
-  turns : (ns : List Node) → AllShow (links_of g.L.Link)
+  turns : (ns : List BoxActor) → AllShow (links_of g.L.Link)
       ns l.fn.nodes.items
       → TurningOn g.H.Host.meaning (links_of g.L.Link)
       l.ops l.now (course_of l.fn.course) ns l.i (course_of l.course) l.nodes.items;

@@ -41,7 +41,7 @@ loop-turn-preserved g c =
       lines = let one = (rw c.in-Ok-Some.field-0-is at c.in-Ok-Some.ensures.line) kept.opened in omega (arith, one, kept.lines);
       most = rw (← c.line.ensures.value) c.line.ensures.most;
       reads = c.in-Ok-Some.ensures.count.others (λ is. cc) ∙ kept.reads;
-      count = c.in_ok-take_event-in-Ok-Some.ensures.count.others (λ told. cc) ∙ c.in_ok-write_decided.ensures.count.others (λ told. cc)
+      count = c.in_ok-take_event-in-Ok-Some.ensures.count.others (λ failed. cc) ∙ c.in_ok-write_decided.ensures.count.others (λ failed. cc)
           ∙ kept.count;
     }
 
@@ -107,8 +107,8 @@ returns-in_err-write_decided-clause-reads g c =
     let p = err_from_is_err_and c.from_residual.result c.from_residual.ensures.1 in
     rw (p.1, p.2)
     (no_read {T = Unit {0}} _ _ (Err e.0) c.loop-turn.invariant.reads
-    (λ told. write_reads_none (g.K.Sink.held c.loop-turn.sink) (g.K.Sink.held c.write_decided.new.sink) c.loop-turn.pending.items e.0
-    c.in_err-write_decided.ensures.gathers (let is = told in cc)))
+    (λ failed. write_reads_none (g.K.Sink.held c.loop-turn.sink) (g.K.Sink.held c.write_decided.new.sink) c.loop-turn.pending.items e.0
+    c.in_err-write_decided.ensures.gathers (let is = failed in cc)))
 
 pub returns-in_err-take_event-in-Ok-Some-clause-reads : goal.returns-in_err-take_event-in-Ok-Some-clause-reads
 returns-in_err-take_event-in-Ok-Some-clause-reads g c =
@@ -117,8 +117,8 @@ returns-in_err-take_event-in-Ok-Some-clause-reads g c =
     let p = err_from_is_err_and c.from_residual-in_err-take_event-in-Ok-Some.result c.from_residual-in_err-take_event-in-Ok-Some.ensures.1 in
     rw (p.1, p.2)
     (no_read {T = Unit {0}} _ _ (Err e.0) (c.in-Ok-Some.ensures.count.others (λ is. cc) ∙ c.loop-turn.invariant.reads)
-    (λ told. event_reads_none (held c.write_decided.new.sink) (held c.take_event.new.sink) c.write_decided.new.pending.items c.line.result
-    _ e.0 c.in_err-take_event-in-Ok-Some.ensures.takes (let is = told in cc)))
+    (λ failed. event_reads_none (held c.write_decided.new.sink) (held c.take_event.new.sink) c.write_decided.new.pending.items c.line.result
+    _ e.0 c.in_err-take_event-in-Ok-Some.ensures.takes (let is = failed in cc)))
 
 pub returns-in-Ok-None-clause-reads : goal.returns-in-Ok-None-clause-reads
 returns-in-Ok-None-clause-reads g c =

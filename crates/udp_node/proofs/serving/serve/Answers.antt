@@ -6,7 +6,7 @@ use Rattle.udp_node.specs.NodeRun.{first_inputs}
 use Rattle.udp_node.specs.Sends.{side_of, last_count}
 use Rattle.outside.proofs.Counts.{counts_then}
 use Rattle.udp_node.specs.declared.serving.Served.{Served}
-use Rattle.udp_node.proofs.NodeLemmas.{no_poll_told, write_told}
+use Rattle.udp_node.proofs.NodeLemmas.{no_poll_reported, write_reported}
 use Rattle.udp_node.proofs.FoldLemmas.{took_after}
 use Rattle.udp_node.proofs.RunLemmas.{serves_after, serves_stopped, lost_more, lost_joined}
 use Rattle.udp_node.proofs.WritingLemmas.{wrote_then, runs_wrote}
@@ -60,15 +60,15 @@ returns-in-Ok-clause-polls g c =
 
 pub returns-in-Ok-clause-writes : goal.returns-in-Ok-clause-writes
 returns-in-Ok-clause-writes g c =
-    let all = counts_then _ _ _ _ (c.in-Ok.ensures.count.others (λ told. cc)) c.take_turns.ensures.faults.writes in
+    let all = counts_then _ _ _ _ (c.in-Ok.ensures.count.others (λ failed. cc)) c.take_turns.ensures.faults.writes in
     search (rules, all)
 
 pub returns-in-Err-clause-polls : goal.returns-in-Err-clause-polls
 returns-in-Err-clause-polls g c =
-    let all = no_poll_told {U = Served} _ _ _ _ c.error_of.ensures c.in-Err.ensures.unpolled.faults in
+    let all = no_poll_reported {U = Served} _ _ _ _ c.error_of.ensures c.in-Err.ensures.unpolled.faults in
     search (rules, all)
 
 pub returns-in-Err-clause-writes : goal.returns-in-Err-clause-writes
 returns-in-Err-clause-writes g c =
-    let all = write_told {U = Served} _ _ _ _ c.error_of.ensures c.in-Err.ensures.count in
+    let all = write_reported {U = Served} _ _ _ _ c.error_of.ensures c.in-Err.ensures.count in
     search (rules, all)

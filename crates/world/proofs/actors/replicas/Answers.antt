@@ -2,7 +2,7 @@ use Rattle.std.proofs.Common.{◌≡◌, ◌∙◌, ap, arith}
 use Rattle.replica_core.specs.ReplicaSteps as replica
 use Rattle.replica_core.specs.ReplicaSteps.{Replica}
 use Rattle.world.specs.SeatOutcomes.{seated_of}
-use Rattle.world.specs.WorldSteps.{counted}
+use Rattle.world.specs.WorldSteps.{numbered_seats}
 use Rattle.world.proofs.Opening.{counted_more}
 use Rattle.world.proofs.actors.replicas.Goals as goal
 
@@ -21,4 +21,4 @@ pub returns-clause-seats : goal.returns-clause-seats
 returns-clause-seats g c =
     let end : c.loop-number.number ≡ c.args.config.replicas =
     omega (arith, c.loop-number-test.false, c.loop-number.auto.number-end, c.replicas-number-end.ensures.count) in
-    c.loop-number.invariant.seats ∙ ap (counted (replica.opening c.args.config)) end
+    c.loop-number.invariant.seats ∙ ap (numbered_seats (replica.opening c.args.config)) end

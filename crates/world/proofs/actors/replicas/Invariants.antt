@@ -2,12 +2,12 @@ use Rattle.std.proofs.Common.{◌≡◌, length}
 use Rattle.std.specs.Prelude.{map}
 use Rattle.replica_core.specs.ReplicaSteps as replica
 use Rattle.world.specs.SeatOutcomes.{seated_of}
-use Rattle.world.specs.WorldSteps.{counted}
+use Rattle.world.specs.WorldSteps.{numbered_seats}
 use Rattle.world.proofs.actors.replicas.Given as goal
 
 abbrev pub invariant-loop-number : goal.invariant-loop-number
 invariant-loop-number g l =
     record {
-      seats : map (seated_of (λ r. r.state)) l.seats.items ≡ counted (replica.opening l.config) l.number;
+      seats : map (seated_of (λ r. r.state)) l.seats.items ≡ numbered_seats (replica.opening l.config) l.number;
       count : length l.seats.items ≡ l.number;
     }

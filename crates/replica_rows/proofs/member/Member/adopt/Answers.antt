@@ -9,18 +9,18 @@ use Rattle.replica_rows.proofs.member.Member.adopt.Goals as goal
 
 pub replies_above-requires-clause-kept : goal.replies_above-requires-clause-kept
 replies_above-requires-clause-kept g c =
-    let points = c.in_ok-take_part.ensures.runs.within.points in
+    let points = c.in_ok-adopt_log.ensures.runs.within.points in
     omega (arith, points, c.sync_point-synced.ensures)
 
 pub replies_above-requires-clause-behind : goal.replies_above-requires-clause-behind
-replies_above-requires-clause-behind g c = omega (arith, c.in_ok-take_part.ensures.behind, c.sync_point-synced.ensures)
+replies_above-requires-clause-behind g c = omega (arith, c.in_ok-adopt_log.ensures.behind, c.sync_point-synced.ensures)
 
 pub returns : goal.returns
 unfolding adopt
 returns g c =
     let m = g.H.Host.meaning in
     let s = c.args.self.now.state in
-    let is = c.in_ok-take_part.ensures.state in
+    let is = c.in_ok-adopt_log.ensures.state in
     let taken = adopted Trimmed s c.args.view c.args.next c.args.log in
     let into = λ (t : ReplicaState). adopted Trimmed t c.args.view c.args.next c.args.log in
     on_ok c.drain.result _ _
@@ -30,9 +30,9 @@ returns g c =
       runs = c.in_ok-replies_above.ensures.runs;
       state = c.replies_above.ensures.state ∙ is;
       sends =
-          replied_above m c.take_part.new.self.state taken c.sync_point-synced.result taken.sync.sync_point c.args.self.now.sends
-          c.take_part.new.self.sends c.replies_above.new.self.sends is
+          replied_above m c.adopt_log.new.self.state taken c.sync_point-synced.result taken.sync.sync_point c.args.self.now.sends
+          c.adopt_log.new.self.sends c.replies_above.new.self.sends is
           (c.sync_point-synced.ensures ∙ ap (λ t. t.sync.sync_point) is)
-          c.take_part.ensures.sends c.in_ok-replies_above.ensures.sends;
+          c.adopt_log.ensures.sends c.in_ok-replies_above.ensures.sends;
     }))
     c.drain.ensures

@@ -15,14 +15,14 @@ returns-in-Stamped g c =
     (ap (λ a. arrive m Trimmed c.args.self.now.state (arrival_of a)) (sym c.in-Stamped.is)))
     c.stamped.ensures
 
-pub returns-in-Told : goal.returns-in-Told
+pub returns-in-PeerMessage : goal.returns-in-PeerMessage
 unfolding arrive
-returns-in-Told g c =
+returns-in-PeerMessage g c =
     let m = g.H.Host.meaning in
-    on_ok c.told.result _ _
-    (does_as g.H.Host c.args.self.now _ (when (loads_in m c.in-Told.message.body) (on_message m Trimmed c.in-Told.message)) (λ s. arrive m Trimmed s (arrival_of c.args.arrival))
-    (ap (λ a. arrive m Trimmed c.args.self.now.state (arrival_of a)) (sym c.in-Told.is)))
-    c.told.ensures
+    on_ok c.peer_message.result _ _
+    (does_as g.H.Host c.args.self.now _ (when (loads_in m c.in-PeerMessage.message.body) (on_message m Trimmed c.in-PeerMessage.message)) (λ s. arrive m Trimmed s (arrival_of c.args.arrival))
+    (ap (λ a. arrive m Trimmed c.args.self.now.state (arrival_of a)) (sym c.in-PeerMessage.is)))
+    c.peer_message.ensures
 
 pub returns-in-Ticked : goal.returns-in-Ticked
 unfolding arrive

@@ -1,7 +1,7 @@
 use Rattle.std.proofs.Common.{sym, ap, ◌∙◌, arith}
 use Rattle.nop_types.specs.declared.request.Entry.TheVariants.{Req}
 use Rattle.nop_types.specs.Logs.{Trimmed, length_of}
-use Rattle.executor.proofs.FrontLemmas.{reached_within}
+use Rattle.executor.proofs.PrefixLemmas.{reached_within}
 use Rattle.replica_state.specs.State.{has_room, may_append}
 use Rattle.replica_rows.proofs.Fields.{length-appended}
 use Rattle.replica_rows.proofs.Draining.{took, took_none, took_goes_on, opens_goes_on, stops_before, stops_at_none, stops_and_asks, has_slot}

@@ -3,18 +3,18 @@ use Rattle.std.specs.Prelude.{IfSome}
 use Rattle.std.specs.List.{AllByRecursion}
 use Rattle.nop_types.specs.Logs.{Trimmed}
 use Rattle.nop_types.specs.Ranges.{ChangeFits}
-use Rattle.replica_state.specs.State.{others}
+use Rattle.replica_state.specs.State.{max_faults}
 use Rattle.replica_rows.specs.Within.{ChangeLoads}
 use Rattle.replica_rows.proofs.Opening.{own, enters_with_others, enters_without, opens_alone, start_fits, start_loads, put_back}
 use Rattle.replica_rows.proofs.Running.{on_ok, sent_on}
 use Rattle.replica_rows.proofs.member.Member.enter_view.Goals as goal
 
-pub returns-then-others-gt0 : goal.returns-then-others-gt0
-returns-then-others-gt0 g c =
+pub returns-then-max_faults-gt0 : goal.returns-then-max_faults-gt0
+returns-then-max_faults-gt0 g c =
     let e = c.in_ok-enter.ensures.state in
     let same =
     enters_with_others g.H.Host.meaning Trimmed c.args.self.now.state c.args.view
-    (omega (arith, c.if-others-gt0.true, c.others.ensures, ap others e)) in
+    (omega (arith, c.if-max_faults-gt0.true, c.max_faults.ensures, ap max_faults e)) in
     record {
       runs = c.in_ok-enter.ensures.runs;
       state = e ∙ ap (λ x. x.0) (sym same);
@@ -36,7 +36,7 @@ pub start_now-requires : goal.start_now-requires
 start_now-requires g c =
     let e = c.in_ok-enter.ensures.state in
     let mine = own c.args.self.now.state c.args.view c.in-Some.changes (ap (λ s. s.changes) (sym e) ∙ c.in-Some.is) in
-    omega (arith, mine.f, c.if-others-gt0.false, c.others.ensures, ap others e)
+    omega (arith, mine.f, c.if-max_faults-gt0.false, c.max_faults.ensures, ap max_faults e)
 
 pub open_view-requires-clause-next : goal.open_view-requires-clause-next
 open_view-requires-clause-next g c =
@@ -45,8 +45,8 @@ open_view-requires-clause-next g c =
     let all = subst (λ o. IfSome o (λ x. AllByRecursion ChangeFits x.changes)) c.in-Some.is c.in_ok-enter.ensures.runs.within.changes in
     (start_fits c.in-Some.changes c.in_ok-start.start all (omega (arith, mine.one)) c.in_ok-start.ensures.start).0
 
-pub open_view-requires-clause-told : goal.open_view-requires-clause-told
-open_view-requires-clause-told g c =
+pub open_view-requires-clause-log_fits : goal.open_view-requires-clause-log_fits
+open_view-requires-clause-log_fits g c =
     let e = c.in_ok-enter.ensures.state in
     let mine = own c.args.self.now.state c.args.view c.in-Some.changes (ap (λ s. s.changes) (sym e) ∙ c.in-Some.is) in
     let all = subst (λ o. IfSome o (λ x. AllByRecursion ChangeFits x.changes)) c.in-Some.is c.in_ok-enter.ensures.runs.within.changes in
@@ -64,7 +64,7 @@ returns g c =
     let e = c.in_ok-enter.ensures.state in
     let back = put_back c.enter.new.self.state c.in-Some.changes c.start_now.new.self c.start_now.ensures.same c.in-Some.is in
     let mine = own c.args.self.now.state c.args.view c.in-Some.changes (ap (λ s. s.changes) (sym e) ∙ c.in-Some.is) in
-    let none : c.in-Some.changes.f ≡ 0 = omega (arith, mine.f, c.if-others-gt0.false, c.others.ensures, ap others e) in
+    let none : c.in-Some.changes.f ≡ 0 = omega (arith, mine.f, c.if-max_faults-gt0.false, c.max_faults.ensures, ap max_faults e) in
     let both =
     opens_alone g.H.Host.meaning c.args.self.now.state c.enter.new.self.state
     _ c.args.view c.in-Some.changes c.in_ok-start.start e c.in-Some.is none back c.in_ok-start.ensures.start in

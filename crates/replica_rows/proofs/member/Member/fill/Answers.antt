@@ -2,7 +2,7 @@ use Rattle.std.proofs.Common.{◌∙◌, ap, arith}
 use Rattle.nop_types.specs.declared.request.Entry.TheVariants.{Req}
 use Rattle.nop_types.specs.Logs.{Trimmed, length_of}
 use Rattle.executor.specs.Running.{reached}
-use Rattle.executor.proofs.FrontLemmas.{reached_within}
+use Rattle.executor.proofs.PrefixLemmas.{reached_within}
 use Rattle.replica_rows.proofs.Fields.{length-appended}
 use Rattle.replica_rows.proofs.Rows.{fill_sends}
 use Rattle.replica_rows.proofs.Running.{on_ok_both}

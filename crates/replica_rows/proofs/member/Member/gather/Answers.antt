@@ -17,12 +17,12 @@ open_view-requires-clause-next g c =
     c.in-Started.start refl c.requires.runs.within c.requires.runs.loads c.requires.fits c.requires.loads left
     (sym c.in_ok-start.ensures.step ∙ c.in-Started.is)).next
 
-pub open_view-requires-clause-told : goal.open_view-requires-clause-told
-open_view-requires-clause-told g c =
+pub open_view-requires-clause-log_fits : goal.open_view-requires-clause-log_fits
+open_view-requires-clause-log_fits g c =
     let left = c.in_ok-start.ensures.kept ∙ ap (λ step. kept_after step c.args.self.now.state c.args.change) c.in-Started.is in
     (gathers_taken g.H.Host.meaning c.args.self.now.state c.keep_change.new.state c.args.self.now.state.changes c.args.change
     c.in-Started.start refl c.requires.runs.within c.requires.runs.loads c.requires.fits c.requires.loads left
-    (sym c.in_ok-start.ensures.step ∙ c.in-Started.is)).told
+    (sym c.in_ok-start.ensures.step ∙ c.in-Started.is)).log_fits
 
 pub open_view-requires-clause-loads : goal.open_view-requires-clause-loads
 open_view-requires-clause-loads g c =

@@ -13,7 +13,7 @@ returns-then-sync_point-synced-clause-runs g c =
     let runs = c.requires.runs in
     on_ok c.restart.result _ _
     (overlaid_runs g.H.Host c.args.self.now.state c.lay_over.new.self c.restart.new.self c.args.log c.in_ok-lay_over.ensures.ok
-    runs.within runs.loads c.requires.told c.requires.loads (omega (arith, c.requires.within, c.requires.appended)))
+    runs.within runs.loads c.requires.log_fits c.requires.loads (omega (arith, c.requires.within, c.requires.appended)))
     c.restart.ensures.run
 
 pub returns-clause-runs : goal.returns-clause-runs
@@ -26,7 +26,7 @@ returns-clause-runs g c =
     subst (λ s. s.next + (length_of Trimmed c.args.log - length_of Trimmed s.log) ≤ NUMBER_END) (sym state)
     (omega (arith, c.requires.within, c.requires.appended)) in
     on_ok c.lay_over-2.result _ _
-    (λ is. overlaid_near g.H.Host t _ c.go_back.new.self.executor c.args.log is c.go_back.ensures.runs c.requires.told c.requires.loads
+    (λ is. overlaid_near g.H.Host t _ c.go_back.new.self.executor c.args.log is c.go_back.ensures.runs c.requires.log_fits c.requires.loads
     high (omega (arith, c.if-sync_point-synced.false, c.sync_point.ensures, synced, point))
     (omega (arith, c.go_back.ensures.behind, synced, point)))
     c.lay_over-2.ensures.ok
@@ -34,7 +34,7 @@ returns-clause-runs g c =
 pub restart-requires-clause-some : goal.restart-requires-clause-some
 restart-requires-clause-some g c =
     subst (λ t. IsSome t.log.checkpoint) (sym c.in_ok-lay_over.ensures.ok)
-    (further_begun c.args.log c.args.self.now.state.log c.requires.told
+    (further_begun c.args.log c.args.self.now.state.log c.requires.log_fits
     (omega (arith, c.if-sync_point-synced.true, c.sync_point.ensures, c.sync_point-synced.ensures)))
 
 pub restart-requires-clause-loads : goal.restart-requires-clause-loads
@@ -60,7 +60,7 @@ pub returns-then-sync_point-synced-clause-behind : goal.returns-then-sync_point-
 returns-then-sync_point-synced-clause-behind g c =
     let s = c.args.self.now.state in
     let within =
-    overlaid_within Trimmed s c.args.log c.requires.runs.within c.requires.told (omega (arith, c.requires.within, c.requires.appended)) in
+    overlaid_within Trimmed s c.args.log c.requires.runs.within c.requires.log_fits (omega (arith, c.requires.within, c.requires.appended)) in
     let points = subst PointsMeet (sym c.in_ok-lay_over.ensures.ok) within.points in
     on_ok c.restart.result _ _ (λ at. omega (arith, at, points)) c.restart.ensures.reached
 

@@ -19,19 +19,19 @@ pub returns-in-ViewChange : goal.returns-in-ViewChange
 returns-in-ViewChange g c =
     let m = g.H.Host.meaning in
     let p = c.args.message in
-    let told = c.in-ViewChange in
-    let change : Change = record { sender = p.sender; last_normal = told.last_normal; next = told.next; log = told.log } in
+    let message = c.in-ViewChange in
+    let change : Change = record { sender = p.sender; last_normal = message.last_normal; next = message.next; log = message.log } in
     on_ok c.view_change.result _ _
     (does_as g.H.Host c.args.self.now _ (view_change m Trimmed p.view change) (on_body m Trimmed p p.body)
-    (ap (λ b. on_body m Trimmed p b c.args.self.now.state) (sym told.is)))
+    (ap (λ b. on_body m Trimmed p b c.args.self.now.state) (sym message.is)))
     c.view_change.ensures
 
 pub returns-in-StartView : goal.returns-in-StartView
 returns-in-StartView g c =
     let m = g.H.Host.meaning in
     let p = c.args.message in
-    let told = c.in-StartView in
+    let message = c.in-StartView in
     on_ok c.start_view.result _ _
-    (does_as g.H.Host c.args.self.now _ (start_view m Trimmed p.sender p.view told.next told.log) (on_body m Trimmed p p.body)
-    (ap (λ b. on_body m Trimmed p b c.args.self.now.state) (sym told.is)))
+    (does_as g.H.Host c.args.self.now _ (start_view m Trimmed p.sender p.view message.next message.log) (on_body m Trimmed p p.body)
+    (ap (λ b. on_body m Trimmed p b c.args.self.now.state) (sym message.is)))
     c.start_view.ensures

@@ -9,7 +9,7 @@ use Rattle.replica_rows.proofs.member.Member.open_view.Goals as goal
 
 pub send_log_to_all-requires-clause-fits : goal.send_log_to_all-requires-clause-fits
 send_log_to_all-requires-clause-fits g c =
-    record { number = c.requires.next; told = subst LogFits (sym c.as_ref.ensures.log) c.requires.told }
+    record { number = c.requires.next; log_fits = subst LogFits (sym c.as_ref.ensures.log) c.requires.log_fits }
 
 pub returns : goal.returns
 returns g c =
@@ -18,11 +18,11 @@ returns g c =
     let v = old.state.view in
     let n = c.args.start.next in
     let log = c.args.start.log in
-    let told = record old { sends = c.send_log_to_all.new.sends } in
+    let after = record old { sends = c.send_log_to_all.new.sends } in
     on_ok c.adopt.result _ _
     (λ taken. does_as g.H.Host old _ (λ s. then_do (s, to_all s (bodies.StartView n log)) (λ t. adopt m Trimmed t v n log))
     (λ s. open_with m Trimmed s n log) refl
-    (does_then g.H.Host old told _ (λ s. (s, to_all s (bodies.StartView n log))) (λ t. adopt m Trimmed t v n log)
+    (does_then g.H.Host old after _ (λ s. (s, to_all s (bodies.StartView n log))) (λ t. adopt m Trimmed t v n log)
     (record {
       runs = c.requires.runs;
       state = refl;

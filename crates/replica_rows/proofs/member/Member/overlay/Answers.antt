@@ -22,8 +22,8 @@ returns g c =
       state = does.state ∙ c.replies_above.ensures.state ∙ is;
       sends =
           overlay_sends g.H.Host.meaning c.args.self.now.state c.lay_over.new.self.state c.replies_above.new.self.state c.args.log
-          c.max-answered.result c.len-told.result c.args.self.now.sends c.lay_over.new.self.sends c.replies_above.new.self.sends
-          _ is (omega arith) c.len-told.ensures.len c.lay_over.ensures.sends c.replies_above.ensures.state
+          c.max-answered.result c.len-leader_len.result c.args.self.now.sends c.lay_over.new.self.sends c.replies_above.new.self.sends
+          _ is (omega arith) c.len-leader_len.ensures.len c.lay_over.ensures.sends c.replies_above.ensures.state
           c.in_ok-replies_above.ensures.sends does.sends;
     })
     c.to_leader.ensures.does

@@ -3,4 +3,4 @@ use Rattle.replica_rows.proofs.Running.{on_ok}
 use Rattle.replica_rows.proofs.member.Member.resend_start.Goals as goal
 
 pub returns : goal.returns
-returns g c = on_ok c.tell_start.result _ _ (λ sent. record { runs = c.requires.runs; state = refl; sends = sent }) c.tell_start.ensures.ok
+returns g c = on_ok c.send_start.result _ _ (λ sent. record { runs = c.requires.runs; state = refl; sends = sent }) c.send_start.ensures.ok

@@ -3,7 +3,7 @@ use Rattle.nop_types.specs.declared.peer.Body.TheVariants as bodies
 use Rattle.nop_types.specs.Logs.{Trimmed}
 use Rattle.nop_types.specs.Ranges.{RequestFits}
 use Rattle.slot_lookup.specs.Answer.{Below, Found, GapAgain, Begin, given}
-use Rattle.replica_state.specs.Moves.{tell_synced}
+use Rattle.replica_state.specs.Moves.{send_synced}
 use Rattle.replica_state.specs.Sends.{to_replica}
 use Rattle.replica_rows.specs.Rows.{begin_gap, slot_lookup}
 use Rattle.replica_rows.proofs.Branches.{looks_up}
@@ -15,11 +15,11 @@ pub returns-in-Below : goal.returns-in-Below
 returns-in-Below g c =
     let m = g.H.Host.meaning in
     let s = c.args.self.now.state in
-    on_ok c.tell_synced.result _ _
-    (does_as g.H.Host c.args.self.now _ (λ t. tell_synced Trimmed t c.args.sender) (slot_lookup m Trimmed c.args.sender c.args.slot)
+    on_ok c.send_synced.result _ _
+    (does_as g.H.Host c.args.self.now _ (λ t. send_synced Trimmed t c.args.sender) (slot_lookup m Trimmed c.args.sender c.args.slot)
     (looks_up m Trimmed s Below c.waits-waits.result c.args.sender c.args.slot (ap given (sym c.in-Below.is) ∙ c.answer.ensures)
     c.waits-waits.ensures))
-    c.tell_synced.ensures
+    c.send_synced.ensures
 
 pub returns-in_ok-request-in-Found : goal.returns-in_ok-request-in-Found
 returns-in_ok-request-in-Found g c =

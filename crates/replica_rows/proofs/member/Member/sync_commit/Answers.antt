@@ -1,32 +1,32 @@
 use Rattle.std.proofs.Common.{◌++◌, sym, ap, ◌∙◌, append-nil}
 use Rattle.nop_types.specs.Logs.{Trimmed}
 use Rattle.replica_state.specs.Moves.{sync_commit}
-use Rattle.replica_rows.specs.Rising.{follows, passed_by}
+use Rattle.replica_rows.specs.Trimming.{trim_log, trimmed_by}
 use Rattle.replica_rows.specs.Rows as rows
-use Rattle.replica_rows.proofs.Running.{on_ok, commit_moves, moved_executes, moved_there, followed_runs}
-use Rattle.replica_rows.proofs.Voting.{lets_go}
+use Rattle.replica_rows.proofs.Running.{on_ok, commit_moves, moved_executes, moved_there, trimmed_runs}
+use Rattle.replica_rows.proofs.Voting.{sends_trimmed}
 use Rattle.replica_rows.proofs.member.Member.sync_commit.Goals as goal
 
-pub follow-requires-clause-executes : goal.follow-requires-clause-executes
-follow-requires-clause-executes g c =
+pub trim_log-requires-clause-executes : goal.trim_log-requires-clause-executes
+trim_log-requires-clause-executes g c =
     let s = c.args.self.now.state in
     moved_executes g.H.Host s c.sync_commit.new.self _ c.requires.runs
     (commit_moves Trimmed c.args.slot s _ c.sync_commit.ensures.state c.requires.runs.within)
 
-pub follow-requires-clause-there : goal.follow-requires-clause-there
-follow-requires-clause-there g c =
+pub trim_log-requires-clause-there : goal.trim_log-requires-clause-there
+trim_log-requires-clause-there g c =
     let s = c.args.self.now.state in
     moved_there g.H.Host s c.sync_commit.new.self
     (commit_moves Trimmed c.args.slot s _ c.sync_commit.ensures.state c.requires.runs.within)
 
-pub let_go-requires : goal.let_go-requires
-let_go-requires g c =
+pub send_trimmed-requires : goal.send_trimmed-requires
+send_trimmed-requires g c =
     let s = c.args.self.now.state in
     record {
       runs =
-          followed_runs g.H.Host s c.sync_commit.new.self _ _ _ c.requires.runs
-          (commit_moves Trimmed c.args.slot s _ c.sync_commit.ensures.state c.requires.runs.within) c.in_ok-passed.ensures.state
-          c.in_ok-passed.ensures.executes;
+          trimmed_runs g.H.Host s c.sync_commit.new.self _ _ _ c.requires.runs
+          (commit_moves Trimmed c.args.slot s _ c.sync_commit.ensures.state c.requires.runs.within) c.in_ok-trimmed.ensures.state
+          c.in_ok-trimmed.ensures.executes;
     }
 
 pub returns : goal.returns
@@ -35,18 +35,18 @@ returns g c =
     let m = g.H.Host.meaning in
     let old = c.args.self.now in
     let is = c.sync_commit.ensures.state in
-    on_ok c.let_go.result _ _
-    (lets_go g.H.Host old c.follow.new.self _ (sync_commit c.args.slot) c.in_ok-passed.passed
+    on_ok c.send_trimmed.result _ _
+    (sends_trimmed g.H.Host old c.trim_log.new.self _ (sync_commit c.args.slot) c.in_ok-trimmed.trimmed
     (record {
       runs =
-          followed_runs g.H.Host old.state c.sync_commit.new.self _ _ _ c.requires.runs
-          (commit_moves Trimmed c.args.slot old.state _ is c.requires.runs.within) c.in_ok-passed.ensures.state
-          c.in_ok-passed.ensures.executes;
-      state = c.in_ok-passed.ensures.state ∙ ap (follows m) is;
+          trimmed_runs g.H.Host old.state c.sync_commit.new.self _ _ _ c.requires.runs
+          (commit_moves Trimmed c.args.slot old.state _ is c.requires.runs.within) c.in_ok-trimmed.ensures.state
+          c.in_ok-trimmed.ensures.executes;
+      state = c.in_ok-trimmed.ensures.state ∙ ap (trim_log m) is;
       sends =
-          c.follow.ensures.sends
+          c.trim_log.ensures.sends
           ∙ sym (append-nil old.sends)
           ∙ ap (λ xs. old.sends ++ xs) (sym c.sync_commit.ensures.nothing);
     })
-    (c.in_ok-passed.ensures.passed ∙ ap passed_by is))
-    c.let_go.ensures
+    (c.in_ok-trimmed.ensures.trimmed ∙ ap trimmed_by is))
+    c.send_trimmed.ensures

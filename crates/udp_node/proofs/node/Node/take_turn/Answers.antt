@@ -1,6 +1,6 @@
 use Rattle.std.proofs.Common.{refl, ap, ◌∙◌, Err}
 use Rattle.outside.proofs.Counts.{counts_none, counts_as, counts_then}
-use Rattle.udp_node.proofs.NodeLemmas.{no_poll_told, write_told}
+use Rattle.udp_node.proofs.NodeLemmas.{no_poll_reported, write_reported}
 use Rattle.udp_node.proofs.TurnLemmas.{stopped_firing, packet_turn, packet_stops, short_turn, silent_turn, failed_turn}
 use Rattle.udp_node.proofs.node.Node.take_turn.Goals as goal
 
@@ -45,41 +45,41 @@ returns-in-Err-NoMemory-clause-turn g c =
 
 pub returns-in-Err-clause-faults : goal.returns-in-Err-clause-faults
 returns-in-Err-clause-faults g c = record {
-  polls = no_poll_told _ _ _ _ c.error_of.ensures c.in-Err.ensures.unpolled.faults;
-  writes = write_told _ _ _ _ c.error_of.ensures c.in-Err.ensures.count;
+  polls = no_poll_reported _ _ _ _ c.error_of.ensures c.in-Err.ensures.unpolled.faults;
+  writes = write_reported _ _ _ _ c.error_of.ensures c.in-Err.ensures.count;
 }
 
 pub returns-in-Ok-None-clause-faults : goal.returns-in-Ok-None-clause-faults
 returns-in-Ok-None-clause-faults g c = record {
-  polls = counts_none _ _ _ (c.in-Ok-None.ensures.count.others (λ told. cc) ∙ c.in-Ok.ensures.unpolled.faults) (λ told. cc);
-  writes = counts_none _ _ _ (c.in-Ok.ensures.count.others (λ told. cc)) (λ told. cc);
+  polls = counts_none _ _ _ (c.in-Ok-None.ensures.count.others (λ failed. cc) ∙ c.in-Ok.ensures.unpolled.faults) (λ failed. cc);
+  writes = counts_none _ _ _ (c.in-Ok.ensures.count.others (λ failed. cc)) (λ failed. cc);
 }
 
 pub returns-in-Ok-take_packet-clause-faults : goal.returns-in-Ok-take_packet-clause-faults
 returns-in-Ok-take_packet-clause-faults g c = record {
-  polls = counts_none _ _ _ (c.in-Ok-take_packet.ensures.unpolled.faults ∙ c.in-Ok-Some.ensures.count.others (λ told. cc)
-      ∙ c.in-Ok.ensures.unpolled.faults) (λ told. cc);
-  writes = counts_none _ _ _ (c.in-Ok-take_packet.ensures.count.others (λ told. cc) ∙ c.in-Ok.ensures.count.others (λ told. cc))
-      (λ told. cc);
+  polls = counts_none _ _ _ (c.in-Ok-take_packet.ensures.unpolled.faults ∙ c.in-Ok-Some.ensures.count.others (λ failed. cc)
+      ∙ c.in-Ok.ensures.unpolled.faults) (λ failed. cc);
+  writes = counts_none _ _ _ (c.in-Ok-take_packet.ensures.count.others (λ failed. cc) ∙ c.in-Ok.ensures.count.others (λ failed. cc))
+      (λ failed. cc);
 }
 
 pub returns-in-Err-take_packet-clause-faults : goal.returns-in-Err-take_packet-clause-faults
 returns-in-Err-take_packet-clause-faults g c = record {
-  polls = no_poll_told _ _ _ _ c.error_of-in-Err-take_packet.ensures (c.in-Err-take_packet.ensures.unpolled.faults
-      ∙ c.in-Ok-Some.ensures.count.others (λ told. cc) ∙ c.in-Ok.ensures.unpolled.faults);
-  writes = write_told _ _ _ _ c.error_of-in-Err-take_packet.ensures
-      (counts_then _ _ _ _ (c.in-Ok.ensures.count.others (λ told. cc)) c.in-Err-take_packet.ensures.count);
+  polls = no_poll_reported _ _ _ _ c.error_of-in-Err-take_packet.ensures (c.in-Err-take_packet.ensures.unpolled.faults
+      ∙ c.in-Ok-Some.ensures.count.others (λ failed. cc) ∙ c.in-Ok.ensures.unpolled.faults);
+  writes = write_reported _ _ _ _ c.error_of-in-Err-take_packet.ensures
+      (counts_then _ _ _ _ (c.in-Ok.ensures.count.others (λ failed. cc)) c.in-Err-take_packet.ensures.count);
 }
 
 pub returns-in-Err-Failed-clause-faults : goal.returns-in-Err-Failed-clause-faults
 returns-in-Err-Failed-clause-faults g c = record {
   polls = counts_then _ _ _ _ c.in-Ok.ensures.unpolled.faults
-      (counts_as _ _ _ _ (λ told. refl) (λ told. ap Err c.in-Err-Failed.field-0-is) c.in-Err-Failed.ensures.count);
-  writes = counts_none _ _ _ (c.in-Ok.ensures.count.others (λ told. cc)) (λ told. cc);
+      (counts_as _ _ _ _ (λ failed. refl) (λ failed. ap Err c.in-Err-Failed.field-0-is) c.in-Err-Failed.ensures.count);
+  writes = counts_none _ _ _ (c.in-Ok.ensures.count.others (λ failed. cc)) (λ failed. cc);
 }
 
 pub returns-in-Err-NoMemory-clause-faults : goal.returns-in-Err-NoMemory-clause-faults
 returns-in-Err-NoMemory-clause-faults g c = record {
-  polls = counts_none _ _ _ (c.in-Err-NoMemory.ensures.count.others (λ told. cc) ∙ c.in-Ok.ensures.unpolled.faults) (λ told. cc);
-  writes = counts_none _ _ _ (c.in-Ok.ensures.count.others (λ told. cc)) (λ told. cc);
+  polls = counts_none _ _ _ (c.in-Err-NoMemory.ensures.count.others (λ failed. cc) ∙ c.in-Ok.ensures.unpolled.faults) (λ failed. cc);
+  writes = counts_none _ _ _ (c.in-Ok.ensures.count.others (λ failed. cc)) (λ failed. cc);
 }

@@ -70,8 +70,8 @@ loop-taken-preserved g c =
       wrote = wrote_then _ _ _ c.loop-taken.invariant.wrote (turn_wrote _ _ _ _ _ _ _ _ _ _ _ _ _ _ c.take_turn.ensures.turn);
       lost = lost_more _ _ _ _ _ c.loop-taken.invariant.lost turn.done.sends;
       took = took_then _ _ _ _ _ _ _ _ c.loop-taken.invariant.took (turn_took _ _ _ _ _ _ _ _ _ _ _ _ _ turn);
-      polls = c.in_default-take_turn.ensures.faults.polls.others (λ told. cc) ∙ c.loop-taken.invariant.polls;
-      writes = c.in_default-take_turn.ensures.faults.writes.others (λ told. cc) ∙ c.loop-taken.invariant.writes;
+      polls = c.in_default-take_turn.ensures.faults.polls.others (λ failed. cc) ∙ c.loop-taken.invariant.polls;
+      writes = c.in_default-take_turn.ensures.faults.writes.others (λ failed. cc) ∙ c.loop-taken.invariant.writes;
       same = same_then g.L.Link _ _ _ c.loop-taken.invariant.same c.in_default-take_turn.ensures.same;
     }
 
@@ -83,12 +83,12 @@ returns-in-Err-clause-faults g c = record {
 
 pub returns-then-done-clause-faults : goal.returns-then-done-clause-faults
 returns-then-done-clause-faults g c = record {
-  polls = counts_none _ _ _ (c.in_default-take_turn.ensures.faults.polls.others (λ told. cc) ∙ c.loop-taken.invariant.polls) (λ told. cc);
-  writes = counts_none _ _ _ (c.in_default-take_turn.ensures.faults.writes.others (λ told. cc) ∙ c.loop-taken.invariant.writes) (λ told. cc);
+  polls = counts_none _ _ _ (c.in_default-take_turn.ensures.faults.polls.others (λ failed. cc) ∙ c.loop-taken.invariant.polls) (λ failed. cc);
+  writes = counts_none _ _ _ (c.in_default-take_turn.ensures.faults.writes.others (λ failed. cc) ∙ c.loop-taken.invariant.writes) (λ failed. cc);
 }
 
 pub returns-clause-faults : goal.returns-clause-faults
 returns-clause-faults g c = record {
-  polls = counts_none _ _ _ c.loop-taken.invariant.polls (λ told. cc);
-  writes = counts_none _ _ _ c.loop-taken.invariant.writes (λ told. cc);
+  polls = counts_none _ _ _ c.loop-taken.invariant.polls (λ failed. cc);
+  writes = counts_none _ _ _ c.loop-taken.invariant.writes (λ failed. cc);
 }

@@ -1,5 +1,0 @@
-use Rattle.network_laws.proofs.Carrying.{joined_was_told}
-use Rattle.network_laws.proofs.laws.joined_was_told.Goals as goal
-
-pub returns : goal.returns
-returns c = joined_was_told
