@@ -1,0 +1,11 @@
+use Rattle.std.proofs.Common.{◌≡◌, ℕ, List, true}
+use Rattle.fronts.specs.Parts.{is_of}
+use Rattle.fronts.proofs.Parts.{part_is_legal}
+use Rattle.fronts.proofs.part_laws.parts_are_legal.Goals as goal
+use Rattle.nop_types.specs.Lists.{Has}
+
+pub returns : goal.returns
+returns g c lines parts p own history has are legal =
+    let part = g.H.Parted.part in
+    part_is_legal g.H.Host.meaning (λ (op : List ℕ). Has parts (part op)) (is_of part p) (λ s t. g.met.H.Parted.same_part parts p s t ≡ true)
+    (g.met.H.Parted.are_parts parts p has.few has.distinct) lines own are has.all history legal
