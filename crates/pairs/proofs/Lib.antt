@@ -1,0 +1,3 @@
+pub mod SubmittedLemmas
+pub mod PairingLemmas
+pub mod StopLemmas
