@@ -11,7 +11,7 @@
 //! - What may be kept: two fronts with the same members that leave the same state go on alike
 //!   (`fronts_go_on_alike`). So over any `Host` a front goes nowhere where one with the same line, the same
 //!   requests left and the same saved state went nowhere (`failed_configurations_fail_again`).
-//! - Parts: a service is `Parted` where ops of one part do not rest on those of others. A legal history of
+//! - Parts: how a service is `Parted`, so that ops of one part do not rest on those of others. A legal history of
 //!   all lines is one of each part (`parts_are_legal`), and orders of the parts make one of the whole where
 //!   times lie between the lines of each member (`the_whole_is_legal`).
 //!

@@ -10,22 +10,22 @@ ghost use Rattle.nop_types.specs.declared.request.Request.{Request};
 use crate::parted::Parted;
 
 /// A legal history of all lines, without the requests of other parts, is legal for the lines of a part.
-pub fn parts_are_legal<H: Parted>()
+pub fn parts_are_legal<P: Parted>()
     ensures { (lines : List Line) (parts : List (List ℕ)) (p : List ℕ) (own : Line → Bool) (history : List Request)
-        → HasParts H.part H.MAX_PARTS lines parts → AreOwn lines (is_of H.part p) own
-        → Legal H.meaning lines history
-        → Legal H.meaning (filter own lines) (of_part (is_of H.part p) history) }
+        → HasParts P.part P.MAX_PARTS lines parts → AreOwn lines (is_of P.part p) own
+        → Legal P.Service.meaning lines history
+        → Legal P.Service.meaning (filter own lines) (of_part (is_of P.part p) history) }
 {}
 
 /// A history is legal for all lines where it is so for the lines of each part, without the requests of the others, and its members
 /// have times that rise along it and lie between the lines that submit and accept them.
-pub fn the_whole_is_legal<H: Parted>()
+pub fn the_whole_is_legal<P: Parted>()
     ensures { (lines : List Line) (parts : List (List ℕ)) (own : List ℕ → Line → Bool) (history : List Request)
-        (time : ℕ → ℕ) → HasParts H.part H.MAX_PARTS lines parts
-        → ((p : List ℕ) → Has parts p → AreOwn lines (is_of H.part p) (own p))
+        (time : ℕ → ℕ) → HasParts P.part P.MAX_PARTS lines parts
+        → ((p : List ℕ) → Has parts p → AreOwn lines (is_of P.part p) (own p))
         → SubmittedOnce lines → AcceptedOnce lines → AcceptedLater lines
         → ((r : Request) → Has history r → Has lines (Submit r))
         → ((p : List ℕ) → Has parts p
-        → Legal H.meaning (filter (own p) lines) (of_part (is_of H.part p) history))
-        → AreTimed lines history time → Legal H.meaning lines history }
+        → Legal P.Service.meaning (filter (own p) lines) (of_part (is_of P.part p) history))
+        → AreTimed lines history time → Legal P.Service.meaning lines history }
 {}

@@ -4,9 +4,11 @@ ghost use Rattle.nop_types.specs.Lists.{Has};
 
 use nop_types::Host;
 
-/// A service of parts: what the ops of one part do and answer does not rest on ops of other parts, as long as all ops are of at most
-/// `MAX_PARTS` parts. A service without parts has one for all ops.
-pub trait Parted: Host {
+/// How a service is parted: what the ops of one part do and answer does not rest on ops of other parts, as long as all ops are of at
+/// most `MAX_PARTS` parts. A service without parts has one for all ops.
+pub trait Parted {
+    type Service: Host;
+
     ghost MAX_PARTS: { ℕ };
 
     ghost part: { List ℕ → List ℕ };
@@ -18,8 +20,8 @@ pub trait Parted: Host {
         ensures { result.now ≡ part op.now };
 
     /// Whether two states have the same part, where all ops are of these parts.
-    ghost same_part: { List (List ℕ) → List ℕ → Self.State → Self.State → Bool };
+    ghost same_part: { List (List ℕ) → List ℕ → Self.Service.State → Self.Service.State → Bool };
 
     ghost are_parts: { (parts : List (List ℕ)) (p : List ℕ) → length parts ≤ MAX_PARTS → AreDistinct parts
-        → IsPart Self.meaning (λ op. Has parts (part op)) (is_of part p) (λ s t. same_part parts p s t ≡ true) };
+        → IsPart Self.Service.meaning (λ op. Has parts (part op)) (is_of part p) (λ s t. same_part parts p s t ≡ true) };
 }

@@ -6,6 +6,6 @@ use Rattle.nop_types.specs.Lists.{Has}
 
 pub returns : goal.returns
 returns g c lines parts p own history has are legal =
-    let part = g.H.Parted.part in
-    part_is_legal g.H.Host.meaning (λ (op : List ℕ). Has parts (part op)) (is_of part p) (λ s t. g.met.H.Parted.same_part parts p s t ≡ true)
-    (g.met.H.Parted.are_parts parts p has.few has.distinct) lines own are has.all history legal
+    let part = g.P.Parted.part in
+    part_is_legal g.P.Service.Host.meaning (λ (op : List ℕ). Has parts (part op)) (is_of part p) (λ s t. g.met.P.Parted.same_part parts p s t ≡ true)
+    (g.met.P.Parted.are_parts parts p has.few has.distinct) lines own are has.all history legal
