@@ -1,0 +1,9 @@
+pub mod Edits
+pub mod FrontMembers
+pub mod WaitingLemmas
+pub mod MarkLemmas
+pub mod StepLemmas
+pub mod PlaceLemmas
+pub mod SearchLemmas
+pub mod FailedLemmas
+pub mod AgreeLemmas

@@ -1,0 +1,366 @@
+//! A search for an order: where it stands, and what one step does.
+
+ghost use Rattle.std.specs.Prelude.{◌≡◌, ◌+◌, ◌++◌, ◌∷◌, ◌<◌, ◌≤◌, [], ℕ, List, Some, Err, slice_get, slice_set, remove, length, map, true, false, IfOk, IfSome, IfNone, OnOk, MatchBool};
+ghost use Rattle.execution_laws.specs.Legality.{SubmittedOnce};
+ghost use Rattle.fronts.specs.Fronts.{AcceptedLater, GoesOn, HasOrder, IsFront};
+ghost use Rattle.nop_types.specs.Legality.{AcceptedOnce, Legal};
+ghost use Rattle.nop_types.specs.Lines.{Accept};
+ghost use Rattle.order_search.specs.Failing.{AllFailed};
+ghost use Rattle.order_search.specs.Searching.{front_of, AreSteps, IsSearching, UndosFit};
+ghost use Rattle.order_search.specs.Turns.{AllSubmit, IsPassed, IsStuck, history_at};
+ghost use Rattle.pairs.specs.Pairing.{ArePaired};
+ghost use Rattle.transcript_reader.specs.Claims.{lines_of};
+
+use crate::agreeing::agrees;
+use crate::claims::claim_at;
+use crate::failed::{Configuration, Failed};
+use crate::step::Step;
+use crate::stopped::Stopped;
+use nop_types::{Host, NoMemory};
+use pairs::Pairs;
+use std::alloc::Global;
+use transcript_reader::Claim;
+
+/// Where a search stands.
+#[derive(Drop)]
+struct Search<H: Host> {
+    host: H,
+    /// Claims that are passed.
+    line: usize,
+    /// Of those that wait, so many were tried here.
+    next: usize,
+    steps: Vec<Step<H::Undo>>,
+    /// The places of the claims before the line whose requests are not placed, in their order.
+    waiting: Vec<usize>,
+    /// For each claim whether its request is placed.
+    placed: Vec<bool>,
+    failed: Failed,
+}
+
+/// What a step of a search came to.
+#[derive(Clone, Copy)]
+enum Turn {
+    Going,
+    /// All claims are passed.
+    Found,
+    /// No history is legal.
+    Nothing,
+}
+
+/// Notes whether the request of a claim is placed.
+fn mark(placed: &mut Vec<bool>, claim: usize, is_placed: bool)
+    requires { claim < length placed.old.items }
+    ensures { placed.new.items ≡ slice_set placed.old.items claim is_placed }
+{
+    placed[claim] = is_placed;
+}
+
+/// How many were tried with the one at this place. It is one that waits, so the sum fits.
+fn tried(waiting: &Vec<usize>, at: usize) -> usize
+    requires { at < length waiting.now.items }
+    ensures { result ≡ at + 1 }
+{
+    at + 1
+}
+
+impl<H: Host> Search<H> {
+    fn new(alloc: Global, claims: &[Claim]) -> Result<Search<H>, NoMemory>
+        ensures searching { IfOk result (λ s. IsSearching H.meaning H.undo_of (lines_of claims.now)
+            (H.state s.host) s.line s.next s.steps.items s.waiting.items s.placed.items) }
+        ensures fits { IfOk result (λ s. UndosFit (H.fits s.host) s.steps.items) }
+        ensures failed { IfOk result (λ s. AllFailed H.meaning (lines_of claims.now) s.failed.kept.keys) }
+    {
+        let mut placed = Vec::new(alloc);
+        placed.resize(claims.len(), false)?;
+        Ok(Search {
+            host: H::fresh(alloc)?,
+            line: 0,
+            next: 0,
+            steps: Vec::new(alloc),
+            waiting: Vec::new(alloc),
+            placed,
+            failed: Failed::new(alloc),
+        })
+    }
+
+    /// Whether what the claim here accepts is placed.
+    fn is_placed(&self, claims: &[Claim], pairs: &Pairs, client: u32, id: u64) -> bool
+        requires line { (result : List ℕ) × (slice_get (lines_of claims.now) self.now.line ≡ Some (Accept client id result)) }
+        requires paired { ArePaired (lines_of claims.now) (length claims.now) pairs.now.accepts.items pairs.now.submits.items }
+        requires searching { IsSearching H.meaning H.undo_of (lines_of claims.now) (H.state self.now.host)
+            self.now.line self.now.next self.now.steps.items self.now.waiting.items self.now.placed.items }
+        ensures { MatchBool result (IsPassed (lines_of claims.now) self.now.line (front_of (lines_of claims.now) self.now.steps.items))
+            (IsStuck (lines_of claims.now) self.now.line (front_of (lines_of claims.now) self.now.steps.items)) }
+    {
+        let Some(submit) = pairs.submits[self.line] else {
+            unreachable!()
+        };
+        self.placed[submit]
+    }
+
+    /// Passes the claim here, where it submits, or accepts what is placed.
+    fn pass(&mut self, claims: &[Claim], pairs: &Pairs) -> Result<bool, NoMemory>
+        requires within { self.old.line < length claims.now }
+        requires once { SubmittedOnce (lines_of claims.now) }
+        requires paired { ArePaired (lines_of claims.now) (length claims.now) pairs.now.accepts.items pairs.now.submits.items }
+        requires fits { UndosFit (H.fits self.old.host) self.old.steps.items }
+        requires searching { IsSearching H.meaning H.undo_of (lines_of claims.now) (H.state self.old.host)
+            self.old.line self.old.next self.old.steps.items self.old.waiting.items self.old.placed.items }
+        ensures stuck { IfOk result (λ passed. passed ≡ false → IsStuck (lines_of claims.now) self.new.line
+            (front_of (lines_of claims.now) self.new.steps.items)) }
+        ensures failed { self.new.failed ≡ self.old.failed }
+        ensures fits { UndosFit (H.fits self.new.host) self.new.steps.items }
+        ensures searching { OnOk result (IsSearching H.meaning H.undo_of (lines_of claims.now) (H.state self.new.host)
+            self.new.line self.new.next self.new.steps.items self.new.waiting.items self.new.placed.items) }
+    {
+        let line = self.line;
+        match claim_at(claims, line) {
+            Claim::Submitted(_) => {
+                self.waiting.push(line)?;
+                self.line += 1;
+                self.next = 0;
+                Ok(true)
+            }
+            Claim::Accepted { client, id, .. } => {
+                if !self.is_placed(claims, pairs, *client, *id) {
+                    return Ok(false);
+                }
+                self.line += 1;
+                self.next = 0;
+                Ok(true)
+            }
+        }
+    }
+
+    /// Places the request of the claim at `submit`, which waits at `at`; the op is applied.
+    fn place(&mut self, at: usize, submit: usize, undo: H::Undo) -> Result<(), NoMemory>
+        requires waits { at < length self.old.waiting.items }
+        requires marked { submit < length self.old.placed.items }
+        ensures host { self.new.host ≡ self.old.host }
+        ensures line { self.new.line ≡ self.old.line }
+        ensures failed { self.new.failed ≡ self.old.failed }
+        ensures next { OnOk result (self.new.next ≡ 0) }
+        ensures waiting { OnOk result (self.new.waiting.items ≡ remove self.old.waiting.items at) }
+        ensures placed { OnOk result (self.new.placed.items ≡ slice_set self.old.placed.items submit true) }
+        ensures steps { OnOk result (self.new.steps.items ≡ self.old.steps.items ++ record {
+          submit = submit;
+          line = self.old.line;
+          at = at;
+          others = length (remove self.old.waiting.items at);
+          undo = undo;
+        } ∷ []) }
+    {
+        let line = self.line;
+        self.waiting.remove(at);
+        mark(&mut self.placed, submit, true);
+        self.next = 0;
+        let others = self.waiting.len();
+        self.steps.push(Step {
+            submit,
+            line,
+            at,
+            others,
+            undo,
+        })?;
+        Ok(())
+    }
+
+    /// Tries the next one that waits: places its request, where its answer agrees with what claims accept.
+    fn try_next(&mut self, claims: &[Claim], pairs: &Pairs) -> Result<(), NoMemory>
+        requires submitted { SubmittedOnce (lines_of claims.now) }
+        requires accepted { AcceptedOnce (lines_of claims.now) }
+        requires next { self.old.next < length self.old.waiting.items }
+        requires paired { ArePaired (lines_of claims.now) (length claims.now) pairs.now.accepts.items pairs.now.submits.items }
+        requires fits { UndosFit (H.fits self.old.host) self.old.steps.items }
+        requires searching { IsSearching H.meaning H.undo_of (lines_of claims.now) (H.state self.old.host)
+            self.old.line self.old.next self.old.steps.items self.old.waiting.items self.old.placed.items }
+        ensures failed { self.new.failed ≡ self.old.failed }
+        ensures fits { OnOk result (UndosFit (H.fits self.new.host) self.new.steps.items) }
+        ensures searching { OnOk result (IsSearching H.meaning H.undo_of (lines_of claims.now) (H.state self.new.host)
+            self.new.line self.new.next self.new.steps.items self.new.waiting.items self.new.placed.items) }
+    {
+        let at = self.next;
+        let submit = self.waiting[at];
+        let Claim::Submitted(request) = claim_at(claims, submit) else {
+            unreachable!()
+        };
+        let (answer, undo) = self.host.apply(request.op.as_slice())?;
+        if agrees(claims, pairs, submit, request, answer.as_slice()) {
+            return self.place(at, submit, undo);
+        }
+        self.host.undo(undo);
+        self.next += 1;
+        Ok(())
+    }
+
+    /// Takes the last step back, from a front that goes nowhere; then the next one that waited there is tried.
+    fn go_back(&mut self, claims: &[Claim]) -> Result<Turn, NoMemory>
+        requires once { SubmittedOnce (lines_of claims.now) }
+        requires fits { UndosFit (H.fits self.old.host) self.old.steps.items }
+        requires searching { IsSearching H.meaning H.undo_of (lines_of claims.now) (H.state self.old.host)
+            self.old.line self.old.next self.old.steps.items self.old.waiting.items self.old.placed.items }
+        requires fails { GoesOn H.meaning (lines_of claims.now) (front_of (lines_of claims.now) self.old.steps.items) → ⊥ }
+        ensures found { IfOk result (λ turn. turn ≡ Turn.Found → ⊥) }
+        ensures none { IfOk result (λ turn. turn ≡ Turn.Nothing → HasOrder H.meaning (lines_of claims.now) → ⊥) }
+        ensures failed { self.new.failed ≡ self.old.failed }
+        ensures fits { OnOk result (UndosFit (H.fits self.new.host) self.new.steps.items) }
+        ensures searching { IfOk result (λ turn. turn ≡ Turn.Going → IsSearching H.meaning H.undo_of (lines_of claims.now)
+            (H.state self.new.host) self.new.line self.new.next self.new.steps.items self.new.waiting.items
+            self.new.placed.items) }
+    {
+        let Some(step) = self.steps.pop() else {
+            return Ok(Turn::Nothing);
+        };
+        self.host.undo(step.undo);
+        mark(&mut self.placed, step.submit, false);
+        self.waiting.truncate(step.others);
+        self.waiting.insert(step.at, step.submit)?;
+        self.line = step.line;
+        self.next = tried(&self.waiting, step.at);
+        Ok(Turn::Going)
+    }
+
+    /// The configuration here.
+    fn configuration(&self) -> Result<Configuration, NoMemory>
+        ensures { IfOk result (λ c. (c.line ≡ self.now.line) × (c.waiting.items ≡ self.now.waiting.items)
+            × (c.state.items ≡ H.meaning.saved (H.state self.now.host))) }
+    {
+        Ok(Configuration {
+            line: self.line,
+            waiting: self.waiting.clone()?,
+            state: self.host.save()?.into_vec(),
+        })
+    }
+
+    /// Whether the configuration here is known to fail.
+    fn is_failed(&self, claims: &[Claim]) -> Result<bool, NoMemory>
+        requires once { SubmittedOnce (lines_of claims.now) }
+        requires searching { IsSearching H.meaning H.undo_of (lines_of claims.now) (H.state self.now.host)
+            self.now.line self.now.next self.now.steps.items self.now.waiting.items self.now.placed.items }
+        requires failed { AllFailed H.meaning (lines_of claims.now) self.now.failed.kept.keys }
+        ensures { IfOk result (λ b. b ≡ true → GoesOn H.meaning (lines_of claims.now)
+            (front_of (lines_of claims.now) self.now.steps.items) → ⊥) }
+    {
+        if self.failed.is_empty() {
+            return Ok(false);
+        }
+        let here = self.configuration()?;
+        Ok(self.failed.knows(&here))
+    }
+
+    /// Keeps the configuration here, whose front goes nowhere, and takes the last step back.
+    fn fail(&mut self, claims: &[Claim]) -> Result<Turn, NoMemory>
+        requires once { SubmittedOnce (lines_of claims.now) }
+        requires fits { UndosFit (H.fits self.old.host) self.old.steps.items }
+        requires failed { AllFailed H.meaning (lines_of claims.now) self.old.failed.kept.keys }
+        requires searching { IsSearching H.meaning H.undo_of (lines_of claims.now) (H.state self.old.host)
+            self.old.line self.old.next self.old.steps.items self.old.waiting.items self.old.placed.items }
+        requires fails { GoesOn H.meaning (lines_of claims.now) (front_of (lines_of claims.now) self.old.steps.items) → ⊥ }
+        ensures found { IfOk result (λ turn. turn ≡ Turn.Found → ⊥) }
+        ensures none { IfOk result (λ turn. turn ≡ Turn.Nothing → HasOrder H.meaning (lines_of claims.now) → ⊥) }
+        ensures failed { OnOk result (AllFailed H.meaning (lines_of claims.now) self.new.failed.kept.keys) }
+        ensures fits { OnOk result (UndosFit (H.fits self.new.host) self.new.steps.items) }
+        ensures searching { IfOk result (λ turn. turn ≡ Turn.Going → IsSearching H.meaning H.undo_of (lines_of claims.now)
+            (H.state self.new.host) self.new.line self.new.next self.new.steps.items self.new.waiting.items
+            self.new.placed.items) }
+    {
+        let here = self.configuration()?;
+        self.failed.keep(here)?;
+        self.go_back(claims)
+    }
+
+    /// One step where the claim here accepts what is not placed.
+    fn turn_here(&mut self, claims: &[Claim], pairs: &Pairs) -> Result<Turn, NoMemory>
+        requires submitted { SubmittedOnce (lines_of claims.now) }
+        requires accepted { AcceptedOnce (lines_of claims.now) }
+        requires paired { ArePaired (lines_of claims.now) (length claims.now) pairs.now.accepts.items pairs.now.submits.items }
+        requires stuck { IsStuck (lines_of claims.now) self.old.line (front_of (lines_of claims.now) self.old.steps.items) }
+        requires fits { UndosFit (H.fits self.old.host) self.old.steps.items }
+        requires failed { AllFailed H.meaning (lines_of claims.now) self.old.failed.kept.keys }
+        requires searching { IsSearching H.meaning H.undo_of (lines_of claims.now) (H.state self.old.host)
+            self.old.line self.old.next self.old.steps.items self.old.waiting.items self.old.placed.items }
+        ensures found { IfOk result (λ turn. turn ≡ Turn.Found → ⊥) }
+        ensures none { IfOk result (λ turn. turn ≡ Turn.Nothing → HasOrder H.meaning (lines_of claims.now) → ⊥) }
+        ensures failed { OnOk result (AllFailed H.meaning (lines_of claims.now) self.new.failed.kept.keys) }
+        ensures fits { OnOk result (UndosFit (H.fits self.new.host) self.new.steps.items) }
+        ensures searching { IfOk result (λ turn. turn ≡ Turn.Going → IsSearching H.meaning H.undo_of (lines_of claims.now)
+            (H.state self.new.host) self.new.line self.new.next self.new.steps.items self.new.waiting.items
+            self.new.placed.items) }
+    {
+        if self.next >= self.waiting.len() {
+            return self.fail(claims);
+        }
+        if self.next == 0 && self.is_failed(claims)? {
+            return self.go_back(claims);
+        }
+        self.try_next(claims, pairs)?;
+        Ok(Turn::Going)
+    }
+
+    /// One step of the search.
+    fn turn(&mut self, claims: &[Claim], pairs: &Pairs) -> Result<Turn, NoMemory>
+        requires submitted { SubmittedOnce (lines_of claims.now) }
+        requires accepted { AcceptedOnce (lines_of claims.now) }
+        requires paired { ArePaired (lines_of claims.now) (length claims.now) pairs.now.accepts.items pairs.now.submits.items }
+        requires fits { UndosFit (H.fits self.old.host) self.old.steps.items }
+        requires failed { AllFailed H.meaning (lines_of claims.now) self.old.failed.kept.keys }
+        requires searching { IsSearching H.meaning H.undo_of (lines_of claims.now) (H.state self.old.host)
+            self.old.line self.old.next self.old.steps.items self.old.waiting.items self.old.placed.items }
+        ensures found { IfOk result (λ turn. turn ≡ Turn.Found → IsFront H.meaning (lines_of claims.now) (length claims.now)
+            (front_of (lines_of claims.now) self.new.steps.items)) }
+        ensures steps { IfOk result (λ turn. turn ≡ Turn.Found → AreSteps H.meaning H.undo_of (lines_of claims.now) [] []
+            self.new.steps.items self.new.waiting.items) }
+        ensures none { IfOk result (λ turn. turn ≡ Turn.Nothing → HasOrder H.meaning (lines_of claims.now) → ⊥) }
+        ensures failed { OnOk result (AllFailed H.meaning (lines_of claims.now) self.new.failed.kept.keys) }
+        ensures fits { OnOk result (UndosFit (H.fits self.new.host) self.new.steps.items) }
+        ensures searching { IfOk result (λ turn. turn ≡ Turn.Going → IsSearching H.meaning H.undo_of (lines_of claims.now)
+            (H.state self.new.host) self.new.line self.new.next self.new.steps.items self.new.waiting.items
+            self.new.placed.items) }
+    {
+        if self.line >= claims.len() {
+            return Ok(Turn::Found);
+        }
+        if self.pass(claims, pairs)? {
+            return Ok(Turn::Going);
+        }
+        self.turn_here(claims, pairs)
+    }
+
+    /// The places of the claims that submit, in the order in which their requests were placed.
+    fn history(&self, alloc: Global) -> Result<Vec<usize>, NoMemory>
+        ensures { IfOk result (λ v. v.items ≡ map (λ s. s.submit) self.now.steps.items) }
+    {
+        Ok(self.steps.iter().map(|s| s.submit).collect(alloc)?)
+    }
+}
+
+/// Finds an order of the claims in at most as many steps as are left: the places of the claims that submit, in the order of a legal
+/// history; None where no history is legal. A step passes a claim, tries a request, or takes one back.
+pub fn find_order<H: Host>(
+    alloc: Global,
+    claims: &[Claim],
+    pairs: &Pairs,
+    left: &mut u64,
+) -> Result<Option<Vec<usize>>, Stopped>
+    requires submitted { SubmittedOnce (lines_of claims.now) }
+    requires accepted { AcceptedOnce (lines_of claims.now) }
+    requires later { AcceptedLater (lines_of claims.now) }
+    requires paired { ArePaired (lines_of claims.now) (length claims.now) pairs.now.accepts.items pairs.now.submits.items }
+    ensures found { IfOk result (λ o. IfSome o (λ places. Legal H.meaning (lines_of claims.now)
+        (history_at (lines_of claims.now) places.items))) }
+    ensures places { IfOk result (λ o. IfSome o (λ places. AllSubmit (lines_of claims.now) places.items)) }
+    ensures none { IfOk result (λ o. IfNone o (HasOrder H.meaning (lines_of claims.now) → ⊥)) }
+    ensures spent { result ≡ Err Stopped.Spent → left.new ≡ 0 }
+    ensures left { left.new ≤ left.old }
+{
+    let mut search = Search::<H>::new(alloc, claims)?;
+    while *left > 0 {
+        *left -= 1;
+        match search.turn(claims, pairs)? {
+            Turn::Going => {}
+            Turn::Found => return Ok(Some(search.history(alloc)?)),
+            Turn::Nothing => return Ok(None),
+        }
+    }
+    Err(Stopped::Spent)
+}
