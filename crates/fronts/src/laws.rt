@@ -25,7 +25,8 @@ pub fn front_opens<S>()
 
 /// A front stays right where one more line is passed, which accepts nothing or a member.
 pub fn front_passes<S>()
-    ensures { (m : Meaning S) (lines : List Line) (k : ℕ) (front : List Request) → IsFront m lines k front
+    ensures { (m : Meaning S) (lines : List Line) (k : ℕ) (front : List Request)
+        → IsFront m lines k front
         → ((client id : ℕ) (result : List ℕ) → slice_get lines k ≡ Some (Accept client id result)
         → IsMember front client id)
         → IsFront m lines (k + 1) front }
@@ -63,7 +64,8 @@ pub fn fronts_go_on_alike<S>()
 
 /// A front whose configuration failed goes nowhere: saved states tell states apart.
 pub fn failed_configurations_fail_again<H: Host>()
-    ensures { (lines : List Line) (k : ℕ) (places saved : List ℕ) (front : List Request) → SubmittedOnce lines
+    ensures { (lines : List Line) (k : ℕ) (places saved : List ℕ) (front : List Request)
+        → SubmittedOnce lines
         → IsFailed H.meaning lines k places saved → IsFront H.meaning lines k front
         → AreLeft lines k front places
         → H.meaning.saved (after_all H.meaning H.meaning.opening front) ≡ saved

@@ -11,7 +11,8 @@ use crate::parted::Parted;
 
 /// A legal history of all lines, without the requests of other parts, is legal for the lines of a part.
 pub fn parts_are_legal<P: Parted>()
-    ensures { (lines : List Line) (parts : List (List ℕ)) (p : List ℕ) (own : Line → Bool) (history : List Request)
+    ensures { (lines : List Line) (parts : List (List ℕ)) (p : List ℕ) (own : Line
+        → Bool) (history : List Request)
         → HasParts P.part P.MAX_PARTS lines parts → AreOwn lines (is_of P.part p) own
         → Legal P.Service.meaning lines history
         → Legal P.Service.meaning (filter own lines) (of_part (is_of P.part p) history) }
@@ -20,7 +21,8 @@ pub fn parts_are_legal<P: Parted>()
 /// A history is legal for all lines where it is so for the lines of each part, without the requests of the others, and its members
 /// have times that rise along it and lie between the lines that submit and accept them.
 pub fn the_whole_is_legal<P: Parted>()
-    ensures { (lines : List Line) (parts : List (List ℕ)) (own : List ℕ → Line → Bool) (history : List Request)
+    ensures { (lines : List Line) (parts : List (List ℕ)) (own : List ℕ → Line
+        → Bool) (history : List Request)
         (time : ℕ → ℕ) → HasParts P.part P.MAX_PARTS lines parts
         → ((p : List ℕ) → Has parts p → AreOwn lines (is_of P.part p) (own p))
         → SubmittedOnce lines → AcceptedOnce lines → AcceptedLater lines

@@ -12,7 +12,8 @@ use transcript_reader::Claim;
 
 /// Whether a claim that accepts accepts this answer.
 fn accepts(claim: &Claim, answer: &[u8]) -> bool
-    ensures { MatchBool result (Accepts answer.now (line_of claim.now)) (Differs answer.now (line_of claim.now)) }
+    ensures { MatchBool result (Accepts answer.now (line_of claim.now)) (Differs answer.now
+        (line_of claim.now)) }
 {
     match claim {
         Claim::Submitted(_) => true,
@@ -28,10 +29,12 @@ pub(crate) fn agrees(
     request: &Request,
     answer: &[u8],
 ) -> bool
-    requires paired { ArePaired (lines_of claims.now) (length claims.now) pairs.now.accepts.items pairs.now.submits.items }
+    requires paired { ArePaired (lines_of claims.now)
+        (length claims.now) pairs.now.accepts.items pairs.now.submits.items }
     requires once { AcceptedOnce (lines_of claims.now) }
     requires line { slice_get (lines_of claims.now) submit ≡ Some (Submit request.now) }
-    ensures { MatchBool result (AllAccept (lines_of claims.now) request.now.client request.now.id answer.now)
+    ensures { MatchBool result (AllAccept
+        (lines_of claims.now) request.now.client request.now.id answer.now)
         (AllAccept (lines_of claims.now) request.now.client request.now.id answer.now → ⊥) }
 {
     match pairs.accepts[submit] {

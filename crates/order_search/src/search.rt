@@ -68,7 +68,8 @@ impl<H: Host> Search<H> {
         ensures searching { IfOk result (λ s. IsSearching H.meaning H.undo_of (lines_of claims.now)
             (H.state s.host) s.line s.next s.steps.items s.waiting.items s.placed.items) }
         ensures fits { IfOk result (λ s. UndosFit (H.fits s.host) s.steps.items) }
-        ensures failed { IfOk result (λ s. AllFailed H.meaning (lines_of claims.now) s.failed.kept.keys) }
+        ensures failed { IfOk result (λ s. AllFailed H.meaning
+            (lines_of claims.now) s.failed.kept.keys) }
     {
         let mut placed = Vec::new(alloc);
         placed.resize(claims.len(), false)?;
@@ -85,11 +86,15 @@ impl<H: Host> Search<H> {
 
     /// Whether what the claim here accepts is placed.
     fn is_placed(&self, claims: &[Claim], pairs: &Pairs, client: u32, id: u64) -> bool
-        requires line { (result : List ℕ) × (slice_get (lines_of claims.now) self.now.line ≡ Some (Accept client id result)) }
-        requires paired { ArePaired (lines_of claims.now) (length claims.now) pairs.now.accepts.items pairs.now.submits.items }
-        requires searching { IsSearching H.meaning H.undo_of (lines_of claims.now) (H.state self.now.host)
+        requires line { (result : List ℕ)
+            × (slice_get (lines_of claims.now) self.now.line ≡ Some (Accept client id result)) }
+        requires paired { ArePaired (lines_of claims.now)
+            (length claims.now) pairs.now.accepts.items pairs.now.submits.items }
+        requires searching { IsSearching H.meaning H.undo_of (lines_of claims.now)
+            (H.state self.now.host)
             self.now.line self.now.next self.now.steps.items self.now.waiting.items self.now.placed.items }
-        ensures { MatchBool result (IsPassed (lines_of claims.now) self.now.line (front_of (lines_of claims.now) self.now.steps.items))
+        ensures { MatchBool result (IsPassed (lines_of claims.now) self.now.line (front_of
+            (lines_of claims.now) self.now.steps.items))
             (IsStuck (lines_of claims.now) self.now.line (front_of (lines_of claims.now) self.now.steps.items)) }
     {
         let Some(submit) = pairs.submits[self.line] else {
@@ -102,15 +107,19 @@ impl<H: Host> Search<H> {
     fn pass(&mut self, claims: &[Claim], pairs: &Pairs) -> Result<bool, NoMemory>
         requires within { self.old.line < length claims.now }
         requires once { SubmittedOnce (lines_of claims.now) }
-        requires paired { ArePaired (lines_of claims.now) (length claims.now) pairs.now.accepts.items pairs.now.submits.items }
+        requires paired { ArePaired (lines_of claims.now)
+            (length claims.now) pairs.now.accepts.items pairs.now.submits.items }
         requires fits { UndosFit (H.fits self.old.host) self.old.steps.items }
-        requires searching { IsSearching H.meaning H.undo_of (lines_of claims.now) (H.state self.old.host)
+        requires searching { IsSearching H.meaning H.undo_of (lines_of claims.now)
+            (H.state self.old.host)
             self.old.line self.old.next self.old.steps.items self.old.waiting.items self.old.placed.items }
-        ensures stuck { IfOk result (λ passed. passed ≡ false → IsStuck (lines_of claims.now) self.new.line
+        ensures stuck { IfOk result (λ passed. passed ≡ false
+            → IsStuck (lines_of claims.now) self.new.line
             (front_of (lines_of claims.now) self.new.steps.items)) }
         ensures failed { self.new.failed ≡ self.old.failed }
         ensures fits { UndosFit (H.fits self.new.host) self.new.steps.items }
-        ensures searching { OnOk result (IsSearching H.meaning H.undo_of (lines_of claims.now) (H.state self.new.host)
+        ensures searching { OnOk result (IsSearching H.meaning H.undo_of (lines_of claims.now)
+            (H.state self.new.host)
             self.new.line self.new.next self.new.steps.items self.new.waiting.items self.new.placed.items) }
     {
         let line = self.line;
@@ -141,7 +150,8 @@ impl<H: Host> Search<H> {
         ensures failed { self.new.failed ≡ self.old.failed }
         ensures next { OnOk result (self.new.next ≡ 0) }
         ensures waiting { OnOk result (self.new.waiting.items ≡ remove self.old.waiting.items at) }
-        ensures placed { OnOk result (self.new.placed.items ≡ slice_set self.old.placed.items submit true) }
+        ensures placed { OnOk result (self.new.placed.items
+            ≡ slice_set self.old.placed.items submit true) }
         ensures steps { OnOk result (self.new.steps.items ≡ self.old.steps.items ++ record {
           submit = submit;
           line = self.old.line;
@@ -170,13 +180,16 @@ impl<H: Host> Search<H> {
         requires submitted { SubmittedOnce (lines_of claims.now) }
         requires accepted { AcceptedOnce (lines_of claims.now) }
         requires next { self.old.next < length self.old.waiting.items }
-        requires paired { ArePaired (lines_of claims.now) (length claims.now) pairs.now.accepts.items pairs.now.submits.items }
+        requires paired { ArePaired (lines_of claims.now)
+            (length claims.now) pairs.now.accepts.items pairs.now.submits.items }
         requires fits { UndosFit (H.fits self.old.host) self.old.steps.items }
-        requires searching { IsSearching H.meaning H.undo_of (lines_of claims.now) (H.state self.old.host)
+        requires searching { IsSearching H.meaning H.undo_of (lines_of claims.now)
+            (H.state self.old.host)
             self.old.line self.old.next self.old.steps.items self.old.waiting.items self.old.placed.items }
         ensures failed { self.new.failed ≡ self.old.failed }
         ensures fits { OnOk result (UndosFit (H.fits self.new.host) self.new.steps.items) }
-        ensures searching { OnOk result (IsSearching H.meaning H.undo_of (lines_of claims.now) (H.state self.new.host)
+        ensures searching { OnOk result (IsSearching H.meaning H.undo_of (lines_of claims.now)
+            (H.state self.new.host)
             self.new.line self.new.next self.new.steps.items self.new.waiting.items self.new.placed.items) }
     {
         let at = self.next;
@@ -197,14 +210,18 @@ impl<H: Host> Search<H> {
     fn go_back(&mut self, claims: &[Claim]) -> Result<Turn, NoMemory>
         requires once { SubmittedOnce (lines_of claims.now) }
         requires fits { UndosFit (H.fits self.old.host) self.old.steps.items }
-        requires searching { IsSearching H.meaning H.undo_of (lines_of claims.now) (H.state self.old.host)
+        requires searching { IsSearching H.meaning H.undo_of (lines_of claims.now)
+            (H.state self.old.host)
             self.old.line self.old.next self.old.steps.items self.old.waiting.items self.old.placed.items }
-        requires fails { GoesOn H.meaning (lines_of claims.now) (front_of (lines_of claims.now) self.old.steps.items) → ⊥ }
+        requires fails { GoesOn H.meaning (lines_of claims.now) (front_of
+            (lines_of claims.now) self.old.steps.items) → ⊥ }
         ensures found { IfOk result (λ turn. turn ≡ Turn.Found → ⊥) }
-        ensures none { IfOk result (λ turn. turn ≡ Turn.Nothing → HasOrder H.meaning (lines_of claims.now) → ⊥) }
+        ensures none { IfOk result (λ turn. turn ≡ Turn.Nothing
+            → HasOrder H.meaning (lines_of claims.now) → ⊥) }
         ensures failed { self.new.failed ≡ self.old.failed }
         ensures fits { OnOk result (UndosFit (H.fits self.new.host) self.new.steps.items) }
-        ensures searching { IfOk result (λ turn. turn ≡ Turn.Going → IsSearching H.meaning H.undo_of (lines_of claims.now)
+        ensures searching { IfOk result (λ turn. turn ≡ Turn.Going
+            → IsSearching H.meaning H.undo_of (lines_of claims.now)
             (H.state self.new.host) self.new.line self.new.next self.new.steps.items self.new.waiting.items
             self.new.placed.items) }
     {
@@ -222,7 +239,8 @@ impl<H: Host> Search<H> {
 
     /// The configuration here.
     fn configuration(&self) -> Result<Configuration, NoMemory>
-        ensures { IfOk result (λ c. (c.line ≡ self.now.line) × (c.waiting.items ≡ self.now.waiting.items)
+        ensures { IfOk result (λ c. (c.line ≡ self.now.line)
+            × (c.waiting.items ≡ self.now.waiting.items)
             × (c.state.items ≡ H.meaning.saved (H.state self.now.host))) }
     {
         Ok(Configuration {
@@ -235,7 +253,8 @@ impl<H: Host> Search<H> {
     /// Whether the configuration here is known to fail.
     fn is_failed(&self, claims: &[Claim]) -> Result<bool, NoMemory>
         requires once { SubmittedOnce (lines_of claims.now) }
-        requires searching { IsSearching H.meaning H.undo_of (lines_of claims.now) (H.state self.now.host)
+        requires searching { IsSearching H.meaning H.undo_of (lines_of claims.now)
+            (H.state self.now.host)
             self.now.line self.now.next self.now.steps.items self.now.waiting.items self.now.placed.items }
         requires failed { AllFailed H.meaning (lines_of claims.now) self.now.failed.kept.keys }
         ensures { IfOk result (λ b. b ≡ true → GoesOn H.meaning (lines_of claims.now)
@@ -253,14 +272,19 @@ impl<H: Host> Search<H> {
         requires once { SubmittedOnce (lines_of claims.now) }
         requires fits { UndosFit (H.fits self.old.host) self.old.steps.items }
         requires failed { AllFailed H.meaning (lines_of claims.now) self.old.failed.kept.keys }
-        requires searching { IsSearching H.meaning H.undo_of (lines_of claims.now) (H.state self.old.host)
+        requires searching { IsSearching H.meaning H.undo_of (lines_of claims.now)
+            (H.state self.old.host)
             self.old.line self.old.next self.old.steps.items self.old.waiting.items self.old.placed.items }
-        requires fails { GoesOn H.meaning (lines_of claims.now) (front_of (lines_of claims.now) self.old.steps.items) → ⊥ }
+        requires fails { GoesOn H.meaning (lines_of claims.now) (front_of
+            (lines_of claims.now) self.old.steps.items) → ⊥ }
         ensures found { IfOk result (λ turn. turn ≡ Turn.Found → ⊥) }
-        ensures none { IfOk result (λ turn. turn ≡ Turn.Nothing → HasOrder H.meaning (lines_of claims.now) → ⊥) }
-        ensures failed { OnOk result (AllFailed H.meaning (lines_of claims.now) self.new.failed.kept.keys) }
+        ensures none { IfOk result (λ turn. turn ≡ Turn.Nothing
+            → HasOrder H.meaning (lines_of claims.now) → ⊥) }
+        ensures failed { OnOk result (AllFailed H.meaning
+            (lines_of claims.now) self.new.failed.kept.keys) }
         ensures fits { OnOk result (UndosFit (H.fits self.new.host) self.new.steps.items) }
-        ensures searching { IfOk result (λ turn. turn ≡ Turn.Going → IsSearching H.meaning H.undo_of (lines_of claims.now)
+        ensures searching { IfOk result (λ turn. turn ≡ Turn.Going
+            → IsSearching H.meaning H.undo_of (lines_of claims.now)
             (H.state self.new.host) self.new.line self.new.next self.new.steps.items self.new.waiting.items
             self.new.placed.items) }
     {
@@ -273,17 +297,23 @@ impl<H: Host> Search<H> {
     fn turn_here(&mut self, claims: &[Claim], pairs: &Pairs) -> Result<Turn, NoMemory>
         requires submitted { SubmittedOnce (lines_of claims.now) }
         requires accepted { AcceptedOnce (lines_of claims.now) }
-        requires paired { ArePaired (lines_of claims.now) (length claims.now) pairs.now.accepts.items pairs.now.submits.items }
-        requires stuck { IsStuck (lines_of claims.now) self.old.line (front_of (lines_of claims.now) self.old.steps.items) }
+        requires paired { ArePaired (lines_of claims.now)
+            (length claims.now) pairs.now.accepts.items pairs.now.submits.items }
+        requires stuck { IsStuck (lines_of claims.now) self.old.line (front_of
+            (lines_of claims.now) self.old.steps.items) }
         requires fits { UndosFit (H.fits self.old.host) self.old.steps.items }
         requires failed { AllFailed H.meaning (lines_of claims.now) self.old.failed.kept.keys }
-        requires searching { IsSearching H.meaning H.undo_of (lines_of claims.now) (H.state self.old.host)
+        requires searching { IsSearching H.meaning H.undo_of (lines_of claims.now)
+            (H.state self.old.host)
             self.old.line self.old.next self.old.steps.items self.old.waiting.items self.old.placed.items }
         ensures found { IfOk result (λ turn. turn ≡ Turn.Found → ⊥) }
-        ensures none { IfOk result (λ turn. turn ≡ Turn.Nothing → HasOrder H.meaning (lines_of claims.now) → ⊥) }
-        ensures failed { OnOk result (AllFailed H.meaning (lines_of claims.now) self.new.failed.kept.keys) }
+        ensures none { IfOk result (λ turn. turn ≡ Turn.Nothing
+            → HasOrder H.meaning (lines_of claims.now) → ⊥) }
+        ensures failed { OnOk result (AllFailed H.meaning
+            (lines_of claims.now) self.new.failed.kept.keys) }
         ensures fits { OnOk result (UndosFit (H.fits self.new.host) self.new.steps.items) }
-        ensures searching { IfOk result (λ turn. turn ≡ Turn.Going → IsSearching H.meaning H.undo_of (lines_of claims.now)
+        ensures searching { IfOk result (λ turn. turn ≡ Turn.Going
+            → IsSearching H.meaning H.undo_of (lines_of claims.now)
             (H.state self.new.host) self.new.line self.new.next self.new.steps.items self.new.waiting.items
             self.new.placed.items) }
     {
@@ -301,19 +331,26 @@ impl<H: Host> Search<H> {
     fn turn(&mut self, claims: &[Claim], pairs: &Pairs) -> Result<Turn, NoMemory>
         requires submitted { SubmittedOnce (lines_of claims.now) }
         requires accepted { AcceptedOnce (lines_of claims.now) }
-        requires paired { ArePaired (lines_of claims.now) (length claims.now) pairs.now.accepts.items pairs.now.submits.items }
+        requires paired { ArePaired (lines_of claims.now)
+            (length claims.now) pairs.now.accepts.items pairs.now.submits.items }
         requires fits { UndosFit (H.fits self.old.host) self.old.steps.items }
         requires failed { AllFailed H.meaning (lines_of claims.now) self.old.failed.kept.keys }
-        requires searching { IsSearching H.meaning H.undo_of (lines_of claims.now) (H.state self.old.host)
+        requires searching { IsSearching H.meaning H.undo_of (lines_of claims.now)
+            (H.state self.old.host)
             self.old.line self.old.next self.old.steps.items self.old.waiting.items self.old.placed.items }
-        ensures found { IfOk result (λ turn. turn ≡ Turn.Found → IsFront H.meaning (lines_of claims.now) (length claims.now)
+        ensures found { IfOk result (λ turn. turn ≡ Turn.Found
+            → IsFront H.meaning (lines_of claims.now) (length claims.now)
             (front_of (lines_of claims.now) self.new.steps.items)) }
-        ensures steps { IfOk result (λ turn. turn ≡ Turn.Found → AreSteps H.meaning H.undo_of (lines_of claims.now) [] []
+        ensures steps { IfOk result (λ turn. turn ≡ Turn.Found
+            → AreSteps H.meaning H.undo_of (lines_of claims.now) [] []
             self.new.steps.items self.new.waiting.items) }
-        ensures none { IfOk result (λ turn. turn ≡ Turn.Nothing → HasOrder H.meaning (lines_of claims.now) → ⊥) }
-        ensures failed { OnOk result (AllFailed H.meaning (lines_of claims.now) self.new.failed.kept.keys) }
+        ensures none { IfOk result (λ turn. turn ≡ Turn.Nothing
+            → HasOrder H.meaning (lines_of claims.now) → ⊥) }
+        ensures failed { OnOk result (AllFailed H.meaning
+            (lines_of claims.now) self.new.failed.kept.keys) }
         ensures fits { OnOk result (UndosFit (H.fits self.new.host) self.new.steps.items) }
-        ensures searching { IfOk result (λ turn. turn ≡ Turn.Going → IsSearching H.meaning H.undo_of (lines_of claims.now)
+        ensures searching { IfOk result (λ turn. turn ≡ Turn.Going
+            → IsSearching H.meaning H.undo_of (lines_of claims.now)
             (H.state self.new.host) self.new.line self.new.next self.new.steps.items self.new.waiting.items
             self.new.placed.items) }
     {
@@ -345,10 +382,12 @@ pub fn find_order<H: Host>(
     requires submitted { SubmittedOnce (lines_of claims.now) }
     requires accepted { AcceptedOnce (lines_of claims.now) }
     requires later { AcceptedLater (lines_of claims.now) }
-    requires paired { ArePaired (lines_of claims.now) (length claims.now) pairs.now.accepts.items pairs.now.submits.items }
+    requires paired { ArePaired (lines_of claims.now)
+        (length claims.now) pairs.now.accepts.items pairs.now.submits.items }
     ensures found { IfOk result (λ o. IfSome o (λ places. Legal H.meaning (lines_of claims.now)
         (history_at (lines_of claims.now) places.items))) }
-    ensures places { IfOk result (λ o. IfSome o (λ places. AllSubmit (lines_of claims.now) places.items)) }
+    ensures places { IfOk result (λ o. IfSome o (λ places. AllSubmit
+        (lines_of claims.now) places.items)) }
     ensures none { IfOk result (λ o. IfNone o (HasOrder H.meaning (lines_of claims.now) → ⊥)) }
     ensures spent { result ≡ Err Stopped.Spent → left.new ≡ 0 }
     ensures left { left.new ≤ left.old }

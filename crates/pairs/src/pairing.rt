@@ -54,7 +54,8 @@ impl Pairing {
         requires line { slice_get (lines_of claims.now) place ≡ Some (Submit request.now) }
         requires pairing { IsPairing (lines_of claims.now) place (place_in self.old.submitted)
             self.old.pairs.accepts.items self.old.pairs.submits.items }
-        ensures ok { OnOk result (IsPairing (lines_of claims.now) (place + 1) (place_in self.new.submitted)
+        ensures ok { OnOk result (IsPairing (lines_of claims.now) (place + 1)
+            (place_in self.new.submitted)
             self.new.pairs.accepts.items self.new.pairs.submits.items) }
         ensures err { IfErr result (StopsAt (lines_of claims.now)) }
     {
@@ -75,10 +76,12 @@ impl Pairing {
         client: u32,
         id: u64,
     ) -> Result<(), Unpaired>
-        requires line { (result : List ℕ) × (slice_get (lines_of claims.now) place ≡ Some (Accept client id result)) }
+        requires line { (result : List ℕ)
+            × (slice_get (lines_of claims.now) place ≡ Some (Accept client id result)) }
         requires pairing { IsPairing (lines_of claims.now) place (place_in self.old.submitted)
             self.old.pairs.accepts.items self.old.pairs.submits.items }
-        ensures ok { OnOk result (IsPairing (lines_of claims.now) (place + 1) (place_in self.new.submitted)
+        ensures ok { OnOk result (IsPairing (lines_of claims.now) (place + 1)
+            (place_in self.new.submitted)
             self.new.pairs.accepts.items self.new.pairs.submits.items) }
         ensures err { IfErr result (StopsAt (lines_of claims.now)) }
     {
@@ -98,7 +101,8 @@ impl Pairing {
         requires place { place < length claims.now }
         requires pairing { IsPairing (lines_of claims.now) place (place_in self.old.submitted)
             self.old.pairs.accepts.items self.old.pairs.submits.items }
-        ensures ok { OnOk result (IsPairing (lines_of claims.now) (place + 1) (place_in self.new.submitted)
+        ensures ok { OnOk result (IsPairing (lines_of claims.now) (place + 1)
+            (place_in self.new.submitted)
             self.new.pairs.accepts.items self.new.pairs.submits.items) }
         ensures err { IfErr result (StopsAt (lines_of claims.now)) }
     {
@@ -111,7 +115,8 @@ impl Pairing {
 
 /// The pairs of claims, in one pass; or the first claim that submits what was submitted, or accepts what was not or is accepted.
 pub fn pairs_of(alloc: Global, claims: &[Claim]) -> Result<Pairs, Unpaired>
-    ensures paired { IfOk result (λ p. ArePaired (lines_of claims.now) (length claims.now) p.accepts.items p.submits.items) }
+    ensures paired { IfOk result (λ p. ArePaired (lines_of claims.now)
+        (length claims.now) p.accepts.items p.submits.items) }
     ensures submitted { OnOk result (SubmittedOnce (lines_of claims.now)) }
     ensures accepted { OnOk result (AcceptedOnce (lines_of claims.now)) }
     ensures later { OnOk result (AcceptedLater (lines_of claims.now)) }
