@@ -98,6 +98,7 @@ peer_codec HEAD_BYTES
 peer_codec SENDER_AT
 peer_codec LEAST_CLIENT
 fragments PARTS_AHEAD
+kv_parts MAX_PARTS
 network SHARED_LEN
 network LOOKBACK
 network LINE_ROOM
