@@ -22,7 +22,8 @@ ghost use Rattle.client_quorum.specs.Runs.{EndsWith, Stands, TakesTurns};
 
 /// A step of a client is a step of its requests.
 pub fn steps_its_requests()
-    ensures state { (c : core.Client) (x : Given) → (core.next c x).0.requests ≡ (next c.requests x).0 }
+    ensures state { (c : core.Client) (x : Given) →
+        (core.next c x).0.requests ≡ (next c.requests x).0 }
     ensures outs { (c : core.Client) (x : Given) → (core.next c x).1 ≡ (next c.requests x).1 }
 {}
 
@@ -41,7 +42,8 @@ pub fn rows_move_open_requests()
         kept_for (opening config number ops) id ≡ [] }
     ensures opens { (s : ClientState) (r : Request) (waiting : List (List ℕ)) →
         has_room s ≡ true → IsOpened s (submitted (record s { waiting = waiting }) r) r }
-    ensures keeps { (s : ClientState) (p : Reply) → is_open s p.id ≡ true → IsKept s (kept s p) p }
+    ensures keeps { (s : ClientState) (p : Reply) →
+        is_open s p.id ≡ true → IsKept s (kept s p) p }
     ensures closes { (s : ClientState) (id : ℕ) (p : Reply) → is_open s id ≡ true →
         IsClosed s (accepts s id p) id p.result }
 {}

@@ -42,8 +42,8 @@ pub fn history_of_next_entry()
 
 /// A request adds nothing where its client has the same id before it, or one a window ahead.
 pub fn repeat_is_no_member()
-    ensures repeated { (log : List Entry) (q r : Request) → Has log (Req q) → q.client ≡ r.client
-        → q.id ≡ r.id → history_of (log ++ Req r ∷ []) ≡ history_of log }
+    ensures repeated { (log : List Entry) (q r : Request) → Has log (Req q)
+        → q.client ≡ r.client → q.id ≡ r.id → history_of (log ++ Req r ∷ []) ≡ history_of log }
     ensures stale { (log : List Entry) (q r : Request) → Has log (Req q) → q.client ≡ r.client
         → r.id + WINDOW ≤ q.id → history_of (log ++ Req r ∷ []) ≡ history_of log }
 {}

@@ -91,8 +91,8 @@ impl<H: Host> Executor<H> {
     /// Nothing is executed yet.
     pub fn new(alloc: Global) -> Result<Executor<H>, NoMemory>
         ensures reached { IfOk result (λ e. reached e ≡ 0) }
-        ensures run { IfOk result (λ e. (log : Log) → log.sync_point ≡ 0 → log.checkpoint ≡ None
-            → HasExecuted H.state H.meaning H.undo_of log e) }
+        ensures run { IfOk result (λ e. (log : Log) → log.sync_point ≡ 0
+            → log.checkpoint ≡ None → HasExecuted H.state H.meaning H.undo_of log e) }
         ensures failed { IfOk result (λ e. e.failed ≡ false) }
     {
         Ok(Executor {

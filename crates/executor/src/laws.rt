@@ -48,8 +48,8 @@ pub fn execution_stays<H, S, U>()
     ensures noop { (state : H → S) (m : Meaning S) (undo_of : S → List ℕ → U) (log : Log)
         (r : Running H U) (n : ℕ) → HasExecuted state m undo_of log r → reached r < n
         → HasExecuted state m undo_of (with_noop Trimmed log n) r }
-    ensures other { (state : H → S) (m : Meaning S) (undo_of : S → List ℕ → U) (log other : Log)
-        (r : Running H U) → HasExecuted state m undo_of log r
+    ensures other { (state : H → S) (m : Meaning S) (undo_of : S → List ℕ → U)
+        (log other : Log) (r : Running H U) → HasExecuted state m undo_of log r
         → other.sync_point ≡ log.sync_point → other.checkpoint ≡ log.checkpoint
         → take (length r.undos) other.entries ≡ take (length r.undos) log.entries
         → HasExecuted state m undo_of other r }

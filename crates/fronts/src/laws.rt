@@ -41,8 +41,8 @@ pub fn front_places<S>()
 
 /// A front that is right for all lines is a legal history.
 pub fn fronts_behind_all_lines_are_legal<S>()
-    ensures { (m : Meaning S) (lines : List Line) (front : List Request) (k : ℕ) → length lines ≤ k
-        → AcceptedOnce lines → AcceptedLater lines → IsFront m lines k front
+    ensures { (m : Meaning S) (lines : List Line) (front : List Request) (k : ℕ)
+        → length lines ≤ k → AcceptedOnce lines → AcceptedLater lines → IsFront m lines k front
         → Legal m lines front }
 {}
 

@@ -22,6 +22,7 @@ pub trait Parted {
     /// Whether two states have the same part, where all ops are of these parts.
     ghost same_part: { List (List ℕ) → List ℕ → Self.Service.State → Self.Service.State → Bool };
 
-    ghost are_parts: { (parts : List (List ℕ)) (p : List ℕ) → length parts ≤ MAX_PARTS → AreDistinct parts
-        → IsPart Self.Service.meaning (λ op. Has parts (part op)) (is_of part p) (λ s t. same_part parts p s t ≡ true) };
+    ghost are_parts: { (parts : List (List ℕ)) (p : List ℕ) → length parts ≤ MAX_PARTS
+        → AreDistinct parts → IsPart Self.Service.meaning (λ op. Has parts (part op))
+        (is_of part p) (λ s t. same_part parts p s t ≡ true) };
 }

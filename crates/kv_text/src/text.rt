@@ -94,7 +94,8 @@ fn with_values(
     old: &Bytes,
     new: &Bytes,
 ) -> Result<Option<Op>, NoMemory>
-    ensures { IfOk result (λ op. op ≡ op_of (word.now ∷ key.now ∷ old.now ∷ new.now ∷ [])) }
+    ensures { IfOk result (λ op.
+        op ≡ op_of (word.now ∷ key.now ∷ old.now ∷ new.now ∷ [])) }
 {
     let Some(key) = bytes_of(alloc, key.as_slice())? else {
         return Ok(None);

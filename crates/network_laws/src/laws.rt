@@ -71,8 +71,9 @@ pub fn rows_send_within_the_configuration<S>()
 /// in them, a message that one more of them completes was sent by that fragment's replica, and is
 /// in its ranges.
 pub fn joined_was_sent()
-    ensures { (peer_messages : List Peer) (net : List Fragment) (used : ℕ → ℕ) (all : List Waiting)
-        (f : Fragment) (bytes : List ℕ) (p : Peer) → Carried peer_messages net used → Has net f
+    ensures { (peer_messages : List Peer) (net : List Fragment) (used : ℕ → ℕ)
+        (all : List Waiting) (f : Fragment) (bytes : List ℕ) (p : Peer)
+        → Carried peer_messages net used → Has net f
         → AllCame net all → (taken all f).1 ≡ Some bytes → reading bytes ≡ Ok p
         → WasSentInRange peer_messages f p }
 {}
@@ -125,8 +126,8 @@ pub fn fragments_bring_messages<S>()
 /// Whatever comes to a replica of a network, it takes the row of something that was sent,
 /// or none. What it sends is carried, and it stays in the network.
 pub fn steps_deliver<S>()
-    ensures { (m : Meaning S) → Bounds m Trimmed → (peer_messages : List Peer) (sent : List (List ℕ))
-        (used : ℕ → ℕ) (r : ℕ) (s : Replica) (given : Given) → Network peer_messages sent used
-        → InNetwork sent used r s → MayCome sent given
+    ensures { (m : Meaning S) → Bounds m Trimmed → (peer_messages : List Peer)
+        (sent : List (List ℕ)) (used : ℕ → ℕ) (r : ℕ) (s : Replica) (given : Given)
+        → Network peer_messages sent used → InNetwork sent used r s → MayCome sent given
         → Delivers m peer_messages sent used r s (next m s given) }
 {}

@@ -222,8 +222,8 @@ impl<H: Host> Search<H> {
         ensures fits { OnOk result (UndosFit (H.fits self.new.host) self.new.steps.items) }
         ensures searching { IfOk result (λ turn. turn ≡ Turn.Going
             → IsSearching H.meaning H.undo_of (lines_of claims.now)
-            (H.state self.new.host) self.new.line self.new.next self.new.steps.items self.new.waiting.items
-            self.new.placed.items) }
+            (H.state self.new.host) self.new.line self.new.next self.new.steps.items
+            self.new.waiting.items self.new.placed.items) }
     {
         let Some(step) = self.steps.pop() else {
             return Ok(Turn::Nothing);
@@ -285,8 +285,8 @@ impl<H: Host> Search<H> {
         ensures fits { OnOk result (UndosFit (H.fits self.new.host) self.new.steps.items) }
         ensures searching { IfOk result (λ turn. turn ≡ Turn.Going
             → IsSearching H.meaning H.undo_of (lines_of claims.now)
-            (H.state self.new.host) self.new.line self.new.next self.new.steps.items self.new.waiting.items
-            self.new.placed.items) }
+            (H.state self.new.host) self.new.line self.new.next self.new.steps.items
+            self.new.waiting.items self.new.placed.items) }
     {
         let here = self.configuration()?;
         self.failed.keep(here)?;
@@ -314,8 +314,8 @@ impl<H: Host> Search<H> {
         ensures fits { OnOk result (UndosFit (H.fits self.new.host) self.new.steps.items) }
         ensures searching { IfOk result (λ turn. turn ≡ Turn.Going
             → IsSearching H.meaning H.undo_of (lines_of claims.now)
-            (H.state self.new.host) self.new.line self.new.next self.new.steps.items self.new.waiting.items
-            self.new.placed.items) }
+            (H.state self.new.host) self.new.line self.new.next self.new.steps.items
+            self.new.waiting.items self.new.placed.items) }
     {
         if self.next >= self.waiting.len() {
             return self.fail(claims);
@@ -351,8 +351,8 @@ impl<H: Host> Search<H> {
         ensures fits { OnOk result (UndosFit (H.fits self.new.host) self.new.steps.items) }
         ensures searching { IfOk result (λ turn. turn ≡ Turn.Going
             → IsSearching H.meaning H.undo_of (lines_of claims.now)
-            (H.state self.new.host) self.new.line self.new.next self.new.steps.items self.new.waiting.items
-            self.new.placed.items) }
+            (H.state self.new.host) self.new.line self.new.next self.new.steps.items
+            self.new.waiting.items self.new.placed.items) }
     {
         if self.line >= claims.len() {
             return Ok(Turn::Found);

@@ -53,7 +53,8 @@ pub trait Link {
         ensures later { fault_count self.old ≤ fault_count self.new }
         ensures count { fault_count self.new ≡ count_after result (fault_count self.old) }
         ensures losses { loss_count self.old ≤ loss_count self.new }
-        ensures observed { StaysIfObserved (trace self.old) (loss_count self.old) (loss_count self.new) }
+        ensures observed { StaysIfObserved (trace self.old) (loss_count self.old)
+            (loss_count self.new) }
         ensures port { own_port self.new ≡ own_port self.old };
 
     /// Sends the bytes to a port. `Failed` where they could not be sent: the count of losses rises by one, and not that of

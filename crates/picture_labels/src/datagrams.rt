@@ -262,7 +262,8 @@ fn no_label(alloc: Global) -> Result<Label, NoMemory>
 
 /// What the bytes of a datagram are for, their texts, and what shows where they were sent.
 pub fn describe<T: OpText>(alloc: Global, bytes: &[u8]) -> Result<Label, NoMemory>
-    ensures purpose { IfOk result (λ l. IfOk (reading bytes.now) (λ d. l.purpose ≡ purpose_of d)) }
+    ensures purpose { IfOk result (λ l. IfOk (reading bytes.now) (λ d.
+        l.purpose ≡ purpose_of d)) }
     ensures mark { IfOk result (λ l. IfOk (reading bytes.now) (λ d.
         mark_shown l.note ≡ mark_of d)) }
     ensures none { IfOk result (λ l. OnErr (reading bytes.now) (IsNoDatagram l)) }

@@ -21,7 +21,8 @@ fn put_counted(text: &str, n: u64, to: &mut Vec<u8>) -> Result<(), NoMemory>
 }
 
 fn put_two(a: &str, m: u64, b: &str, n: u64, to: &mut Vec<u8>) -> Result<(), NoMemory>
-    ensures { OnOk result (to.new.items ≡ to.old.items ++ (text_and_number a.now m ++ text_and_number b.now n)) }
+    ensures { OnOk result (to.new.items
+        ≡ to.old.items ++ (text_and_number a.now m ++ text_and_number b.now n)) }
 {
     put_counted(a, m, to)?;
     put_counted(b, n, to)

@@ -120,7 +120,8 @@ pub fn sync_points_stay_within()
     ensures noop { (l : Log) (n : ℕ) → IsWithin l → IsWithin (with_noop Whole l n) }
     ensures first { (l : Log) (n : ℕ) → l.sync_point ≤ n → IsWithin l →
         IsWithin (first Whole l n) }
-    ensures further { (new own : Log) → IsWithin new → IsWithin own → IsWithin (further new own) }
+    ensures further { (new own : Log) → IsWithin new → IsWithin own →
+        IsWithin (further new own) }
     ensures adopted { (new own : Log) → IsWithin (further new own)
         → IsWithin (adopted Whole new own) }
     ensures overlaid { (new own : Log) → IsWithin (further new own)

@@ -31,7 +31,8 @@ impl Model for Flows {
 
     ghost view = { λ f. f.lanes };
 
-    ghost invariant = { λ f. f.is_busy ≡ false → All (λ flow. flow ≡ resting flow.is_silent) f.lanes };
+    ghost invariant = { λ f. f.is_busy ≡ false
+        → All (λ flow. flow ≡ resting flow.is_silent) f.lanes };
 }
 
 /// Sends what waits for a port and may be sent now, and says how many of these sends failed. A turn begins.

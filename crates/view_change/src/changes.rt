@@ -79,9 +79,10 @@ impl Changes {
     /// senders are there then.
     pub fn on_change(&mut self, change: Change) -> Result<Step, NoMemory>
         ensures after { OnOk result (self.new ≡ change_added change_sender self.old change) }
-        ensures step { IfOk result (λ s. s ≡ step_of (change_added change_sender self.old change)) }
-        ensures waits { IfOk result (λ s.
-            (s ≡ Waiting) ↔ (length (change_added change_sender self.old change).changes ≤ self.old.f)) }
+        ensures step { IfOk result (λ s.
+            s ≡ step_of (change_added change_sender self.old change)) }
+        ensures waits { IfOk result (λ s. (s ≡ Waiting) ↔
+            (length (change_added change_sender self.old change).changes ≤ self.old.f)) }
         ensures err { OnErr result (self.new ≡ self.old) }
     {
         if has_sender(&self.changes, change.sender) {
@@ -97,7 +98,8 @@ impl Changes {
 
     /// Whether the view is started once this change is taken.
     pub fn is_enough_with(&self, change: &Change) -> bool
-        ensures { result ≡ nat_lt self.now.f (length (change_added change_sender self.now change.now).changes) }
+        ensures { result ≡ nat_lt self.now.f
+            (length (change_added change_sender self.now change.now).changes) }
     {
         let len = self.changes.len();
         if has_sender(&self.changes, change.sender) {
