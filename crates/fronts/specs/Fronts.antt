@@ -43,6 +43,10 @@ pub record IsMember (front : List Request) (client id : ℕ) : Type 0 where
 abbrev pub Agrees : {S : Type 0} → Meaning S → List Line → S → Request → Type 0
 Agrees m lines s r = (result : List ℕ) → Has lines (Accept r.client r.id result) → m.answer s r.op ≡ result
 
+-- the op changes nothing
+abbrev pub OnlyReads : {S : Type 0} → Meaning S → List ℕ → Type 0
+OnlyReads {S} m op = (s : S) → m.after s op ≡ s
+
 -- the request may be placed next, when k lines are passed
 pub record MayFollow {S : Type 0} (m : Meaning S) (lines : List Line) (k : ℕ) (front : List Request) (r : Request) : Type 0 where
   pub submitted : IsSubmittedAt lines k r

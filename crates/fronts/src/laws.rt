@@ -10,6 +10,7 @@ ghost use Rattle.fronts.specs.Fronts.{
   IsFront,
   IsMember,
   MayFollow,
+  OnlyReads,
 };
 ghost use Rattle.nop_types.specs.Legality.{AcceptedOnce, Legal};
 ghost use Rattle.nop_types.specs.Lines.{Line, Accept};
@@ -60,6 +61,14 @@ pub fn fronts_go_on_alike<S>()
     ensures { (m : Meaning S) (lines : List Line) (k : ℕ) (f g : List Request)
         → SubmittedOnce lines → IsFront m lines k g → IsAlike m f g
         → GoesOn m lines f → GoesOn m lines g }
+{}
+
+/// Where a front goes on, it goes on with a request that may follow and whose op changes nothing.
+pub fn reads_may_come_first<S>()
+    ensures { (m : Meaning S) (lines : List Line) (k : ℕ) (front : List Request) (r : Request)
+        → SubmittedOnce lines → IsFront m lines k front → MayFollow m lines k front r
+        → OnlyReads m r.op
+        → GoesOn m lines front → GoesOn m lines (front ++ r ∷ []) }
 {}
 
 /// A front whose configuration failed goes nowhere: saved states tell states apart.

@@ -11,9 +11,12 @@
 //! - What may be kept: two fronts with the same members that leave the same state go on alike
 //!   (`fronts_go_on_alike`). So over any `Host` a front goes nowhere where one with the same line, the same
 //!   requests left and the same saved state went nowhere (`failed_configurations_fail_again`).
+//! - What need not be tried: where a front goes on, it goes on with any request that may follow and whose
+//!   op changes nothing (`reads_may_come_first`). `Parted` says which ops are known to (`only_reads`).
 //! - Parts: how a service is `Parted`, so that ops of one part do not rest on those of others. A legal history of
 //!   all lines is one of each part (`parts_are_legal`), and orders of the parts make one of the whole where
-//!   times lie between the lines of each member (`the_whole_is_legal`).
+//!   times lie between the lines of each member (`the_whole_is_legal`). Any service is one part of itself
+//!   (`OnePart`).
 //!
 //! Files: `laws`, `parted`, `part_laws`; definitions: `specs/Fronts`, `Configurations`, `Parts`.
 #![tactic(auto)]
@@ -24,7 +27,8 @@ mod parted;
 
 pub use laws::{
     all_histories_begin_empty, failed_configurations_fail_again, front_opens, front_passes,
-    front_places, fronts_behind_all_lines_are_legal, fronts_go_on_alike, the_next_member,
+    front_places, fronts_behind_all_lines_are_legal, fronts_go_on_alike, reads_may_come_first,
+    the_next_member,
 };
 pub use part_laws::{parts_are_legal, the_whole_is_legal};
-pub use parted::Parted;
+pub use parted::{OnePart, Parted};

@@ -5,17 +5,15 @@ use Rattle.std.specs.Option.{option_eq}
 use Rattle.std.specs.Ordering.{nat_cmp, eq_by_cmp}
 use Rattle.std.specs.Cmp.Lexicographic.{slice_cmp, pointwise, bytes_decides, texts_ties, nat_list_cmp_total}
 use Rattle.std.specs.FinMap as finite
-use Rattle.std.proofs.lemmas.Bool.{leb-true, le-leb}
 use Rattle.std.proofs.lemmas.Bool.Decides.{nat_tests}
 use Rattle.fronts.specs.Parts.{AreDistinct, IsPart, is_of}
 use Rattle.kv_host.specs.declared.table.TheConstants.{MAX_KEYS}
 use Rattle.kv_host.specs.Op.{Op, Get, Put, Delete, Swap, Bad, read_op}
 use Rattle.kv_host.specs.Values.{Kv, has_value}
 use Rattle.kv_host.specs.Kv.{shown, is_refused, answer_to, state_after, kv_meaning}
-use Rattle.kv_parts.specs.Keys.{key_of, part_of, count_in, SameKey, same_key}
+use Rattle.kv_parts.specs.Keys.{key_of, part_of, count_in, SameKey}
 use Rattle.kv_parts.specs.Counts.{count_in-room, count_in-insert, count_in-insert_new, count_in-remove, count_in-remove_none}
 use Rattle.nop_types.specs.Lists.{Has}
-use Rattle.nop_types.specs.Meaning.{Meaning}
 
 module _ (parts : List (List ℕ)) (few : length parts ≤ MAX_KEYS) (distinct : AreDistinct parts) where
   -- ---- puts are not refused
@@ -168,72 +166,3 @@ module _ (parts : List (List ℕ)) (few : length parts ≤ MAX_KEYS) (distinct :
     where
       opening : finite.len kv_meaning.opening ≤ count_in parts kv_meaning.opening
       opening = rw (finite.len-empty (slice_cmp nat_cmp) (List ℕ)) (omega arith)
-
--- ---- the test of the trait
-
-and-both : (a b : Bool) → a ≡ true → b ≡ true → a && b ≡ true
-and-both true b e f = f
-and-both false b e f = e
-
-and-left : (a b : Bool) → a && b ≡ true → a ≡ true
-and-left true b e = refl
-and-left false b e = e
-
-and-right : (a b : Bool) → a && b ≡ true → b ≡ true
-and-right true b e = e
-and-right false b e = absurd cc
-
-values_same : (a b : Option (List ℕ)) → option_eq (pointwise nat_eq) a b ≡ true → a ≡ b
-values_same None None e = refl
-values_same None (Some y) e = absurd cc
-values_same (Some x) None e = absurd cc
-values_same (Some x) (Some y) e = ap (λ (t : List ℕ). Some t) ((bytes_decides x y).0 e)
-
-same_values : (a b : Option (List ℕ)) → a ≡ b → option_eq (pointwise nat_eq) a b ≡ true
-same_values None None e = refl
-same_values None (Some y) e = absurd cc
-same_values (Some x) None e = absurd cc
-same_values (Some x) (Some y) e = let f : x ≡ y = cc in (bytes_decides x y).1 f
-
-module _ (parts : List (List ℕ)) (part : List ℕ) (s t : Kv) where
-  abbrev left : Bool
-  left = nat_le (finite.len s) (count_in parts s)
-
-  abbrev right : Bool
-  right = nat_le (finite.len t) (count_in parts t)
-
-  abbrev value : Bool
-  value = option_eq (pointwise nat_eq) (finite.get s part) (finite.get t part)
-
-  pub told_same : same_key parts part s t ≡ true → SameKey parts part s t
-  told_same e =
-      let both = and-left (left && right) value e in
-      record {
-        left = leb-true (finite.len s) (count_in parts s) (and-left left right both);
-        right = leb-true (finite.len t) (count_in parts t) (and-right left right both);
-        value = values_same (finite.get s part) (finite.get t part) (and-right (left && right) value e);
-      }
-
-  pub is_told : SameKey parts part s t → same_key parts part s t ≡ true
-  is_told h =
-      and-both (left && right) value
-      (and-both left right (le-leb (finite.len s) (count_in parts s) h.left) (le-leb (finite.len t) (count_in parts t) h.right))
-      (same_values (finite.get s part) (finite.get t part) h.value)
-
--- a relation and its test have the same parts
-pub parts_are_told : {S : Type 0} (m : Meaning S) (Fits : List ℕ → Type 0) (mine : List ℕ → Bool) (Same : S → S → Type 0) (test : S → S → Bool)
-    → ((s t : S) → test s t ≡ true → Same s t) → ((s t : S) → Same s t → test s t ≡ true) → IsPart m Fits mine Same
-    → IsPart m Fits mine (λ s t. test s t ≡ true)
-parts_are_told m Fits mine Same test to from p = record {
-  opens = from m.opening m.opening p.opens;
-  answers = λ s t op fit e h. p.answers s t op fit e (to s t h);
-  keeps = λ s t op fit e h. from (m.after s op) (m.after t op) (p.keeps s t op fit e (to s t h));
-  leaves = λ s t op fit e h. from (m.after s op) t (p.leaves s t op fit e (to s t h));
-}
-
--- the law of the trait
-pub are_parts : (parts : List (List ℕ)) (part : List ℕ) → length parts ≤ MAX_KEYS → AreDistinct parts
-    → IsPart kv_meaning (λ op. Has parts (part_of op)) (is_of part_of part) (λ s t. same_key parts part s t ≡ true)
-are_parts parts part few distinct =
-    parts_are_told kv_meaning (λ (op : List ℕ). Has parts (part_of op)) (is_of part_of part) (SameKey parts part) (same_key parts part)
-    (told_same parts part) (is_told parts part) (keys_are_parts parts few distinct part)

@@ -1,7 +1,5 @@
 -- The keys of the key-value service as its parts.
-use Rattle.std.specs.Prelude.{◌≡◌, ℕ, ◌+◌, ◌≤◌, List, [], ◌∷◌, Bool, cond, nat_le, ◌&&◌}
-use Rattle.std.specs.Option.{option_eq}
-use Rattle.std.specs.Str.{bytes_eq}
+use Rattle.std.specs.Prelude.{◌≡◌, ℕ, ◌+◌, ◌≤◌, List, [], ◌∷◌, Bool, cond}
 use Rattle.std.specs.FinMap as finite
 use Rattle.kv_host.specs.Op.{Op, Get, Put, Delete, Swap, Bad, read_op}
 use Rattle.kv_host.specs.Values.{Kv}
@@ -31,9 +29,3 @@ pub record SameKey (parts : List (List ℕ)) (part : List ℕ) (s t : Kv) : Type
   pub left : finite.len s ≤ count_in parts s
   pub right : finite.len t ≤ count_in parts t
   pub value : finite.get s part ≡ finite.get t part
-
--- the same, as a test
-abbrev pub same_key : List (List ℕ) → List ℕ → Kv → Kv → Bool
-same_key parts part s t =
-    nat_le (finite.len s) (count_in parts s) && nat_le (finite.len t) (count_in parts t)
-    && option_eq bytes_eq (finite.get s part) (finite.get t part)

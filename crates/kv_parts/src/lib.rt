@@ -4,7 +4,8 @@
 //! key answer by its value alone, and change it alone: with so few keys among all ops no put is answered
 //! `full`, which is the one answer that rests on the other keys. The state of a part is the value of the
 //! key, together with the fact that no keys but those of the ops have one (`specs/Keys`, `SameKey`). Bytes
-//! that spell no op are of the part that has no byte.
+//! that spell no op are of the part that has no byte. Gets, and bytes that spell no op, change nothing, so a
+//! search places them at once where their answers agree (`only_reads`).
 //!
 //! Files: `parted`; the law is in `specs/KeyParts`, on counts of keys that have a value (`specs/Counts`).
 #![tactic(auto)]

@@ -1,4 +1,6 @@
-ghost use Rattle.std.specs.Prelude.{◌≡◌};
+ghost use Rattle.std.specs.Prelude.{◌≡◌, true};
+ghost use Rattle.kv_host.specs.Kv.{state_after};
+ghost use Rattle.kv_host.specs.Values.{Kv};
 ghost use Rattle.kv_host.specs.View.{op_of};
 ghost use Rattle.kv_parts.specs.Keys.{key_of, part_of};
 
@@ -18,21 +20,33 @@ fn key_of(op: KvOp<'_>) -> &[u8]
     }
 }
 
+/// Whether the op is a get, or no op; these change nothing.
+fn only_reads(op: KvOp<'_>) -> bool
+    ensures { result ≡ true → (kv : Kv) → state_after kv (op_of op.entry) ≡ kv }
+{
+    matches!(op, KvOp::Get(_) | KvOp::Bad)
+}
+
 /// The key-value service, parted by keys.
 pub struct ByKey;
 
 impl Parted for ByKey {
     ghost use Rattle.kv_host.specs.declared.table.TheConstants.{MAX_KEYS};
-    ghost use Rattle.kv_parts.specs.KeyParts.{are_parts};
-    ghost use Rattle.kv_parts.specs.Keys.{part_of, same_key};
+    ghost use Rattle.kv_host.specs.Values.{Kv};
+    ghost use Rattle.kv_parts.specs.KeyParts.{keys_are_parts};
+    ghost use Rattle.kv_parts.specs.Keys.{part_of, SameKey};
 
     ghost MAX_PARTS = { MAX_KEYS };
 
     ghost part = { part_of };
 
-    ghost same_part = { same_key };
+    ghost Seen = { Kv };
 
-    ghost are_parts = { are_parts };
+    ghost is_same = { SameKey };
+
+    ghost seen = { λ s. s };
+
+    ghost are_parts = { λ parts p few distinct. keys_are_parts parts few distinct p };
 
     type Service = KvHost;
 
@@ -42,5 +56,9 @@ impl Parted for ByKey {
         ensures { result.now ≡ part_of op.now }
     {
         key_of(read(op))
+    }
+
+    fn only_reads(op: &[u8]) -> bool {
+        only_reads(read(op))
     }
 }
