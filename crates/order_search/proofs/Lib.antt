@@ -1,9 +1,11 @@
 pub mod Edits
 pub mod FrontMembers
+pub mod ReadLemmas
 pub mod WaitingLemmas
 pub mod MarkLemmas
 pub mod StepLemmas
-pub mod PlaceLemmas
+pub mod RisingLemmas
+pub mod OrderLemmas
 pub mod SearchLemmas
 pub mod FailedLemmas
 pub mod AgreeLemmas

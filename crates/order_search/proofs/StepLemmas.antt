@@ -1,5 +1,5 @@
 -- The steps of a search, one more or less; and what the host has the room to undo.
-use Rattle.std.proofs.Common.{◌≡◌, ℕ, List, [], ◌∷◌, ◌++◌, map, Some, refl, sym, ap, subst, ◌∙◌, append_assoc}
+use Rattle.std.proofs.Common.{◌≡◌, ℕ, List, [], ◌∷◌, ◌++◌, Some, sym, ap, subst, ◌∙◌, append_assoc}
 use Rattle.std.specs.Prelude.{slice_get, remove}
 use Rattle.std.proofs.lemmas.List.{append-nil}
 use Rattle.nop_types.specs.Lines.{Line, Submit}
@@ -7,7 +7,6 @@ use Rattle.nop_types.specs.Lists.{IsPrefixOf}
 use Rattle.nop_types.specs.Meaning.{Meaning}
 use Rattle.nop_types.specs.declared.request.Request.{Request}
 use Rattle.order_search.specs.Searching.{told_by, requests_at, front_of, IsStep, AreSteps, UndosFit}
-use Rattle.order_search.specs.Turns.{history_at}
 use Rattle.order_search.specs.declared.step.Step.{Step}
 
 -- ---- fronts of steps
@@ -21,11 +20,6 @@ front_of-push lines [] s = append-nil (requests_at lines s.submit)
 front_of-push lines (t ∷ steps) s =
     ap (λ (x : List Request). requests_at lines t.submit ++ x) (front_of-push lines steps s)
     ∙ sym (append_assoc (requests_at lines t.submit) (front_of lines steps) (requests_at lines s.submit))
-
-pub front_of-places : {U : Type 0} (lines : List Line) (steps : List (Step U))
-    → history_at lines (map (λ (s : Step U). s.submit) steps) ≡ front_of lines steps
-front_of-places lines [] = refl
-front_of-places lines (s ∷ steps) = ap (λ (x : List Request). requests_at lines s.submit ++ x) (front_of-places lines steps)
 
 -- ---- the chain of steps
 

@@ -27,6 +27,11 @@ abbrev pub front_of : {U : Type 0} → List Line → List (Step U) → List Requ
 front_of lines [] = []
 front_of lines (s ∷ steps) = requests_at lines s.submit ++ front_of lines steps
 
+-- the lines of the steps do not fall, none is below `low`, and none is above `line`
+abbrev pub AreRising : {U : Type 0} → ℕ → List (Step U) → ℕ → Type 0
+AreRising low [] line = low ≤ line
+AreRising low (s ∷ steps) line = (low ≤ s.line) × AreRising s.line steps line
+
 module _ {S U : Type 0} (m : Meaning S) (undo_of : S → List ℕ → U) (lines : List Line) where
   -- behind the front, none of the first n that wait leads to a legal history
   abbrev pub HasTried : ℕ → List Request → List ℕ → ℕ → Type 0
@@ -34,17 +39,28 @@ module _ {S U : Type 0} (m : Meaning S) (undo_of : S → List ℕ → U) (lines 
       (a i : ℕ) (r : Request) → a < n → slice_get waiting a ≡ Some i → slice_get lines i ≡ Some (Submit r) → MayFollow m lines k front r
       → GoesOn m lines (front ++ r ∷ []) → ⊥
 
+  -- the one that waits at this place may not be placed next
+  abbrev pub IsRefused : ℕ → List Request → List ℕ → ℕ → Type 0
+  IsRefused k front waiting at =
+      (i : ℕ) (r : Request) → slice_get waiting at ≡ Some i → slice_get lines i ≡ Some (Submit r) → MayFollow m lines k front r → ⊥
+
+  -- where the one that waits at this place may be placed next and leads nowhere, none of the first n that wait leads to a legal history
+  abbrev pub Settles : ℕ → List Request → List ℕ → ℕ → ℕ → Type 0
+  Settles k front waiting at n =
+      (i : ℕ) (r : Request) → slice_get waiting at ≡ Some i → slice_get lines i ≡ Some (Submit r) → MayFollow m lines k front r
+      → (GoesOn m lines (front ++ r ∷ []) → ⊥) → HasTried k front waiting n
+
   -- a step that placed a request behind this front, where these waited
   pub record IsStep (before : List Request) (waiting : List ℕ) (s : Step U) : Type 0 where
     pub request : Request
     pub line : slice_get lines s.submit ≡ Some (Submit request)
-    pub within : s.line ≤ length lines
+    pub within : s.line < length lines
     pub front : IsFront m lines s.line before
     pub follows : MayFollow m lines s.line before request
     pub are_waiting : AreWaiting lines s.line before waiting
     pub stands : slice_get waiting s.at ≡ Some s.submit
     pub others : s.others ≡ length (remove waiting s.at)
-    pub tried : HasTried s.line before waiting s.at
+    pub tried : (GoesOn m lines (before ++ request ∷ []) → ⊥) → HasTried s.line before waiting s.tried
     pub undo : s.undo ≡ undo_of (after_all m m.opening before) request.op
 
   -- steps behind a front, where at least the places in `base` wait; at the end those in `waiting` do
@@ -62,6 +78,7 @@ module _ {S U : Type 0} (m : Meaning S) (undo_of : S → List ℕ → U) (lines 
     pub are_waiting : AreWaiting lines line (front_of lines steps) waiting
     pub are_marked : AreMarked lines (front_of lines steps) placed
     pub steps_are : AreSteps [] [] steps waiting
+    pub rise : AreRising 0 steps line
     pub tried : HasTried line (front_of lines steps) waiting next
 
 -- the host has the room to undo the steps

@@ -3,7 +3,8 @@ ghost use Rattle.nop_types.specs.Legality.{AcceptedOnce};
 ghost use Rattle.nop_types.specs.Lines.{Submit};
 ghost use Rattle.order_search.specs.Agreeing.{Accepts, AllAccept, Differs};
 ghost use Rattle.pairs.specs.Pairing.{ArePaired};
-ghost use Rattle.transcript_reader.specs.Claims.{line_of, lines_of};
+ghost use Rattle.pairs.specs.Said.{said_by};
+ghost use Rattle.transcript_reader.specs.Claims.{line_of};
 
 use crate::claims::claim_at;
 use nop_types::Request;
@@ -23,19 +24,19 @@ fn accepts(claim: &Claim, answer: &[u8]) -> bool
 
 /// Whether each claim that accepts the request, wherever it stands, accepts the answer.
 pub(crate) fn agrees(
-    claims: &[Claim],
+    claims: &[&Claim],
     pairs: &Pairs,
     submit: usize,
     request: &Request,
     answer: &[u8],
 ) -> bool
-    requires paired { ArePaired (lines_of claims.now)
+    requires paired { ArePaired (said_by claims.now)
         (length claims.now) pairs.now.accepts.items pairs.now.submits.items }
-    requires once { AcceptedOnce (lines_of claims.now) }
-    requires line { slice_get (lines_of claims.now) submit ≡ Some (Submit request.now) }
+    requires once { AcceptedOnce (said_by claims.now) }
+    requires line { slice_get (said_by claims.now) submit ≡ Some (Submit request.now) }
     ensures { MatchBool result (AllAccept
-        (lines_of claims.now) request.now.client request.now.id answer.now)
-        (AllAccept (lines_of claims.now) request.now.client request.now.id answer.now → ⊥) }
+        (said_by claims.now) request.now.client request.now.id answer.now)
+        (AllAccept (said_by claims.now) request.now.client request.now.id answer.now → ⊥) }
 {
     match pairs.accepts[submit] {
         Some(accept) => accepts(claim_at(claims, accept), answer),

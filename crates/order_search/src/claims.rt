@@ -1,12 +1,13 @@
 ghost use Rattle.std.specs.Prelude.{◌≡◌, ◌<◌, Some, length, slice_get};
-ghost use Rattle.transcript_reader.specs.Claims.{line_of, lines_of};
+ghost use Rattle.pairs.specs.Said.{said_by};
+ghost use Rattle.transcript_reader.specs.Claims.{line_of};
 
 use transcript_reader::Claim;
 
 /// The claim at this place.
-pub(crate) fn claim_at(claims: &[Claim], place: usize) -> &Claim
+pub(crate) fn claim_at<'a>(claims: &[&'a Claim], place: usize) -> &'a Claim
     requires { place < length claims.now }
-    ensures { slice_get (lines_of claims.now) place ≡ Some (line_of result.now) }
+    ensures { slice_get (said_by claims.now) place ≡ Some (line_of result.now) }
 {
-    &claims[place]
+    claims[place]
 }

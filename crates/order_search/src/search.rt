@@ -1,21 +1,27 @@
 //! A search for an order: where it stands, and what one step does.
 
-ghost use Rattle.std.specs.Prelude.{◌≡◌, ◌+◌, ◌++◌, ◌∷◌, ◌<◌, ◌≤◌, [], ℕ, List, Some, Err, slice_get, slice_set, remove, length, map, true, false, IfOk, IfSome, IfNone, OnOk, MatchBool};
+ghost use Rattle.std.specs.Prelude.{◌≡◌, ◌+◌, ◌++◌, ◌∷◌, ◌<◌, ◌≤◌, [], ℕ, List, All, Some, Err, slice_get, slice_set, remove, length, map, true, false, IfOk, OnOk, MatchBool};
 ghost use Rattle.execution_laws.specs.Legality.{SubmittedOnce};
-ghost use Rattle.fronts.specs.Fronts.{AcceptedLater, GoesOn, HasOrder, IsFront};
+ghost use Rattle.fronts.specs.Fronts.{AcceptedLater, GoesOn, HasOrder};
+ghost use Rattle.fronts.specs.Parts.{AreTimed};
 ghost use Rattle.nop_types.specs.Legality.{AcceptedOnce, Legal};
 ghost use Rattle.nop_types.specs.Lines.{Accept};
 ghost use Rattle.order_search.specs.Failing.{AllFailed};
-ghost use Rattle.order_search.specs.Searching.{front_of, AreSteps, IsSearching, UndosFit};
+ghost use Rattle.order_search.specs.Outcomes.{placed_by, submits_of, time_of, IfFound, IfNothing};
+ghost use Rattle.order_search.specs.Reads.{AreReads};
+ghost use Rattle.order_search.specs.Searching.{front_of, IsRefused, IsSearching, Settles, UndosFit};
 ghost use Rattle.order_search.specs.Turns.{AllSubmit, IsPassed, IsStuck, history_at};
 ghost use Rattle.pairs.specs.Pairing.{ArePaired};
-ghost use Rattle.transcript_reader.specs.Claims.{lines_of};
+ghost use Rattle.pairs.specs.Said.{said_by};
 
 use crate::agreeing::agrees;
 use crate::claims::claim_at;
 use crate::failed::{Configuration, Failed};
+use crate::outcome::{Outcome, Placed};
+use crate::reads::reads_of;
 use crate::step::Step;
 use crate::stopped::Stopped;
+use fronts::Parted;
 use nop_types::{Host, NoMemory};
 use pairs::Pairs;
 use std::alloc::Global;
@@ -55,8 +61,8 @@ fn mark(placed: &mut Vec<bool>, claim: usize, is_placed: bool)
     placed[claim] = is_placed;
 }
 
-/// How many were tried with the one at this place. It is one that waits, so the sum fits.
-fn tried(waiting: &Vec<usize>, at: usize) -> usize
+/// How many wait up to this place, with the one there. It is one that waits, so the sum fits.
+fn counted_to(waiting: &Vec<usize>, at: usize) -> usize
     requires { at < length waiting.now.items }
     ensures { result ≡ at + 1 }
 {
@@ -64,12 +70,12 @@ fn tried(waiting: &Vec<usize>, at: usize) -> usize
 }
 
 impl<H: Host> Search<H> {
-    fn new(alloc: Global, claims: &[Claim]) -> Result<Search<H>, NoMemory>
-        ensures searching { IfOk result (λ s. IsSearching H.meaning H.undo_of (lines_of claims.now)
+    fn new(alloc: Global, claims: &[&Claim]) -> Result<Search<H>, NoMemory>
+        ensures searching { IfOk result (λ s. IsSearching H.meaning H.undo_of (said_by claims.now)
             (H.state s.host) s.line s.next s.steps.items s.waiting.items s.placed.items) }
         ensures fits { IfOk result (λ s. UndosFit (H.fits s.host) s.steps.items) }
         ensures failed { IfOk result (λ s. AllFailed H.meaning
-            (lines_of claims.now) s.failed.kept.keys) }
+            (said_by claims.now) s.failed.kept.keys) }
     {
         let mut placed = Vec::new(alloc);
         placed.resize(claims.len(), false)?;
@@ -85,17 +91,20 @@ impl<H: Host> Search<H> {
     }
 
     /// Whether what the claim here accepts is placed.
-    fn is_placed(&self, claims: &[Claim], pairs: &Pairs, client: u32, id: u64) -> bool
+    fn is_placed(&self, claims: &[&Claim], pairs: &Pairs, client: u32, id: u64) -> bool
         requires line { (result : List ℕ)
-            × (slice_get (lines_of claims.now) self.now.line ≡ Some (Accept client id result)) }
-        requires paired { ArePaired (lines_of claims.now)
+            × (slice_get (said_by claims.now) self.now.line ≡ Some (Accept client id result)) }
+        requires paired { ArePaired (said_by claims.now)
             (length claims.now) pairs.now.accepts.items pairs.now.submits.items }
-        requires searching { IsSearching H.meaning H.undo_of (lines_of claims.now)
+        requires searching { IsSearching H.meaning H.undo_of (said_by claims.now)
             (H.state self.now.host)
-            self.now.line self.now.next self.now.steps.items self.now.waiting.items self.now.placed.items }
-        ensures { MatchBool result (IsPassed (lines_of claims.now) self.now.line (front_of
-            (lines_of claims.now) self.now.steps.items))
-            (IsStuck (lines_of claims.now) self.now.line (front_of (lines_of claims.now) self.now.steps.items)) }
+            self.now.line self.now.next self.now.steps.items
+            self.now.waiting.items self.now.placed.items }
+        ensures { MatchBool result
+            (IsPassed (said_by claims.now) self.now.line
+            (front_of (said_by claims.now) self.now.steps.items))
+            (IsStuck (said_by claims.now) self.now.line
+            (front_of (said_by claims.now) self.now.steps.items)) }
     {
         let Some(submit) = pairs.submits[self.line] else {
             unreachable!()
@@ -104,23 +113,25 @@ impl<H: Host> Search<H> {
     }
 
     /// Passes the claim here, where it submits, or accepts what is placed.
-    fn pass(&mut self, claims: &[Claim], pairs: &Pairs) -> Result<bool, NoMemory>
+    fn pass(&mut self, claims: &[&Claim], pairs: &Pairs) -> Result<bool, NoMemory>
         requires within { self.old.line < length claims.now }
-        requires once { SubmittedOnce (lines_of claims.now) }
-        requires paired { ArePaired (lines_of claims.now)
+        requires once { SubmittedOnce (said_by claims.now) }
+        requires paired { ArePaired (said_by claims.now)
             (length claims.now) pairs.now.accepts.items pairs.now.submits.items }
         requires fits { UndosFit (H.fits self.old.host) self.old.steps.items }
-        requires searching { IsSearching H.meaning H.undo_of (lines_of claims.now)
+        requires searching { IsSearching H.meaning H.undo_of (said_by claims.now)
             (H.state self.old.host)
-            self.old.line self.old.next self.old.steps.items self.old.waiting.items self.old.placed.items }
+            self.old.line self.old.next self.old.steps.items
+            self.old.waiting.items self.old.placed.items }
         ensures stuck { IfOk result (λ passed. passed ≡ false
-            → IsStuck (lines_of claims.now) self.new.line
-            (front_of (lines_of claims.now) self.new.steps.items)) }
+            → IsStuck (said_by claims.now) self.new.line
+            (front_of (said_by claims.now) self.new.steps.items)) }
         ensures failed { self.new.failed ≡ self.old.failed }
         ensures fits { UndosFit (H.fits self.new.host) self.new.steps.items }
-        ensures searching { OnOk result (IsSearching H.meaning H.undo_of (lines_of claims.now)
+        ensures searching { OnOk result (IsSearching H.meaning H.undo_of (said_by claims.now)
             (H.state self.new.host)
-            self.new.line self.new.next self.new.steps.items self.new.waiting.items self.new.placed.items) }
+            self.new.line self.new.next self.new.steps.items
+            self.new.waiting.items self.new.placed.items) }
     {
         let line = self.line;
         match claim_at(claims, line) {
@@ -142,7 +153,13 @@ impl<H: Host> Search<H> {
     }
 
     /// Places the request of the claim at `submit`, which waits at `at`; the op is applied.
-    fn place(&mut self, at: usize, submit: usize, undo: H::Undo) -> Result<(), NoMemory>
+    fn place(
+        &mut self,
+        at: usize,
+        submit: usize,
+        tried: usize,
+        undo: H::Undo,
+    ) -> Result<(), NoMemory>
         requires waits { at < length self.old.waiting.items }
         requires marked { submit < length self.old.placed.items }
         ensures host { self.new.host ≡ self.old.host }
@@ -157,6 +174,7 @@ impl<H: Host> Search<H> {
           line = self.old.line;
           at = at;
           others = length (remove self.old.waiting.items at);
+          tried = tried;
           undo = undo;
         } ∷ []) }
     {
@@ -170,58 +188,195 @@ impl<H: Host> Search<H> {
             line,
             at,
             others,
+            tried,
             undo,
         })?;
         Ok(())
     }
 
-    /// Tries the next one that waits: places its request, where its answer agrees with what claims accept.
-    fn try_next(&mut self, claims: &[Claim], pairs: &Pairs) -> Result<(), NoMemory>
-        requires submitted { SubmittedOnce (lines_of claims.now) }
-        requires accepted { AcceptedOnce (lines_of claims.now) }
-        requires next { self.old.next < length self.old.waiting.items }
-        requires paired { ArePaired (lines_of claims.now)
+    /// Applies the op of the request that waits at `at`, and places it where its answer agrees with what claims accept; else the op is
+    /// undone. So many as `tried` lead to no legal history where it leads to none.
+    fn try_at(
+        &mut self,
+        claims: &[&Claim],
+        pairs: &Pairs,
+        at: usize,
+        tried: usize,
+    ) -> Result<bool, NoMemory>
+        requires within { self.old.line < length claims.now }
+        requires submitted { SubmittedOnce (said_by claims.now) }
+        requires accepted { AcceptedOnce (said_by claims.now) }
+        requires waits { at < length self.old.waiting.items }
+        requires settles { Settles H.meaning H.undo_of (said_by claims.now) self.old.line
+            (front_of (said_by claims.now) self.old.steps.items) self.old.waiting.items at tried }
+        requires paired { ArePaired (said_by claims.now)
             (length claims.now) pairs.now.accepts.items pairs.now.submits.items }
         requires fits { UndosFit (H.fits self.old.host) self.old.steps.items }
-        requires searching { IsSearching H.meaning H.undo_of (lines_of claims.now)
+        requires searching { IsSearching H.meaning H.undo_of (said_by claims.now)
             (H.state self.old.host)
-            self.old.line self.old.next self.old.steps.items self.old.waiting.items self.old.placed.items }
+            self.old.line self.old.next self.old.steps.items
+            self.old.waiting.items self.old.placed.items }
+        ensures line { self.new.line ≡ self.old.line }
         ensures failed { self.new.failed ≡ self.old.failed }
+        ensures less { IfOk result (λ placed. placed ≡ true
+            → length self.new.waiting.items + 1 ≡ length self.old.waiting.items) }
+        ensures begun { IfOk result (λ placed. placed ≡ true → self.new.next ≡ 0) }
+        ensures same { IfOk result (λ placed. placed ≡ false
+            → self.new.waiting ≡ self.old.waiting) }
+        ensures next { IfOk result (λ placed. placed ≡ false → self.new.next ≡ self.old.next) }
+        ensures refused { IfOk result (λ placed. placed ≡ false
+            → IsRefused H.meaning H.undo_of (said_by claims.now) self.new.line
+            (front_of (said_by claims.now) self.new.steps.items) self.new.waiting.items at) }
         ensures fits { OnOk result (UndosFit (H.fits self.new.host) self.new.steps.items) }
-        ensures searching { OnOk result (IsSearching H.meaning H.undo_of (lines_of claims.now)
+        ensures searching { OnOk result (IsSearching H.meaning H.undo_of (said_by claims.now)
             (H.state self.new.host)
-            self.new.line self.new.next self.new.steps.items self.new.waiting.items self.new.placed.items) }
+            self.new.line self.new.next self.new.steps.items
+            self.new.waiting.items self.new.placed.items) }
     {
-        let at = self.next;
         let submit = self.waiting[at];
         let Claim::Submitted(request) = claim_at(claims, submit) else {
             unreachable!()
         };
         let (answer, undo) = self.host.apply(request.op.as_slice())?;
         if agrees(claims, pairs, submit, request, answer.as_slice()) {
-            return self.place(at, submit, undo);
+            self.place(at, submit, tried, undo)?;
+            return Ok(true);
         }
         self.host.undo(undo);
-        self.next += 1;
+        Ok(false)
+    }
+
+    /// Tries the next one that waits: places its request, where its answer agrees with what claims accept.
+    fn try_next(&mut self, claims: &[&Claim], pairs: &Pairs) -> Result<(), NoMemory>
+        requires within { self.old.line < length claims.now }
+        requires submitted { SubmittedOnce (said_by claims.now) }
+        requires accepted { AcceptedOnce (said_by claims.now) }
+        requires next { self.old.next < length self.old.waiting.items }
+        requires paired { ArePaired (said_by claims.now)
+            (length claims.now) pairs.now.accepts.items pairs.now.submits.items }
+        requires fits { UndosFit (H.fits self.old.host) self.old.steps.items }
+        requires searching { IsSearching H.meaning H.undo_of (said_by claims.now)
+            (H.state self.old.host)
+            self.old.line self.old.next self.old.steps.items
+            self.old.waiting.items self.old.placed.items }
+        ensures failed { self.new.failed ≡ self.old.failed }
+        ensures fits { OnOk result (UndosFit (H.fits self.new.host) self.new.steps.items) }
+        ensures searching { OnOk result (IsSearching H.meaning H.undo_of (said_by claims.now)
+            (H.state self.new.host)
+            self.new.line self.new.next self.new.steps.items
+            self.new.waiting.items self.new.placed.items) }
+    {
+        let at = self.next;
+        let with_it = counted_to(&self.waiting, at);
+        if !self.try_at(claims, pairs, at, with_it)? {
+            self.next = with_it;
+        }
         Ok(())
     }
 
-    /// Takes the last step back, from a front that goes nowhere; then the next one that waited there is tried.
-    fn go_back(&mut self, claims: &[Claim]) -> Result<Turn, NoMemory>
-        requires once { SubmittedOnce (lines_of claims.now) }
+    /// Places the request that waits at `at`, where it is a read and its answer agrees. Where the front goes on, it goes on with it: so
+    /// where it leads to no legal history, none that waits leads to one.
+    fn place_read(
+        &mut self,
+        claims: &[&Claim],
+        pairs: &Pairs,
+        reads: &[bool],
+        at: usize,
+    ) -> Result<bool, NoMemory>
+        requires within { self.old.line < length claims.now }
+        requires submitted { SubmittedOnce (said_by claims.now) }
+        requires accepted { AcceptedOnce (said_by claims.now) }
+        requires waits { at < length self.old.waiting.items }
+        requires reads { AreReads H.meaning (said_by claims.now) (length claims.now) reads.now }
+        requires paired { ArePaired (said_by claims.now)
+            (length claims.now) pairs.now.accepts.items pairs.now.submits.items }
         requires fits { UndosFit (H.fits self.old.host) self.old.steps.items }
-        requires searching { IsSearching H.meaning H.undo_of (lines_of claims.now)
+        requires searching { IsSearching H.meaning H.undo_of (said_by claims.now)
             (H.state self.old.host)
-            self.old.line self.old.next self.old.steps.items self.old.waiting.items self.old.placed.items }
-        requires fails { GoesOn H.meaning (lines_of claims.now) (front_of
-            (lines_of claims.now) self.old.steps.items) → ⊥ }
+            self.old.line self.old.next self.old.steps.items
+            self.old.waiting.items self.old.placed.items }
+        ensures line { self.new.line ≡ self.old.line }
+        ensures failed { self.new.failed ≡ self.old.failed }
+        ensures less { IfOk result (λ placed. placed ≡ true
+            → length self.new.waiting.items + 1 ≡ length self.old.waiting.items) }
+        ensures begun { IfOk result (λ placed. placed ≡ true → self.new.next ≡ 0) }
+        ensures same { IfOk result (λ placed. placed ≡ false
+            → self.new.waiting ≡ self.old.waiting) }
+        ensures next { IfOk result (λ placed. placed ≡ false → self.new.next ≡ self.old.next) }
+        ensures fits { OnOk result (UndosFit (H.fits self.new.host) self.new.steps.items) }
+        ensures searching { OnOk result (IsSearching H.meaning H.undo_of (said_by claims.now)
+            (H.state self.new.host)
+            self.new.line self.new.next self.new.steps.items
+            self.new.waiting.items self.new.placed.items) }
+    {
+        let submit = self.waiting[at];
+        if !reads[submit] {
+            return Ok(false);
+        }
+        let all = self.waiting.len();
+        self.try_at(claims, pairs, at, all)
+    }
+
+    /// Places each read that waits and whose answer agrees, where none was tried here yet; whether there was one. They leave the state as
+    /// it is, so each is looked at once.
+    fn place_reads(
+        &mut self,
+        claims: &[&Claim],
+        pairs: &Pairs,
+        reads: &[bool],
+    ) -> Result<bool, NoMemory>
+        requires within { self.old.line < length claims.now }
+        requires submitted { SubmittedOnce (said_by claims.now) }
+        requires accepted { AcceptedOnce (said_by claims.now) }
+        requires reads { AreReads H.meaning (said_by claims.now) (length claims.now) reads.now }
+        requires paired { ArePaired (said_by claims.now)
+            (length claims.now) pairs.now.accepts.items pairs.now.submits.items }
+        requires fits { UndosFit (H.fits self.old.host) self.old.steps.items }
+        requires searching { IsSearching H.meaning H.undo_of (said_by claims.now)
+            (H.state self.old.host)
+            self.old.line self.old.next self.old.steps.items
+            self.old.waiting.items self.old.placed.items }
+        ensures line { self.new.line ≡ self.old.line }
+        ensures failed { self.new.failed ≡ self.old.failed }
+        ensures none { IfOk result (λ any. any ≡ false
+            → length self.new.waiting.items ≡ length self.old.waiting.items) }
+        ensures next { IfOk result (λ any. any ≡ false → self.new.next ≡ self.old.next) }
+        ensures fits { OnOk result (UndosFit (H.fits self.new.host) self.new.steps.items) }
+        ensures searching { OnOk result (IsSearching H.meaning H.undo_of (said_by claims.now)
+            (H.state self.new.host)
+            self.new.line self.new.next self.new.steps.items
+            self.new.waiting.items self.new.placed.items) }
+    {
+        if self.next > 0 {
+            return Ok(false);
+        }
+        let before = self.waiting.len();
+        let mut at = 0;
+        while at < self.waiting.len() {
+            if !self.place_read(claims, pairs, reads, at)? {
+                at += 1;
+            }
+        }
+        Ok(self.waiting.len() < before)
+    }
+
+    /// Takes the last step back, from a front that goes nowhere; then the next one that waited there is tried, if one is left.
+    fn go_back(&mut self, claims: &[&Claim]) -> Result<Turn, NoMemory>
+        requires once { SubmittedOnce (said_by claims.now) }
+        requires fits { UndosFit (H.fits self.old.host) self.old.steps.items }
+        requires searching { IsSearching H.meaning H.undo_of (said_by claims.now)
+            (H.state self.old.host)
+            self.old.line self.old.next self.old.steps.items
+            self.old.waiting.items self.old.placed.items }
+        requires fails { GoesOn H.meaning (said_by claims.now) (front_of
+            (said_by claims.now) self.old.steps.items) → ⊥ }
         ensures found { IfOk result (λ turn. turn ≡ Turn.Found → ⊥) }
         ensures none { IfOk result (λ turn. turn ≡ Turn.Nothing
-            → HasOrder H.meaning (lines_of claims.now) → ⊥) }
+            → HasOrder H.meaning (said_by claims.now) → ⊥) }
         ensures failed { self.new.failed ≡ self.old.failed }
         ensures fits { OnOk result (UndosFit (H.fits self.new.host) self.new.steps.items) }
         ensures searching { IfOk result (λ turn. turn ≡ Turn.Going
-            → IsSearching H.meaning H.undo_of (lines_of claims.now)
+            → IsSearching H.meaning H.undo_of (said_by claims.now)
             (H.state self.new.host) self.new.line self.new.next self.new.steps.items
             self.new.waiting.items self.new.placed.items) }
     {
@@ -233,7 +388,7 @@ impl<H: Host> Search<H> {
         self.waiting.truncate(step.others);
         self.waiting.insert(step.at, step.submit)?;
         self.line = step.line;
-        self.next = tried(&self.waiting, step.at);
+        self.next = step.tried;
         Ok(Turn::Going)
     }
 
@@ -251,14 +406,15 @@ impl<H: Host> Search<H> {
     }
 
     /// Whether the configuration here is known to fail.
-    fn is_failed(&self, claims: &[Claim]) -> Result<bool, NoMemory>
-        requires once { SubmittedOnce (lines_of claims.now) }
-        requires searching { IsSearching H.meaning H.undo_of (lines_of claims.now)
+    fn is_failed(&self, claims: &[&Claim]) -> Result<bool, NoMemory>
+        requires once { SubmittedOnce (said_by claims.now) }
+        requires searching { IsSearching H.meaning H.undo_of (said_by claims.now)
             (H.state self.now.host)
-            self.now.line self.now.next self.now.steps.items self.now.waiting.items self.now.placed.items }
-        requires failed { AllFailed H.meaning (lines_of claims.now) self.now.failed.kept.keys }
-        ensures { IfOk result (λ b. b ≡ true → GoesOn H.meaning (lines_of claims.now)
-            (front_of (lines_of claims.now) self.now.steps.items) → ⊥) }
+            self.now.line self.now.next self.now.steps.items
+            self.now.waiting.items self.now.placed.items }
+        requires failed { AllFailed H.meaning (said_by claims.now) self.now.failed.kept.keys }
+        ensures { IfOk result (λ b. b ≡ true → GoesOn H.meaning (said_by claims.now)
+            (front_of (said_by claims.now) self.now.steps.items) → ⊥) }
     {
         if self.failed.is_empty() {
             return Ok(false);
@@ -268,23 +424,24 @@ impl<H: Host> Search<H> {
     }
 
     /// Keeps the configuration here, whose front goes nowhere, and takes the last step back.
-    fn fail(&mut self, claims: &[Claim]) -> Result<Turn, NoMemory>
-        requires once { SubmittedOnce (lines_of claims.now) }
+    fn fail(&mut self, claims: &[&Claim]) -> Result<Turn, NoMemory>
+        requires once { SubmittedOnce (said_by claims.now) }
         requires fits { UndosFit (H.fits self.old.host) self.old.steps.items }
-        requires failed { AllFailed H.meaning (lines_of claims.now) self.old.failed.kept.keys }
-        requires searching { IsSearching H.meaning H.undo_of (lines_of claims.now)
+        requires failed { AllFailed H.meaning (said_by claims.now) self.old.failed.kept.keys }
+        requires searching { IsSearching H.meaning H.undo_of (said_by claims.now)
             (H.state self.old.host)
-            self.old.line self.old.next self.old.steps.items self.old.waiting.items self.old.placed.items }
-        requires fails { GoesOn H.meaning (lines_of claims.now) (front_of
-            (lines_of claims.now) self.old.steps.items) → ⊥ }
+            self.old.line self.old.next self.old.steps.items
+            self.old.waiting.items self.old.placed.items }
+        requires fails { GoesOn H.meaning (said_by claims.now) (front_of
+            (said_by claims.now) self.old.steps.items) → ⊥ }
         ensures found { IfOk result (λ turn. turn ≡ Turn.Found → ⊥) }
         ensures none { IfOk result (λ turn. turn ≡ Turn.Nothing
-            → HasOrder H.meaning (lines_of claims.now) → ⊥) }
+            → HasOrder H.meaning (said_by claims.now) → ⊥) }
         ensures failed { OnOk result (AllFailed H.meaning
-            (lines_of claims.now) self.new.failed.kept.keys) }
+            (said_by claims.now) self.new.failed.kept.keys) }
         ensures fits { OnOk result (UndosFit (H.fits self.new.host) self.new.steps.items) }
         ensures searching { IfOk result (λ turn. turn ≡ Turn.Going
-            → IsSearching H.meaning H.undo_of (lines_of claims.now)
+            → IsSearching H.meaning H.undo_of (said_by claims.now)
             (H.state self.new.host) self.new.line self.new.next self.new.steps.items
             self.new.waiting.items self.new.placed.items) }
     {
@@ -294,26 +451,33 @@ impl<H: Host> Search<H> {
     }
 
     /// One step where the claim here accepts what is not placed.
-    fn turn_here(&mut self, claims: &[Claim], pairs: &Pairs) -> Result<Turn, NoMemory>
-        requires submitted { SubmittedOnce (lines_of claims.now) }
-        requires accepted { AcceptedOnce (lines_of claims.now) }
-        requires paired { ArePaired (lines_of claims.now)
+    fn turn_here(
+        &mut self,
+        claims: &[&Claim],
+        pairs: &Pairs,
+        reads: &[bool],
+    ) -> Result<Turn, NoMemory>
+        requires reads { AreReads H.meaning (said_by claims.now) (length claims.now) reads.now }
+        requires submitted { SubmittedOnce (said_by claims.now) }
+        requires accepted { AcceptedOnce (said_by claims.now) }
+        requires paired { ArePaired (said_by claims.now)
             (length claims.now) pairs.now.accepts.items pairs.now.submits.items }
-        requires stuck { IsStuck (lines_of claims.now) self.old.line (front_of
-            (lines_of claims.now) self.old.steps.items) }
+        requires stuck { IsStuck (said_by claims.now) self.old.line (front_of
+            (said_by claims.now) self.old.steps.items) }
         requires fits { UndosFit (H.fits self.old.host) self.old.steps.items }
-        requires failed { AllFailed H.meaning (lines_of claims.now) self.old.failed.kept.keys }
-        requires searching { IsSearching H.meaning H.undo_of (lines_of claims.now)
+        requires failed { AllFailed H.meaning (said_by claims.now) self.old.failed.kept.keys }
+        requires searching { IsSearching H.meaning H.undo_of (said_by claims.now)
             (H.state self.old.host)
-            self.old.line self.old.next self.old.steps.items self.old.waiting.items self.old.placed.items }
+            self.old.line self.old.next self.old.steps.items
+            self.old.waiting.items self.old.placed.items }
         ensures found { IfOk result (λ turn. turn ≡ Turn.Found → ⊥) }
         ensures none { IfOk result (λ turn. turn ≡ Turn.Nothing
-            → HasOrder H.meaning (lines_of claims.now) → ⊥) }
+            → HasOrder H.meaning (said_by claims.now) → ⊥) }
         ensures failed { OnOk result (AllFailed H.meaning
-            (lines_of claims.now) self.new.failed.kept.keys) }
+            (said_by claims.now) self.new.failed.kept.keys) }
         ensures fits { OnOk result (UndosFit (H.fits self.new.host) self.new.steps.items) }
         ensures searching { IfOk result (λ turn. turn ≡ Turn.Going
-            → IsSearching H.meaning H.undo_of (lines_of claims.now)
+            → IsSearching H.meaning H.undo_of (said_by claims.now)
             (H.state self.new.host) self.new.line self.new.next self.new.steps.items
             self.new.waiting.items self.new.placed.items) }
     {
@@ -323,34 +487,38 @@ impl<H: Host> Search<H> {
         if self.next == 0 && self.is_failed(claims)? {
             return self.go_back(claims);
         }
+        if self.place_reads(claims, pairs, reads)? {
+            return Ok(Turn::Going);
+        }
         self.try_next(claims, pairs)?;
         Ok(Turn::Going)
     }
 
     /// One step of the search.
-    fn turn(&mut self, claims: &[Claim], pairs: &Pairs) -> Result<Turn, NoMemory>
-        requires submitted { SubmittedOnce (lines_of claims.now) }
-        requires accepted { AcceptedOnce (lines_of claims.now) }
-        requires paired { ArePaired (lines_of claims.now)
+    fn turn(&mut self, claims: &[&Claim], pairs: &Pairs, reads: &[bool]) -> Result<Turn, NoMemory>
+        requires reads { AreReads H.meaning (said_by claims.now) (length claims.now) reads.now }
+        requires submitted { SubmittedOnce (said_by claims.now) }
+        requires accepted { AcceptedOnce (said_by claims.now) }
+        requires paired { ArePaired (said_by claims.now)
             (length claims.now) pairs.now.accepts.items pairs.now.submits.items }
         requires fits { UndosFit (H.fits self.old.host) self.old.steps.items }
-        requires failed { AllFailed H.meaning (lines_of claims.now) self.old.failed.kept.keys }
-        requires searching { IsSearching H.meaning H.undo_of (lines_of claims.now)
+        requires failed { AllFailed H.meaning (said_by claims.now) self.old.failed.kept.keys }
+        requires searching { IsSearching H.meaning H.undo_of (said_by claims.now)
             (H.state self.old.host)
-            self.old.line self.old.next self.old.steps.items self.old.waiting.items self.old.placed.items }
-        ensures found { IfOk result (λ turn. turn ≡ Turn.Found
-            → IsFront H.meaning (lines_of claims.now) (length claims.now)
-            (front_of (lines_of claims.now) self.new.steps.items)) }
-        ensures steps { IfOk result (λ turn. turn ≡ Turn.Found
-            → AreSteps H.meaning H.undo_of (lines_of claims.now) [] []
-            self.new.steps.items self.new.waiting.items) }
+            self.old.line self.old.next self.old.steps.items
+            self.old.waiting.items self.old.placed.items }
+        ensures found { IfOk result (λ turn. turn ≡ Turn.Found → self.new ≡ self.old) }
+        ensures passed { IfOk result (λ turn. turn ≡ Turn.Found
+            → self.old.line ≡ length claims.now) }
+        ensures within { IfOk result (λ turn. (turn ≡ Turn.Found → ⊥)
+            → self.old.line < length claims.now) }
         ensures none { IfOk result (λ turn. turn ≡ Turn.Nothing
-            → HasOrder H.meaning (lines_of claims.now) → ⊥) }
+            → HasOrder H.meaning (said_by claims.now) → ⊥) }
         ensures failed { OnOk result (AllFailed H.meaning
-            (lines_of claims.now) self.new.failed.kept.keys) }
+            (said_by claims.now) self.new.failed.kept.keys) }
         ensures fits { OnOk result (UndosFit (H.fits self.new.host) self.new.steps.items) }
         ensures searching { IfOk result (λ turn. turn ≡ Turn.Going
-            → IsSearching H.meaning H.undo_of (lines_of claims.now)
+            → IsSearching H.meaning H.undo_of (said_by claims.now)
             (H.state self.new.host) self.new.line self.new.next self.new.steps.items
             self.new.waiting.items self.new.placed.items) }
     {
@@ -360,45 +528,62 @@ impl<H: Host> Search<H> {
         if self.pass(claims, pairs)? {
             return Ok(Turn::Going);
         }
-        self.turn_here(claims, pairs)
+        self.turn_here(claims, pairs, reads)
     }
 
-    /// The places of the claims that submit, in the order in which their requests were placed.
-    fn history(&self, alloc: Global) -> Result<Vec<usize>, NoMemory>
-        ensures { IfOk result (λ v. v.items ≡ map (λ s. s.submit) self.now.steps.items) }
+    /// The requests that are placed, in their order.
+    fn order(&self, alloc: Global) -> Result<Vec<Placed>, NoMemory>
+        ensures { IfOk result (λ v. v.items ≡ map placed_by self.now.steps.items) }
     {
-        Ok(self.steps.iter().map(|s| s.submit).collect(alloc)?)
+        Ok(
+            self.steps
+                .iter()
+                .map(|s| Placed {
+                    submit: s.submit,
+                    line: s.line,
+                })
+                .collect(alloc)?,
+        )
     }
 }
 
-/// Finds an order of the claims in at most as many steps as are left: the places of the claims that submit, in the order of a legal
-/// history; None where no history is legal. A step passes a claim, tries a request, or takes one back.
-pub fn find_order<H: Host>(
+/// Finds an order of the claims, or that there is none, in at most as many steps as are left; Spent where these do not suffice. A step
+/// passes a claim, tries a request, places all reads that agree, or takes a request back.
+pub fn find_order<P: Parted>(
     alloc: Global,
-    claims: &[Claim],
+    claims: &[&Claim],
     pairs: &Pairs,
     left: &mut u64,
-) -> Result<Option<Vec<usize>>, Stopped>
-    requires submitted { SubmittedOnce (lines_of claims.now) }
-    requires accepted { AcceptedOnce (lines_of claims.now) }
-    requires later { AcceptedLater (lines_of claims.now) }
-    requires paired { ArePaired (lines_of claims.now)
+) -> Result<Outcome, Stopped>
+    requires submitted { SubmittedOnce (said_by claims.now) }
+    requires accepted { AcceptedOnce (said_by claims.now) }
+    requires later { AcceptedLater (said_by claims.now) }
+    requires paired { ArePaired (said_by claims.now)
         (length claims.now) pairs.now.accepts.items pairs.now.submits.items }
-    ensures found { IfOk result (λ o. IfSome o (λ places. Legal H.meaning (lines_of claims.now)
-        (history_at (lines_of claims.now) places.items))) }
-    ensures places { IfOk result (λ o. IfSome o (λ places. AllSubmit
-        (lines_of claims.now) places.items)) }
-    ensures none { IfOk result (λ o. IfNone o (HasOrder H.meaning (lines_of claims.now) → ⊥)) }
+    ensures found { IfOk result (λ o. IfFound o (λ placed. Legal P.Service.meaning
+        (said_by claims.now) (history_at (said_by claims.now) (submits_of placed)))) }
+    ensures places { IfOk result (λ o. IfFound o (λ placed. AllSubmit
+        (said_by claims.now) (submits_of placed))) }
+    ensures timed { IfOk result (λ o. IfFound o (λ placed. AreTimed (said_by claims.now)
+        (history_at (said_by claims.now) (submits_of placed)) (time_of placed))) }
+    ensures within { IfOk result (λ o. IfFound o (λ placed. All (λ p. (p.submit < length claims.now)
+        × (p.line < length claims.now)) placed)) }
+    ensures none { IfOk result (λ o. IfNothing o (λ k. HasOrder P.Service.meaning
+        (said_by claims.now) → ⊥)) }
+    ensures furthest { IfOk result (λ o. IfNothing o (λ k. k < length claims.now)) }
     ensures spent { result ≡ Err Stopped.Spent → left.new ≡ 0 }
     ensures left { left.new ≤ left.old }
 {
-    let mut search = Search::<H>::new(alloc, claims)?;
+    let reads = reads_of::<P>(alloc, claims, pairs)?;
+    let mut search = Search::<P::Service>::new(alloc, claims)?;
+    let mut furthest = 0;
     while *left > 0 {
         *left -= 1;
-        match search.turn(claims, pairs)? {
+        furthest = furthest.max(search.line);
+        match search.turn(claims, pairs, reads.as_slice())? {
             Turn::Going => {}
-            Turn::Found => return Ok(Some(search.history(alloc)?)),
-            Turn::Nothing => return Ok(None),
+            Turn::Found => return Ok(Outcome::Found(search.order(alloc)?)),
+            Turn::Nothing => return Ok(Outcome::Nothing(furthest)),
         }
     }
     Err(Stopped::Spent)

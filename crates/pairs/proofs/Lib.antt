@@ -1,3 +1,4 @@
 pub mod SubmittedLemmas
 pub mod PairingLemmas
 pub mod StopLemmas
+pub mod SaidLemmas

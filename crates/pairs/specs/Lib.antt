@@ -1,3 +1,4 @@
 pub mod Pairing
+pub mod Said
 pub mod Stops
 pub mod Submitted

@@ -8,7 +8,8 @@
 //! has no pair (`specs/Stops`). Where one is Groundless no history is legal, over any service
 //! (`groundless_lines_have_no_order`); where one is Repeated nothing is said.
 //!
-//! It is one pass with a map of clients and ids, and takes n log n steps.
+//! The claims are borrowed, so that some of a transcript's can be paired without a copy (`specs/Said`). It is
+//! one pass with a map of clients and ids, and takes n log n steps.
 //!
 //! Files: `pairing`, `unpaired`, `submitted`, which alone knows the map, `laws`.
 #![tactic(auto)]

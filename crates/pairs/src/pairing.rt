@@ -4,9 +4,9 @@ ghost use Rattle.fronts.specs.Fronts.{AcceptedLater};
 ghost use Rattle.nop_types.specs.Legality.{AcceptedOnce};
 ghost use Rattle.nop_types.specs.Lines.{Line, Submit, Accept};
 ghost use Rattle.pairs.specs.Pairing.{ArePaired, IsPairing};
+ghost use Rattle.pairs.specs.Said.{said_by};
 ghost use Rattle.pairs.specs.Stops.{StopsAt};
 ghost use Rattle.pairs.specs.Submitted.{place_in};
-ghost use Rattle.transcript_reader.specs.Claims.{lines_of};
 
 use crate::submitted::Submitted;
 use crate::unpaired::Unpaired;
@@ -47,17 +47,17 @@ impl Pairing {
     /// The claim at this place submits the request.
     fn take_submit(
         &mut self,
-        claims: &[Claim],
+        claims: &[&Claim],
         place: usize,
         request: &Request,
     ) -> Result<(), Unpaired>
-        requires line { slice_get (lines_of claims.now) place ≡ Some (Submit request.now) }
-        requires pairing { IsPairing (lines_of claims.now) place (place_in self.old.submitted)
+        requires line { slice_get (said_by claims.now) place ≡ Some (Submit request.now) }
+        requires pairing { IsPairing (said_by claims.now) place (place_in self.old.submitted)
             self.old.pairs.accepts.items self.old.pairs.submits.items }
-        ensures ok { OnOk result (IsPairing (lines_of claims.now) (place + 1)
+        ensures ok { OnOk result (IsPairing (said_by claims.now) (place + 1)
             (place_in self.new.submitted)
             self.new.pairs.accepts.items self.new.pairs.submits.items) }
-        ensures err { IfErr result (StopsAt (lines_of claims.now)) }
+        ensures err { IfErr result (StopsAt (said_by claims.now)) }
     {
         if self.submitted.find(request.client, request.id).is_some() {
             return Err(Unpaired::Repeated(place));
@@ -71,19 +71,19 @@ impl Pairing {
     /// The claim at this place accepts a result of this client and id.
     fn take_accept(
         &mut self,
-        claims: &[Claim],
+        claims: &[&Claim],
         place: usize,
         client: u32,
         id: u64,
     ) -> Result<(), Unpaired>
         requires line { (result : List ℕ)
-            × (slice_get (lines_of claims.now) place ≡ Some (Accept client id result)) }
-        requires pairing { IsPairing (lines_of claims.now) place (place_in self.old.submitted)
+            × (slice_get (said_by claims.now) place ≡ Some (Accept client id result)) }
+        requires pairing { IsPairing (said_by claims.now) place (place_in self.old.submitted)
             self.old.pairs.accepts.items self.old.pairs.submits.items }
-        ensures ok { OnOk result (IsPairing (lines_of claims.now) (place + 1)
+        ensures ok { OnOk result (IsPairing (said_by claims.now) (place + 1)
             (place_in self.new.submitted)
             self.new.pairs.accepts.items self.new.pairs.submits.items) }
-        ensures err { IfErr result (StopsAt (lines_of claims.now)) }
+        ensures err { IfErr result (StopsAt (said_by claims.now)) }
     {
         let Some(submit) = self.submitted.find(client, id) else {
             return Err(Unpaired::Groundless(place));
@@ -97,16 +97,17 @@ impl Pairing {
         Ok(())
     }
 
-    fn take(&mut self, claims: &[Claim], place: usize) -> Result<(), Unpaired>
+    fn take(&mut self, claims: &[&Claim], place: usize) -> Result<(), Unpaired>
         requires place { place < length claims.now }
-        requires pairing { IsPairing (lines_of claims.now) place (place_in self.old.submitted)
+        requires pairing { IsPairing (said_by claims.now) place (place_in self.old.submitted)
             self.old.pairs.accepts.items self.old.pairs.submits.items }
-        ensures ok { OnOk result (IsPairing (lines_of claims.now) (place + 1)
+        ensures ok { OnOk result (IsPairing (said_by claims.now) (place + 1)
             (place_in self.new.submitted)
             self.new.pairs.accepts.items self.new.pairs.submits.items) }
-        ensures err { IfErr result (StopsAt (lines_of claims.now)) }
+        ensures err { IfErr result (StopsAt (said_by claims.now)) }
     {
-        match &claims[place] {
+        let claim = claims[place];
+        match claim {
             Claim::Submitted(request) => self.take_submit(claims, place, request),
             Claim::Accepted { client, id, .. } => self.take_accept(claims, place, *client, *id),
         }
@@ -114,13 +115,13 @@ impl Pairing {
 }
 
 /// The pairs of claims, in one pass; or the first claim that submits what was submitted, or accepts what was not or is accepted.
-pub fn pairs_of(alloc: Global, claims: &[Claim]) -> Result<Pairs, Unpaired>
-    ensures paired { IfOk result (λ p. ArePaired (lines_of claims.now)
+pub fn pairs_of(alloc: Global, claims: &[&Claim]) -> Result<Pairs, Unpaired>
+    ensures paired { IfOk result (λ p. ArePaired (said_by claims.now)
         (length claims.now) p.accepts.items p.submits.items) }
-    ensures submitted { OnOk result (SubmittedOnce (lines_of claims.now)) }
-    ensures accepted { OnOk result (AcceptedOnce (lines_of claims.now)) }
-    ensures later { OnOk result (AcceptedLater (lines_of claims.now)) }
-    ensures err { IfErr result (StopsAt (lines_of claims.now)) }
+    ensures submitted { OnOk result (SubmittedOnce (said_by claims.now)) }
+    ensures accepted { OnOk result (AcceptedOnce (said_by claims.now)) }
+    ensures later { OnOk result (AcceptedLater (said_by claims.now)) }
+    ensures err { IfErr result (StopsAt (said_by claims.now)) }
 {
     let mut pairing = Pairing::new(alloc);
     for place in 0..claims.len() {

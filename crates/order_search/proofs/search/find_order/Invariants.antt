@@ -1,15 +1,16 @@
-use Rattle.std.proofs.Common.{◌≤◌}
+use Rattle.std.proofs.Common.{◌<◌, ◌≤◌, length}
 use Rattle.order_search.specs.Failing.{AllFailed}
 use Rattle.order_search.specs.Searching.{IsSearching, UndosFit}
 use Rattle.order_search.proofs.search.find_order.Given as goal
-use Rattle.transcript_reader.specs.Claims.{lines_of}
+use Rattle.pairs.specs.Said.{said_by}
 
 abbrev pub invariant-loop-left : goal.invariant-loop-left
 invariant-loop-left g l = record {
-  searching : IsSearching g.H.Host.meaning g.H.Host.undo_of (lines_of l.claims) (g.H.Host.state l.search.host) l.search.line l.search.next
+  searching : IsSearching g.P.Service.Host.meaning g.P.Service.Host.undo_of (said_by l.claims) (g.P.Service.Host.state l.search.host) l.search.line l.search.next
       l.search.steps.items l.search.waiting.items l.search.placed.items;
-  fits : UndosFit (g.H.Host.fits l.search.host) l.search.steps.items;
-  failed : AllFailed g.H.Host.meaning (lines_of l.claims) l.search.failed.kept.keys;
+  fits : UndosFit (g.P.Service.Host.fits l.search.host) l.search.steps.items;
+  failed : AllFailed g.P.Service.Host.meaning (said_by l.claims) l.search.failed.kept.keys;
+  furthest : 0 < length l.claims → l.furthest < length l.claims;
   left : l.left ≤ l.fn.left;
 }
 

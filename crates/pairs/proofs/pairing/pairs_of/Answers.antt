@@ -1,32 +1,32 @@
 use Rattle.std.proofs.Common.{◌≤◌, length, arith}
-use Rattle.std.proofs.lemmas.List.{length-map}
 use Rattle.pairs.proofs.PairingLemmas.{submitted_once, accepted_later, accepted_once}
+use Rattle.pairs.proofs.SaidLemmas.{length_said}
 use Rattle.pairs.proofs.pairing.pairs_of.Goals as goal
-use Rattle.transcript_reader.specs.Claims.{line_of, lines_of}
+use Rattle.pairs.specs.Said.{said_by}
 
 pub loop-place-init : goal.loop-place-init
-loop-place-init c = c.new-pairing.ensures (lines_of c.args.claims.now)
+loop-place-init c = c.new-pairing.ensures (said_by c.args.claims.now)
 
 pub returns-clause-submitted : goal.returns-clause-submitted
 returns-clause-submitted c =
     let claims = c.args.claims.now in
-    let e = length-map claims line_of in
-    let all : length (lines_of claims) ≤ c.loop-place.place = omega (arith, c.loop-place-test.false, e) in
-    submitted_once (lines_of claims) c.loop-place.place all c.loop-place.pairing.pairs.accepts.items c.loop-place.pairing.pairs.submits.items
+    let e = length_said claims in
+    let all : length (said_by claims) ≤ c.loop-place.place = omega (arith, c.loop-place-test.false, e) in
+    submitted_once (said_by claims) c.loop-place.place all c.loop-place.pairing.pairs.accepts.items c.loop-place.pairing.pairs.submits.items
     c.loop-place.invariant.paired
 
 pub returns-clause-accepted : goal.returns-clause-accepted
 returns-clause-accepted c =
     let claims = c.args.claims.now in
-    let e = length-map claims line_of in
-    let all : length (lines_of claims) ≤ c.loop-place.place = omega (arith, c.loop-place-test.false, e) in
-    accepted_once (lines_of claims) c.loop-place.place all c.loop-place.pairing.pairs.accepts.items c.loop-place.pairing.pairs.submits.items
+    let e = length_said claims in
+    let all : length (said_by claims) ≤ c.loop-place.place = omega (arith, c.loop-place-test.false, e) in
+    accepted_once (said_by claims) c.loop-place.place all c.loop-place.pairing.pairs.accepts.items c.loop-place.pairing.pairs.submits.items
     c.loop-place.invariant.paired
 
 pub returns-clause-later : goal.returns-clause-later
 returns-clause-later c =
     let claims = c.args.claims.now in
-    let e = length-map claims line_of in
-    let all : length (lines_of claims) ≤ c.loop-place.place = omega (arith, c.loop-place-test.false, e) in
-    accepted_later (lines_of claims) c.loop-place.place all c.loop-place.pairing.pairs.accepts.items c.loop-place.pairing.pairs.submits.items
+    let e = length_said claims in
+    let all : length (said_by claims) ≤ c.loop-place.place = omega (arith, c.loop-place-test.false, e) in
+    accepted_later (said_by claims) c.loop-place.place all c.loop-place.pairing.pairs.accepts.items c.loop-place.pairing.pairs.submits.items
     c.loop-place.invariant.paired

@@ -2,7 +2,7 @@ use Rattle.std.proofs.Common.{ap, sym, Result, Ok, Err, OnOk}
 use Rattle.order_search.proofs.FailedLemmas.{failed_more, fails_here}
 use Rattle.order_search.proofs.search.Search.fail.Goals as goal
 use Rattle.order_search.specs.Searching.{front_of}
-use Rattle.transcript_reader.specs.Claims.{lines_of}
+use Rattle.pairs.specs.Said.{said_by}
 
 always : {T E P : Type 0} (r : Result T E) → P → OnOk r P
 always (Ok x) p = p
@@ -11,7 +11,7 @@ always (Err e) p = tt
 pub returns-clause-failed : goal.returns-clause-failed
 returns-clause-failed g c =
     let m = g.H.Host.meaning in
-    let lines = lines_of c.args.claims.now in
+    let lines = said_by c.args.claims.now in
     let old = c.args.self.now in
     let here = c.in_ok-here.here in
     let is = c.in_ok-here.ensures in

@@ -1,20 +1,20 @@
-use Rattle.std.proofs.Common.{◌≡◌, length, take, ap, add-one, arith, rules}
+use Rattle.std.proofs.Common.{◌≡◌, length, take, ap, arith, rules}
 use Rattle.std.specs.Prelude.{insert}
-use Rattle.order_search.proofs.SearchLemmas.{search_goes_back, last_within, last_has_room, last_waits}
+use Rattle.order_search.proofs.SearchLemmas.{search_goes_back, last_within, last_has_room}
 use Rattle.order_search.proofs.StepLemmas.{fit_front, fit_still}
 use Rattle.order_search.proofs.search.Search.go_back.Goals as goal
-use Rattle.transcript_reader.specs.Claims.{lines_of}
+use Rattle.pairs.specs.Said.{said_by}
 
 pub mark-requires : goal.mark-requires
 mark-requires g c =
     let old = c.args.self.now in
-    last_within g.H.Host.meaning g.H.Host.undo_of (lines_of c.args.claims.now) (g.H.Host.state old.host) old.line old.next c.pop.new.self.items
+    last_within g.H.Host.meaning g.H.Host.undo_of (said_by c.args.claims.now) (g.H.Host.state old.host) old.line old.next c.pop.new.self.items
     c.in-Some.step old.waiting.items old.placed.items (rw c.in-Some.ensures.items at c.requires.searching)
 
 pub insert-requires : goal.insert-requires
 insert-requires g c =
     let old = c.args.self.now in
-    let l = last_has_room g.H.Host.meaning g.H.Host.undo_of (lines_of c.args.claims.now) (g.H.Host.state old.host) old.line old.next
+    let l = last_has_room g.H.Host.meaning g.H.Host.undo_of (said_by c.args.claims.now) (g.H.Host.state old.host) old.line old.next
     c.pop.new.self.items c.in-Some.step old.waiting.items old.placed.items (rw c.in-Some.ensures.items at c.requires.searching) in
     let e = ap length c.truncate.ensures.items in
     omega (arith, l, e)
@@ -24,8 +24,8 @@ returns-clause-searching g c _ =
     let old = c.args.self.now in
     let step = c.in-Some.step in
     let waiting : c.insert.new.self.items ≡ insert (take step.others old.waiting.items) step.at step.submit = search rules in
-    rw (c.mark.ensures, c.tried-self.ensures, waiting, add-one step.at)
-    (search_goes_back g.H.Host.meaning g.H.Host.undo_of (lines_of c.args.claims.now) (g.H.Host.state old.host) old.line old.next
+    rw (c.mark.ensures, waiting)
+    (search_goes_back g.H.Host.meaning g.H.Host.undo_of (said_by c.args.claims.now) (g.H.Host.state old.host) old.line old.next
     c.pop.new.self.items step old.waiting.items old.placed.items (rw c.in-Some.ensures.items at c.requires.searching) c.requires.once
     (rw c.in-Some.ensures.items at c.requires.fails) g.H.Host.undone g.met.H.Host.undoes (g.H.Host.state c.undo.new.self)
     c.undo.ensures.state)
@@ -35,11 +35,3 @@ returns-clause-fits g c =
     let old = c.args.self.now in
     fit_still (g.H.Host.fits old.host) (g.H.Host.fits c.undo.new.self) c.undo.ensures.still_fits c.pop.new.self.items
     (fit_front (g.H.Host.fits old.host) c.pop.new.self.items c.in-Some.step (rw c.in-Some.ensures.items at c.requires.fits))
-
-pub tried-self-requires : goal.tried-self-requires
-tried-self-requires g c =
-    let old = c.args.self.now in
-    let step = c.in-Some.step in
-    let waiting : c.insert.new.self.items ≡ insert (take step.others old.waiting.items) step.at step.submit = search rules in
-    rw waiting (last_waits g.H.Host.meaning g.H.Host.undo_of (lines_of c.args.claims.now) (g.H.Host.state old.host) old.line old.next
-    c.pop.new.self.items step old.waiting.items old.placed.items (rw c.in-Some.ensures.items at c.requires.searching))

@@ -3,12 +3,12 @@ use Rattle.fronts.proofs.Failing.{failed_again}
 use Rattle.order_search.proofs.FailedLemmas.{known_fails, failed_here}
 use Rattle.order_search.proofs.search.Search.is_failed.Goals as goal
 use Rattle.order_search.specs.Searching.{front_of}
-use Rattle.transcript_reader.specs.Claims.{lines_of}
+use Rattle.pairs.specs.Said.{said_by}
 
 pub returns : goal.returns
 returns g c e =
     let m = g.H.Host.meaning in
-    let lines = lines_of c.args.claims.now in
+    let lines = said_by c.args.claims.now in
     let old = c.args.self.now in
     let here = c.in_ok-here.here in
     let is = c.in_ok-here.ensures in

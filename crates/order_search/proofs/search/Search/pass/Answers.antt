@@ -1,28 +1,29 @@
 use Rattle.std.proofs.Common.{◌≡◌, ◌∙◌, ◌++◌, ◌∷◌, [], ◌<◌, Some, length, ap, add-one, arith, rules}
-use Rattle.std.proofs.lemmas.List.{length-map}
+use Rattle.pairs.proofs.SaidLemmas.{length_said}
 use Rattle.order_search.proofs.SearchLemmas.{search_waits, search_passes}
 use Rattle.order_search.proofs.search.Search.pass.Goals as goal
-use Rattle.transcript_reader.specs.Claims.{line_of, lines_of}
+use Rattle.pairs.specs.Said.{said_by}
+use Rattle.transcript_reader.specs.Claims.{line_of}
 use Rattle.transcript_reader.specs.declared.claim.Claim.{Claim}
 
 pub returns-in_ok-push-in-Submitted-clause-searching : goal.returns-in_ok-push-in-Submitted-clause-searching
 returns-in_ok-push-in-Submitted-clause-searching g c =
     let old = c.args.self.now in
     let claims = c.args.claims.now in
-    let e = length-map claims line_of in
-    let within : old.line < length (lines_of claims) = omega (arith, c.requires.within, e) in
+    let e = length_said claims in
+    let within : old.line < length (said_by claims) = omega (arith, c.requires.within, e) in
     let at = c.claim_at.ensures ∙ ap (λ (t : Claim). Some (line_of t)) c.in-Submitted.is in
     let pushed : c.push.new.self.items ≡ old.waiting.items ++ old.line ∷ [] = search rules in
-    rw (pushed, add-one old.line) (search_waits g.H.Host.meaning g.H.Host.undo_of (lines_of claims) (g.H.Host.state old.host) old.line old.next
+    rw (pushed, add-one old.line) (search_waits g.H.Host.meaning g.H.Host.undo_of (said_by claims) (g.H.Host.state old.host) old.line old.next
     old.steps.items old.waiting.items old.placed.items c.requires.searching c.requires.once c.in-Submitted.field-0 at within)
 
 pub returns-else-not-is_placed-clause-searching : goal.returns-else-not-is_placed-clause-searching
 returns-else-not-is_placed-clause-searching g c =
     let old = c.args.self.now in
     let claims = c.args.claims.now in
-    let e = length-map claims line_of in
-    let within : old.line < length (lines_of claims) = omega (arith, c.requires.within, e) in
+    let e = length_said claims in
+    let within : old.line < length (said_by claims) = omega (arith, c.requires.within, e) in
     let at = c.claim_at.ensures ∙ ap (λ (t : Claim). Some (line_of t)) c.in-Accepted.is in
-    rw (add-one old.line) (search_passes g.H.Host.meaning g.H.Host.undo_of (lines_of claims) (g.H.Host.state old.host) old.line old.next
+    rw (add-one old.line) (search_passes g.H.Host.meaning g.H.Host.undo_of (said_by claims) (g.H.Host.state old.host) old.line old.next
     old.steps.items old.waiting.items old.placed.items c.requires.searching c.in-Accepted.client c.in-Accepted.id c.in-Accepted.result at within
     c.if-not-is_placed.ensures)

@@ -1,15 +1,15 @@
 use Rattle.std.proofs.Common.{◌≡◌, ◌++◌, ◌∷◌, [], ℕ, ◌<◌, length, Option, Some, None, refl, ap, sym, ◌∙◌, add-one, arith, rules}
 use Rattle.std.specs.Prelude.{slice_set}
 use Rattle.std.proofs.lemmas.Option.{slice_get_read}
+use Rattle.pairs.specs.Said.{said_by}
 use Rattle.pairs.specs.Submitted.{place_in}
 use Rattle.pairs.proofs.PairingLemmas.{pairing_accepts}
 use Rattle.pairs.proofs.StopLemmas.{all_good, lacks_submit, accepts_again, some_of, none_of}
 use Rattle.pairs.proofs.pairing.Pairing.take_accept.Goals as goal
-use Rattle.transcript_reader.specs.Claims.{lines_of}
 
 pub returns-in_default-clause-err : goal.returns-in_default-clause-err
 returns-in_default-clause-err c =
-    let lines = lines_of c.args.claims.now in
+    let lines = said_by c.args.claims.now in
     let old = c.args.self.now in
     let f = place_in old.submitted in
     let accepts = old.pairs.accepts.items in
@@ -27,7 +27,7 @@ index-requires c =
 
 pub returns-then-is_some-clause-err : goal.returns-then-is_some-clause-err
 returns-then-is_some-clause-err c =
-    let lines = lines_of c.args.claims.now in
+    let lines = said_by c.args.claims.now in
     let old = c.args.self.now in
     let f = place_in old.submitted in
     let accepts = old.pairs.accepts.items in
@@ -50,7 +50,7 @@ index_mut-requires c =
 
 pub returns-clause-ok : goal.returns-clause-ok
 returns-clause-ok c =
-    let lines = lines_of c.args.claims.now in
+    let lines = said_by c.args.claims.now in
     let old = c.args.self.now in
     let f = place_in old.submitted in
     let accepts = old.pairs.accepts.items in

@@ -1,13 +1,13 @@
 use Rattle.std.proofs.Common.{◌≡◌, ◌++◌, ◌∷◌, [], None, sym, ◌∙◌, add-one, rules}
+use Rattle.pairs.specs.Said.{said_by}
 use Rattle.pairs.specs.Submitted.{place_in}
 use Rattle.pairs.proofs.PairingLemmas.{pairing_submits}
 use Rattle.pairs.proofs.StopLemmas.{all_good, repeats, some_of, none_of}
 use Rattle.pairs.proofs.pairing.Pairing.take_submit.Goals as goal
-use Rattle.transcript_reader.specs.Claims.{lines_of}
 
 pub returns-then-is_some-clause-err : goal.returns-then-is_some-clause-err
 returns-then-is_some-clause-err c =
-    let lines = lines_of c.args.claims.now in
+    let lines = said_by c.args.claims.now in
     let old = c.args.self.now in
     let f = place_in old.submitted in
     let found = some_of c.find.result (sym c.is_some.ensures ∙ c.if-is_some.true) in (
@@ -23,5 +23,5 @@ returns-clause-ok c =
     let accepts : c.push.new.self.items ≡ old.pairs.accepts.items ++ None ∷ [] = search rules in
     let submits : c.push-2.new.self.items ≡ old.pairs.submits.items ++ None ∷ [] = search rules in
     rw (accepts, submits, add-one c.args.place)
-    (pairing_submits (lines_of c.args.claims.now) c.args.place (place_in old.submitted) old.pairs.accepts.items old.pairs.submits.items
+    (pairing_submits (said_by c.args.claims.now) c.args.place (place_in old.submitted) old.pairs.accepts.items old.pairs.submits.items
     c.requires.pairing c.args.request.now c.requires.line none (place_in c.note.new.self) c.in_ok-note.ensures)
