@@ -1,0 +1,16 @@
+mod AnswerLemmas
+mod Chosen
+mod FoundLemmas
+mod GoodLemmas
+mod HistoryLemmas
+mod JoinLemmas
+mod LackLemmas
+mod Mapped
+mod MoveLemmas
+mod NameLemmas
+mod Owned
+mod SelectLemmas
+mod SortClauses
+mod Sorting
+mod SplitLemmas
+mod WholeLemmas

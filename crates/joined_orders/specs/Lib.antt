@@ -1,0 +1,5 @@
+pub mod Answers
+pub mod Joining
+pub mod Names
+pub mod Owning
+pub mod Splitting
