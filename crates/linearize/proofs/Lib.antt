@@ -1,0 +1,4 @@
+pub mod Answered
+pub mod Ended
+pub mod Numbered
+pub mod Spelled
