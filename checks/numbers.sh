@@ -87,6 +87,7 @@ udp_ports ACK_EVERY 6
 udp_ports RECENT_PARTS 72
 udp_ports WAIT_MILLIS 1
 replay MAX_DRAWN_EVENTS 100_000
+linearize DEFAULT_STEPS 100_000_000
 END
 }
 
@@ -98,7 +99,9 @@ peer_codec HEAD_BYTES
 peer_codec SENDER_AT
 peer_codec LEAST_CLIENT
 fragments PARTS_AHEAD
+fronts MAX_PARTS
 kv_parts MAX_PARTS
+linearize MOST
 network SHARED_LEN
 network LOOKBACK
 network LINE_ROOM
