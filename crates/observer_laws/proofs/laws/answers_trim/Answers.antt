@@ -1,0 +1,7 @@
+use Rattle.nop_types.specs.Checkpoints.{KeepsTo}
+use Rattle.observer_laws.proofs.Trims.{answer_trims}
+use Rattle.observer_laws.proofs.laws.answers_trim.Goals as goal
+
+pub returns : goal.returns
+returns g c =
+    let keeps : KeepsTo g.H.Host.meaning g.H.Host.is_sound = search (g.met.H.Host) in answer_trims g.H.Host.meaning g.H.Host.is_sound keeps
