@@ -27,5 +27,5 @@ if command -v rustc > /dev/null; then
 else
     python3 bench/linearize/measure.py "$folder" "$judge" "proved=$program" || status=1
 fi
-python3 checks/linearize/small.py kv "$program" "$judge" "${SMALL:-20000}" "${NUMBER:-2}" || status=1
+python3 -B checks/linearize/small.py kv "$program" "$judge" "${SMALL:-20000}" "${NUMBER:-2}" || status=1
 exit $status

@@ -20,7 +20,7 @@ kv_linearize=$program
 small() {
     local said
     made=$((made + $4))
-    said=$(python3 checks/linearize/small.py "$@" 1 2>&1) && grep -qE ' an order [0-9]{2,} without [0-9]{2,} ' <<< "$said" ||
+    said=$(python3 -B checks/linearize/small.py "$@" 1 2>&1) && grep -qE ' an order [0-9]{2,} without [0-9]{2,} ' <<< "$said" ||
         differs "$1: $said"
 }
 

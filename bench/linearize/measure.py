@@ -46,7 +46,7 @@ def main():
     for history in HISTORIES:
         given, outputs, columns, processor = folder + "/given", [], [], []
         with open(given, "wb") as file:
-            subprocess.run([sys.executable, GEN, *history.split()], stdout=file, check=True)
+            subprocess.run([sys.executable, "-B", GEN, *history.split()], stdout=file, check=True)
         for name, program in named:
             outputs.append(f"{folder}/{name}")
             clock, seconds, memory = map(statistics.median, zip(*(run(program, given, outputs[-1]) for _ in range(3))))
