@@ -56,7 +56,7 @@ fn call(
 ) -> (Result<Bytes, CallError>, usize) {
     let service = Service {
         base: BasePort::new(41000).expect(rt, "a port"),
-        config: Config::new(3, 1, 1, 1).expect(rt, "a group"),
+        config: Config::new(3, 1, 1, 1, 0).expect(rt, "a group"),
     };
     let op = Op::new(alloc, b"put").expect(rt, "an op");
     let mut ports = ports(rt, alloc, polls, failing);

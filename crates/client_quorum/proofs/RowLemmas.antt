@@ -1,7 +1,7 @@
 -- Each step of a client is a row.
 use Rattle.std.proofs.Common.{◌≡◌, ℕ, zero, Bool, true, false, Option, Some, None, refl, sym, ◌∙◌, inl, inr, List, [], ◌∷◌, subst}
 use Rattle.std.specs.Prelude.{Result, Ok}
-use Rattle.nop_types.specs.Given.{Given, Packet, Ticked, Submit}
+use Rattle.nop_types.specs.Given.{Given, Packet, Ticked, Submit, Read}
 use Rattle.nop_types.specs.Lists.{Has}
 use Rattle.nop_types.specs.declared.input.Tick.{Tick}
 use Rattle.nop_types.specs.declared.input.Tick.TheVariants as ticks
@@ -15,7 +15,7 @@ use Rattle.client_quorum.specs.declared.state.ClientState.{ClientState}
 use Rattle.client_quorum.specs.ClientSteps.{next, on_tick, on_datagram, can_submit, request_of, submit_if, first_of}
 use Rattle.client_quorum.specs.ClientSteps.{after_first, submit_first, submit_waiting_if, is_expected, kept, accept_if, reply_if}
 use Rattle.client_quorum.specs.KeptReplies.{keep_reply, quorum_of}
-use Rattle.client_quorum.specs.Rows.{BringsNoReply, HasNoRoom, HasNoOp, IsForOthers}
+use Rattle.client_quorum.specs.Rows.{BringsNoReply, HasNoRoom, HasNoOp, IsForOthers, IsRead}
 use Rattle.client_quorum.specs.Rows.{Row, Rests, SaysBusy, Opens, Repeats, Keeps, Accepts}
 use Rattle.client_quorum.specs.Runs.{reply_in, reply_of}
 use Rattle.client_quorum.proofs.OpenRequests.{quorum_here}
@@ -65,3 +65,4 @@ unfolding next
 row_of s (Packet bytes) = packet_row s (Packet bytes) bytes refl (reading bytes) refl
 row_of s (Ticked tick) = tick_row s (Ticked tick) tick refl
 row_of s (Submit op) = submit_row s (Submit op) op refl (can_submit s) refl
+row_of s (Read observer key) = Rests (IsRead observer key refl)

@@ -7,7 +7,7 @@ use Rattle.std.proofs.lemmas.Option.{none-some, same_Some}
 use Rattle.nop_types.specs.Configuration.{Configuration}
 use Rattle.nop_types.specs.Given.{Given}
 use Rattle.nop_types.specs.declared.output.Out.{Out}
-use Rattle.nop_types.specs.declared.output.Out.TheVariants.{Send, Submitted, Accepted, Busy, Trimmed}
+use Rattle.nop_types.specs.declared.output.Out.TheVariants.{Send, Submitted, Accepted, Busy}
 use Rattle.nop_types.specs.declared.request.Request.{Request}
 use Rattle.nop_types.specs.declared.datagram.Reply.{Reply}
 use Rattle.client_quorum.specs.declared.state.ClientState.{ClientState}
@@ -97,7 +97,7 @@ rest_of number held last (Accepted client id result) outs t =
     record { held_then = None; last_then = last; higher = some_is (has_none held) last t.0; later = omega arith; turns = t.3 }
 rest_of number held last (Busy client) outs t =
     record { held_then = held; last_then = last; higher = omega arith; later = omega arith; turns = t.1 }
-rest_of number held last (Trimmed first entries) outs t = absurd t
+rest_of number held last _ outs t = absurd t
 
 -- a first output that is submitted
 submitted_first : (number : ℕ) (held : Option Request) (last : ℕ) (x : Out) (outs : List Out) (r : Request)
@@ -106,10 +106,7 @@ submitted_first : (number : ℕ) (held : Option Request) (last : ℕ) (x : Out) 
 submitted_first number held last (Submitted q) outs r t e =
     let same : q ≡ r = cc in
     (ap (λ (p : Request). p.id) (sym same) ∙ t.2, subst (λ (p : Request). TakesTurns number (Some p) (last + 1) outs) same t.3)
-submitted_first number held last (Send dest bytes) outs r t e = absurd cc
-submitted_first number held last (Accepted client id result) outs r t e = absurd cc
-submitted_first number held last (Busy client) outs r t e = absurd cc
-submitted_first number held last (Trimmed first entries) outs r t e = absurd t
+submitted_first number held last _ outs r t e = absurd cc
 
 submitted_above : (number : ℕ) (held : Option Request) (last : ℕ) (outs : List Out) → TakesTurns number held last outs
     → (i : ℕ) (r : Request) → slice_get outs i ≡ Some (Submitted r) → last < r.id
@@ -139,11 +136,8 @@ submitted_once_at number held last (x ∷ outs) t (suc i) (suc j) p q e f same =
 accepted_first : (number : ℕ) (held : Option Request) (last : ℕ) (x : Out) (outs : List Out) (client id : ℕ) (result : List ℕ)
     → TakesTurns number held last (x ∷ outs) → Some x ≡ Some (Accepted client id result)
     → (has_none held ≡ false) × (id ≡ last) × TakesTurns number None last outs
-accepted_first number held last (Submitted q) outs client id result t e = absurd cc
-accepted_first number held last (Send dest bytes) outs client id result t e = absurd cc
 accepted_first number held last (Accepted c k a) outs client id result t e = let same : k ≡ id = cc in (t.0, sym same ∙ t.2, t.3)
-accepted_first number held last (Busy c) outs client id result t e = absurd cc
-accepted_first number held last (Trimmed first entries) outs client id result t e = absurd t
+accepted_first number held last _ outs client id result t e = absurd cc
 
 at_last : (b : Bool) (n : ℕ) → b ≡ false → cond b (n + 1) n ≤ n
 at_last true n e = absurd cc

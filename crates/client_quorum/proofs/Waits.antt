@@ -3,12 +3,12 @@ use Rattle.std.proofs.Common.{◌≡◌, ℕ, zero, ◌+◌, Option, Some, None,
 use Rattle.std.proofs.Common.{append_assoc, length-append, map}
 use Rattle.std.proofs.lemmas.Option.{none-some}
 use Rattle.nop_types.specs.Configuration.{Configuration}
-use Rattle.nop_types.specs.Given.{Given, Packet, Ticked, Submit}
+use Rattle.nop_types.specs.Given.{Given, Submit}
 use Rattle.nop_types.specs.Lists.{Has}
 use Rattle.nop_types.specs.declared.request.Request.{Request}
 use Rattle.nop_types.specs.declared.datagram.Reply.{Reply}
 use Rattle.nop_types.specs.declared.output.Out.{Out}
-use Rattle.nop_types.specs.declared.output.Out.TheVariants.{Submitted, Send, Accepted, Busy, Trimmed}
+use Rattle.nop_types.specs.declared.output.Out.TheVariants.{Submitted, Accepted}
 use Rattle.lemmas.proofs.Members.{Has-append_left, Has-append_right}
 use Rattle.client_quorum.specs.declared.state.ClientState.{ClientState}
 use Rattle.client_quorum.specs.ClientSteps.{opening, next, request_of, sent, kept}
@@ -22,24 +22,19 @@ use Rattle.client_quorum.proofs.Turns.{IsTidy, open_of}
 ops_append : (xs ys : List Out) → ops_of (xs ++ ys) ≡ ops_of xs ++ ops_of ys
 ops_append [] ys = refl
 ops_append (Submitted r ∷ xs) ys = ap (λ (l : List (List ℕ)). r.op ∷ l) (ops_append xs ys)
-ops_append (Send dest bytes ∷ xs) ys = ops_append xs ys
-ops_append (Accepted client id result ∷ xs) ys = ops_append xs ys
-ops_append (Busy client ∷ xs) ys = ops_append xs ys
-ops_append (Trimmed first entries ∷ xs) ys = ops_append xs ys
+ops_append (_ ∷ xs) ys = ops_append xs ys
 
 sent_ops : (qs : List Request) → ops_of (map sent qs) ≡ []
 sent_ops [] = refl
 sent_ops (q ∷ qs) = sent_ops qs
 
 pub no_submit : (x : Given) (xs : List Given) (op : List ℕ) → HasNoSubmit (x ∷ xs) → x ≡ Submit op → ⊥
-no_submit (Packet bytes) xs op h e = cc
-no_submit (Ticked tick) xs op h e = cc
 no_submit (Submit o) xs op h e = h
+no_submit _ xs op h e = cc
 
 pub others : (x : Given) (xs : List Given) → HasNoSubmit (x ∷ xs) → HasNoSubmit xs
-others (Packet bytes) xs h = h
-others (Ticked tick) xs h = h
 others (Submit op) xs h = absurd h
+others _ xs h = h
 
 -- ---- in order
 

@@ -131,6 +131,7 @@ unfoldable pub next : ClientState → Given → ClientState × List Out
 next s (Packet bytes) = on_datagram s (reading bytes)
 next s (Ticked tick) = on_tick s tick
 next s (Submit op) = submit s op
+next s _ = (s, [])
 
 -- ---- timers, and the end
 

@@ -1,6 +1,6 @@
 -- What a step of a client does: one of six things; and what becomes of its open requests and of what it keeps for them.
 use Rattle.std.specs.Prelude.{◌≡◌, ◌⊎◌, ℕ, ◌+◌, List, [], ◌∷◌, ◌++◌, map, filter, length, true, false, not, Option, Some, None, ◌==◌}
-use Rattle.nop_types.specs.Given.{Given, Packet, Ticked, Submit}
+use Rattle.nop_types.specs.Given.{Given, Packet, Ticked, Submit, Read}
 use Rattle.nop_types.specs.Lists.{Has}
 use Rattle.nop_types.specs.declared.input.Tick.{Tick}
 use Rattle.nop_types.specs.declared.input.Tick.TheVariants as ticks
@@ -34,6 +34,7 @@ pub data HasNothing (s : ClientState) (x : Given) : Type 0 where
   HasNoOp : x ≡ Ticked ticks.Next → s.waiting ≡ [] → HasNothing s x
   -- a tick for others
   IsForOthers : (tick : Tick) → x ≡ Ticked tick → is_tick_for tick ≡ false → HasNothing s x
+  IsRead : (observer : ℕ) (key : List ℕ) → x ≡ Read observer key → HasNothing s x
 
 -- the new state, and what is given
 pub data Row (s : ClientState) (x : Given) : ClientState × List Out → Type 0 where

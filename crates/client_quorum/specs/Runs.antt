@@ -1,13 +1,13 @@
 -- Runs of a client over any inputs, and what they give.
 use Rattle.std.specs.Prelude.{◌≡◌, ℕ, ◌+◌, ⊤, List, [], ◌∷◌, ◌++◌, Bool, true, false, Option, Some, None, Result, Ok, filter, length, ◌/◌}
 use Rattle.std.specs.Prelude.{◌≤◌, ◌<◌}
-use Rattle.nop_types.specs.Given.{Given, Packet, Ticked, Submit}
+use Rattle.nop_types.specs.Given.{Given, Packet, Submit}
 use Rattle.nop_types.specs.Lists.{Has}
 use Rattle.nop_types.specs.Views.{leader_of}
 use Rattle.nop_types.specs.declared.view.View.{View}
 use Rattle.nop_types.specs.declared.output.Accept.{Accept}
 use Rattle.nop_types.specs.declared.output.Out.{Out}
-use Rattle.nop_types.specs.declared.output.Out.TheVariants.{Send, Submitted, Accepted, Busy, Trimmed}
+use Rattle.nop_types.specs.declared.output.Out.TheVariants.{Send, Submitted, Accepted, Busy}
 use Rattle.nop_types.specs.declared.request.Request.{Request}
 use Rattle.nop_types.specs.declared.datagram.Reply.{Reply}
 use Rattle.nop_types.specs.declared.datagram.Datagram.{Datagram}
@@ -49,8 +49,7 @@ reply_in _ = []
 
 abbrev pub reply_of : Given → List Reply
 reply_of (Packet bytes) = reply_in (reading bytes)
-reply_of (Ticked tick) = []
-reply_of (Submit op) = []
+reply_of _ = []
 
 -- the replies that came, in order
 abbrev pub replies_of : List Given → List Reply
@@ -101,7 +100,7 @@ TakesTurns number held last (Send dest bytes ∷ outs) = SendsOpen held (Send de
 TakesTurns number held last (Accepted client id result ∷ outs) =
     (has_none held ≡ false) × (client ≡ number) × (id ≡ last) × TakesTurns number None last outs
 TakesTurns number held last (Busy client ∷ outs) = (client ≡ number) × TakesTurns number held last outs
-TakesTurns number held last (Trimmed first entries ∷ outs) = ⊥
+TakesTurns number held last (_ ∷ outs) = ⊥
 
 -- ---- ops
 
@@ -109,10 +108,7 @@ TakesTurns number held last (Trimmed first entries ∷ outs) = ⊥
 abbrev pub ops_of : List Out → List (List ℕ)
 ops_of [] = []
 ops_of (Submitted r ∷ outs) = r.op ∷ ops_of outs
-ops_of (Send dest bytes ∷ outs) = ops_of outs
-ops_of (Accepted client id result ∷ outs) = ops_of outs
-ops_of (Busy client ∷ outs) = ops_of outs
-ops_of (Trimmed first entries ∷ outs) = ops_of outs
+ops_of (_ ∷ outs) = ops_of outs
 
 -- how many requests are accepted
 abbrev pub accept_count : List Out → ℕ
@@ -123,9 +119,8 @@ accept_count (_ ∷ outs) = accept_count outs
 -- no op comes from outside
 abbrev pub HasNoSubmit : List Given → Type 0
 HasNoSubmit [] = ⊤
-HasNoSubmit (Packet bytes ∷ xs) = HasNoSubmit xs
-HasNoSubmit (Ticked tick ∷ xs) = HasNoSubmit xs
 HasNoSubmit (Submit op ∷ xs) = ⊥
+HasNoSubmit (_ ∷ xs) = HasNoSubmit xs
 
 -- xs ends with these
 abbrev pub EndsWith : List (List ℕ) → List (List ℕ) → Type 0

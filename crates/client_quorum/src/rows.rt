@@ -174,5 +174,6 @@ pub(crate) fn act(
             Some(Datagram::Reply(came)) => reply(state, came, out),
             _ => Ok(()),
         },
+        _ => Ok(()),
     }
 }

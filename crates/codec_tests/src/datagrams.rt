@@ -17,7 +17,10 @@ const EXAMPLES: &str = "\
 4e4f0306 00 02 00000001 = Ping { controller: 0, sequencer: 2, round: 1 }
 4e4f0307 02 00 00000001 = Pong { controller: 2, sequencer: 0, round: 1 }
 4e4f0308 01 0000000000000001 0000 0001 100100000000000000000000000100000001 = Fragment(Fragment { replica: 1, message: 1, index: 0, count: 1, payload: Bytes { bytes: [16, 1, 0, 0, 0, 0, 0, 0, 0, 0, 0, 0, 0, 1, 0, 0, 0, 1] } })
-4e4f0302 0000000000000002 0000000000000002 00000000 0000000000000001 0007 5000016b000176 = Stamped(Stamped { session: 2, number: 2, request: Request { client: 0, id: 1, op: Op { bytes: [80, 0, 1, 107, 0, 1, 118] } } })";
+4e4f0302 0000000000000002 0000000000000002 00000000 0000000000000001 0007 5000016b000176 = Stamped(Stamped { session: 2, number: 2, request: Request { client: 0, id: 1, op: Op { bytes: [80, 0, 1, 107, 0, 1, 118] } } })
+4e4f0309 00000000 0000000000000001 0001 6b = Read(Read { client: 0, id: 1, key: Key { bytes: [107] } })
+4e4f030a 00 00000000 00000000 0000000000000001 0004 6e6f6e65 = Answer(Answer { observer: 0, position: 0, client: 0, id: 1, result: Bytes { bytes: [110, 111, 110, 101] } })
+4e4f030a 03 00000102 00000007 ffffffffffffffff 0002 3d76 = Answer(Answer { observer: 3, position: 258, client: 7, id: 18446744073709551615, result: Bytes { bytes: [61, 118] } })";
 
 /// Each field at its least, then at its greatest.
 const LIMITS: &str = "\
@@ -35,12 +38,18 @@ const LIMITS: &str = "\
 4e4f0307 00 00 00000001 = Pong { controller: 0, sequencer: 0, round: 1 }
 4e4f0307 03 03 ffffffff = Pong { controller: 3, sequencer: 3, round: 4294967295 }
 4e4f0308 00 0000000000000001 0000 0001 00 = Fragment(Fragment { replica: 0, message: 1, index: 0, count: 1, payload: Bytes { bytes: [0] } })
-4e4f0308 06 ffffffffffffffff 0fff 1000 ff*1400 = Fragment(Fragment { replica: 6, message: 18446744073709551615, index: 4095, count: 4096, payload: Bytes { bytes: [255, 255..";
+4e4f0308 06 ffffffffffffffff 0fff 1000 ff*1400 = Fragment(Fragment { replica: 6, message: 18446744073709551615, index: 4095, count: 4096, payload: Bytes { bytes: [255, 255..
+4e4f0309 00000000 0000000000000001 0001 00 = Read(Read { client: 0, id: 1, key: Key { bytes: [0] } })
+4e4f0309 ffffffff ffffffffffffffff 0040 ff*64 = Read(Read { client: 4294967295, id: 18446744073709551615, key: Key { bytes: [255, 255..
+4e4f030a 00 00000000 00000000 0000000000000001 0000 = Answer(Answer { observer: 0, position: 0, client: 0, id: 1, result: Bytes { bytes: [] } })
+4e4f030a 03 ffffffff ffffffff ffffffffffffffff 0101 ff*257 = Answer(Answer { observer: 3, position: 4294967295, client: 4294967295, id: 18446744073709551615, result: Bytes { bytes: [255, 255..";
 
 /// Bytes, and the first test that they fail. Among them are two versions before this one and one after it, a controller and a sequencer
 /// out of range, an op of 641 bytes, a message number of 2^48, a sequencer out of range with a byte of the round missing, a payload that
-/// is not the last and is not full, one too many, none, and an index at the count. The last ones have a stamped op of 641 bytes, an op of
-/// 640 with a byte behind it, a result of 258 bytes, a slot of 0, and 4,097 fragments.
+/// is not the last and is not full, one too many, none, and an index at the count. Then there are a stamped op of 641 bytes, an op of 640
+/// with a byte behind it, a result of 258 bytes, a slot of 0, and 4,097 fragments. The last ones are reads (an id of 0, an empty key, one
+/// of 65 bytes, half a length, half a key, a byte behind it) and answers (an observer and an id out of range, a result of 258 bytes, an
+/// observer out of range with half a length, half a result, a byte behind it).
 const REFUSALS: &str = "\
 4e4f03 = Short
 4e4e0101 = Magic
@@ -48,7 +57,10 @@ const REFUSALS: &str = "\
 4e4f0201 = Version
 4e4f0401 = Version
 4e4f0301 = Short
-4e4f0309 = Kind
+4e4f0300 = Kind
+4e4f030b = Kind
+4e4f0309 = Short
+4e4f030a = Short
 4e4f0304 00 00 0000000000000000 = Field
 4e4f0304 04 00 0000000000000001 = Field
 4e4f0305 00 04 0000000000000001 = Field
@@ -72,7 +84,19 @@ const REFUSALS: &str = "\
 4e4f0301 00000000 0000000000000001 0280 ff*641 = Trailing
 4e4f0303 00 00000000 0000000000000001 00000001 00000000 0000000000000001 01 0102 ff*258 = Field
 4e4f0303 01 00000000 0000000000000001 00000000 00000000 0000000000000001 00 0000 = Field
-4e4f0308 00 0000000000000001 0000 1001 ff*1400 = Field";
+4e4f0308 00 0000000000000001 0000 1001 ff*1400 = Field
+4e4f0309 00000000 0000000000000000 0001 6b = Field
+4e4f0309 00000000 0000000000000001 0000 = Field
+4e4f0309 00000000 0000000000000001 0041 ff*65 = Field
+4e4f0309 00000000 0000000000000001 00 = Short
+4e4f0309 00000000 0000000000000001 0002 6b = Short
+4e4f0309 00000000 0000000000000001 0001 6b 00 = Trailing
+4e4f030a 04 00000000 00000000 0000000000000001 0000 = Field
+4e4f030a 00 00000000 00000000 0000000000000000 0000 = Field
+4e4f030a 00 00000000 00000000 0000000000000001 0102 ff*258 = Field
+4e4f030a 04 00000000 00000000 0000000000000001 00 = Short
+4e4f030a 00 00000000 00000000 0000000000000001 0002 3d = Short
+4e4f030a 00 00000000 00000000 0000000000000001 0004 6e6f6e65 00 = Trailing";
 
 /// The bytes that a datagram is written as.
 fn spelled(rt: &impl Abort, alloc: Global, datagram: &Datagram) -> Vec<u8>

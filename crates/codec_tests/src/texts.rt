@@ -1,13 +1,13 @@
 use crate::rows::{check_text, request};
 use nop_types::Dest::One;
-use nop_types::{Actor, Bytes, Config, Dest, Entry, Phase, View};
+use nop_types::{Actor, Bytes, Config, Dest, Entry, Key, Phase, View};
 use outside::ReadMem;
 use schedule_text::{Event, NextError, Reader, event_line};
 use std::alloc::Global;
 use std::process::Abort;
 use transcript_text::{
-    accept_line, busy_line, dead_line, end_line, entry_line, error_line, history_line,
-    replica_line, send_line, submit_line, transcript_line,
+    accept_line, answer_line, busy_line, dead_line, end_line, entry_line, error_line, history_line,
+    read_line, replica_line, send_line, submit_line, transcript_line,
 };
 
 const FIRST: &[u8] = b"nopaxos 1 replicas 3 sequencers 2 clients 2\n";
@@ -201,9 +201,13 @@ transcript 2 replicas 3 sequencers 2 clients 16 controllers 4
 dead ctl
 dead ctl3
 dead c15
+dead o2
 submit c4294967295 18446744073709551615 -
 accept c1 2 6e6f6e65
 busy c3
+read c4294967295 18446744073709551615 o3 6b00ff
+answer c1 2 o0 4294967295 6e6f6e65
+answer c1 3 o0 0 -
 send 0 c0 s* request 25
 send 1 s0 r* stamped 41
 send 2 r0 c0 reply 40
@@ -211,6 +215,8 @@ send 3 ctl s1 install 14
 send 4 s1 ctl1 installed 14
 send 5 ctl2 s0 ping 10
 send 6 s0 ctl3 pong 10
+send 7 c0 o3 read 19
+send 8 o0 c0 answer 27
 send 18446744073709551615 r1 r2 fragment 35
 replica r6 crashed change 4294967295 18446744073709551615 4096 7
 entry r0 1 noop
@@ -223,13 +229,14 @@ error line 5 rule 8 index 7 sent 2
 
 /// The lines of requests and of what clients do.
 fn put_requests(rt: &impl Abort, alloc: Global, to: &mut Vec<u8>) {
-    let one = Config::new(3, 2, 16, 1).expect(rt, "limits");
+    let one = Config::new(3, 2, 16, 1, 0).expect(rt, "limits");
     transcript_line(1, one, to).expect(rt, "memory");
-    let four = Config::new(3, 2, 16, 4).expect(rt, "limits");
+    let four = Config::new(3, 2, 16, 4, 0).expect(rt, "limits");
     transcript_line(2, four, to).expect(rt, "memory");
     dead_line(Actor::Controller(0), to).expect(rt, "memory");
     dead_line(Actor::Controller(3), to).expect(rt, "memory");
     dead_line(Actor::Client(15), to).expect(rt, "memory");
+    dead_line(Actor::Observer(2), to).expect(rt, "memory");
     let empty = request(rt, alloc, u32::MAX, u64::MAX, b"");
     submit_line(&empty, to).expect(rt, "memory");
     let none = Bytes::new(alloc, b"none").expect(rt, "memory");
@@ -237,8 +244,18 @@ fn put_requests(rt: &impl Abort, alloc: Global, to: &mut Vec<u8>) {
     busy_line(3, to).expect(rt, "memory");
 }
 
+/// The lines of reads and of their answers.
+fn put_reads(rt: &impl Abort, alloc: Global, to: &mut Vec<u8>) {
+    let key = Key::new(alloc, b"k\0\xff").expect(rt, "memory");
+    read_line(u32::MAX, u64::MAX, 3, &key, to).expect(rt, "memory");
+    let none = Bytes::new(alloc, b"none").expect(rt, "memory");
+    answer_line(1, 2, 0, u32::MAX, &none, to).expect(rt, "memory");
+    let empty = Bytes::new(alloc, b"").expect(rt, "memory");
+    answer_line(1, 3, 0, 0, &empty, to).expect(rt, "memory");
+}
+
 /// Datagrams: an index, from whom, to whom, a kind and a length.
-const SENDS: [(u64, Actor, Dest, u8, usize); 8] = [
+const SENDS: [(u64, Actor, Dest, u8, usize); 10] = [
     (0, Actor::Client(0), Dest::Sequencers, 1, 25),
     (1, Actor::Sequencer(0), Dest::Replicas, 2, 41),
     (2, Actor::Replica(0), One(Actor::Client(0)), 3, 40),
@@ -246,6 +263,8 @@ const SENDS: [(u64, Actor, Dest, u8, usize); 8] = [
     (4, Actor::Sequencer(1), One(Actor::Controller(1)), 5, 14),
     (5, Actor::Controller(2), One(Actor::Sequencer(0)), 6, 10),
     (6, Actor::Sequencer(0), One(Actor::Controller(3)), 7, 10),
+    (7, Actor::Client(0), One(Actor::Observer(3)), 9, 19),
+    (8, Actor::Observer(0), One(Actor::Client(0)), 10, 27),
     (u64::MAX, Actor::Replica(1), One(Actor::Replica(2)), 8, 35),
 ];
 
@@ -279,6 +298,7 @@ fn put_state(rt: &impl Abort, alloc: Global, to: &mut Vec<u8>) {
 fn lines_that_are_written(rt: HostRuntime) {
     let mut to = Vec::new(rt.alloc());
     put_requests(&rt, rt.alloc(), &mut to);
+    put_reads(&rt, rt.alloc(), &mut to);
     put_sends(&rt, rt.alloc(), &mut to);
     put_state(&rt, rt.alloc(), &mut to);
     check_text(&rt, std::str::from_utf8(&to).expect(&rt, "text"), LINES);

@@ -83,17 +83,17 @@ const ABOVE: View = View {
 };
 
 /// Whether these numbers of actors make a configuration.
-fn is_one(replicas: u8, sequencers: u8, clients: u8, controllers: u8) -> bool {
-    Config::new(replicas, sequencers, clients, controllers).is_some()
+fn is_one(replicas: u8, sequencers: u8, clients: u8, controllers: u8, observers: u8) -> bool {
+    Config::new(replicas, sequencers, clients, controllers, observers).is_some()
 }
 
 #[test]
 fn configurations(rt: HostRuntime) {
-    assert!(rt; is_one(1, 1, 1, 1) && is_one(7, 4, 16, 4));
-    assert!(rt; !is_one(0, 1, 1, 1) && !is_one(2, 1, 1, 1) && !is_one(9, 1, 1, 1));
-    assert!(rt; !is_one(3, 0, 1, 1) && !is_one(3, 5, 1, 1));
-    assert!(rt; !is_one(3, 1, 0, 1) && !is_one(3, 1, 17, 1));
-    assert!(rt; !is_one(3, 1, 1, 0) && !is_one(3, 1, 1, 5));
+    assert!(rt; is_one(1, 1, 1, 1, 0) && is_one(7, 4, 16, 4, 4));
+    assert!(rt; !is_one(0, 1, 1, 1, 0) && !is_one(2, 1, 1, 1, 0) && !is_one(9, 1, 1, 1, 0));
+    assert!(rt; !is_one(3, 0, 1, 1, 0) && !is_one(3, 5, 1, 1, 0));
+    assert!(rt; !is_one(3, 1, 0, 1, 0) && !is_one(3, 1, 17, 1, 0));
+    assert!(rt; !is_one(3, 1, 1, 0, 0) && !is_one(3, 1, 1, 5, 0) && !is_one(3, 1, 1, 1, 5));
 }
 
 #[test]

@@ -1,6 +1,6 @@
 -- The command that the words ask for.
 use Rattle.std.specs.Prelude.{◌≡◌, ℕ, ◌-◌, ◌^◌, ◌<◌, ◌≤◌, ⊤, List, [], ◌∷◌, ◌++◌, Bool, true, false, Option, Some, None, Result}
-use Rattle.std.specs.Prelude.{Ok, Err, length, map, codes, nat_lt, nat_le, option_map, if◌then◌else◌, String}
+use Rattle.std.specs.Prelude.{Ok, Err, length, map, codes, nat_lt, nat_le, option_map, if◌then◌else◌, String, IsTrue}
 use Rattle.std.specs.Borrow.{Bor}
 use Rattle.std.specs.Str.{bytes_eq}
 use Rattle.std.specs.String.{string_bytes}
@@ -9,6 +9,7 @@ use Rattle.clap.specs.declared.error.kind.ErrorKind.{ErrorKind}
 use Rattle.hex.specs.Hex.{decode_of}
 use Rattle.hex.specs.declared.error.FromHexError.{FromHexError}
 use Rattle.nop_types.specs.Configuration.{Configuration, is_configuration}
+use Rattle.nop_types.specs.Headers.{gives}
 use Rattle.nop_types.specs.declared.limits.TheConstants.{MAX_OP_BYTES, MAX_SEQUENCERS, MAX_CONTROLLERS}
 use Rattle.command_line.specs.Numbers.{number_of}
 use Rattle.command_line.specs.Program.{program_app}
@@ -36,7 +37,7 @@ choice_of (Some text) = option_map Some (number_of 0 255 text)
 -- ---- where a node is
 
 abbrev pub config_of : (replicas sequencers clients controllers : ℕ) → Configuration
-config_of r s c k = record { replicas = r; sequencers = s; clients = c; controllers = k }
+config_of r s c k = record { replicas = r; sequencers = s; clients = c; controllers = k; observers = 0 }
 
 abbrev pub site_if : Bool → Configuration → ℕ → ℕ → Option Site
 site_if true config base turns = Some (record { config = config; base = base; turns = turns })
@@ -53,7 +54,8 @@ site_by (Some r) (Some s) (Some c) k (Some b) (Some t) = site_if (is_configurati
 abbrev pub last_turns : ℕ
 last_turns = 2 ^ 64 - 1
 
--- of a node; its configuration has one client, since no core reads that number, and the most controllers, of which any may run
+-- of a node; its configuration has one client, since no core reads that number, the most controllers, of which any may run, and no
+-- observers
 abbrev pub site_of : List Row → Option Site
 site_of rows =
     site_by (value_of rows (codes "replicas") None 0 255) (value_of rows (codes "sequencers") None 0 255) (Some 1)
@@ -205,7 +207,7 @@ IsFit (Gen number count) = (1 ≤ count) × (count ≤ 100000)
 IsFit (Node id site) = id < site.config.replicas
 IsFit (Sequencer id site) = id < MAX_SEQUENCERS
 IsFit (Controller site id install) = id < MAX_CONTROLLERS
-IsFit (Cluster site ops) = site.config.controllers ≡ 1
+IsFit (Cluster site ops) = IsTrue (gives 1 site.config)
 IsFit _ = ⊤
 
 abbrev pub texts_of : {Z : Type 0} → List (String Z) → List Text

@@ -1,7 +1,8 @@
 //! The values of options.
 
-ghost use Rattle.std.specs.Prelude.{◌≡◌, ◌≤◌, IfSome, codes};
+ghost use Rattle.std.specs.Prelude.{◌≡◌, ◌≤◌, IfSome, IsTrue, codes};
 ghost use Rattle.clap.specs.Words.{all_of, found_of, rows_of, first_of};
+ghost use Rattle.nop_types.specs.Headers.{gives};
 ghost use Rattle.command_line.specs.Commands.{value_of, choice_of, texts_in, site_by, site_of, cluster_site_of};
 
 use crate::command::Site;
@@ -128,13 +129,14 @@ fn site_by(
 ) -> Option<Site>
     ensures value { result ≡ site_by replicas sequencers clients controllers base turns }
     ensures controllers { IfSome result (λ s. s.config.controllers ≡ controllers) }
+    ensures observers { IfSome result (λ s. s.config.observers ≡ 0) }
 {
     let (Some(replicas), Some(sequencers), Some(clients), Some(base), Some(turns)) = (
         replicas, sequencers, clients, base, turns,
     ) else {
         return None;
     };
-    match Config::new(replicas, sequencers, clients, controllers) {
+    match Config::new(replicas, sequencers, clients, controllers, 0) {
         Some(config) => Some(Site {
             config,
             base,
@@ -161,7 +163,7 @@ pub(crate) fn site(matches: &ArgMatches<'_>) -> Option<Site>
 /// Where the cluster is.
 pub(crate) fn cluster_site(matches: &ArgMatches<'_>) -> Option<Site>
     ensures value { result ≡ cluster_site_of (rows_of (found_of matches.now)) }
-    ensures controllers { IfSome result (λ s. s.config.controllers ≡ 1) }
+    ensures form { IfSome result (λ s. IsTrue (gives 1 s.config)) }
 {
     site_by(
         small(matches, "replicas"),

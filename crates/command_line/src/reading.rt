@@ -1,4 +1,5 @@
-ghost use Rattle.std.specs.Prelude.{◌≡◌, ◌<◌, ◌≤◌, IfOk, IfSome, MatchOption};
+ghost use Rattle.std.specs.Prelude.{◌≡◌, ◌<◌, ◌≤◌, IfOk, IfSome, IsTrue, MatchOption};
+ghost use Rattle.nop_types.specs.Headers.{gives};
 ghost use Rattle.nop_types.specs.declared.limits.TheConstants.{MAX_CONTROLLERS};
 ghost use Rattle.clap.specs.Words.{app_of, found_of, rows_of, subcommand_rows_of};
 ghost use Rattle.command_line.specs.Program.{program_app};
@@ -133,7 +134,7 @@ fn client(alloc: Global, matches: &ArgMatches<'_>) -> Result<Option<Command>, No
 }
 
 fn cluster_by(alloc: Global, site: Site, ops: Option<&[&str]>) -> Result<Option<Command>, NoMemory>
-    requires { site.config.controllers ≡ 1 }
+    requires { IsTrue (gives 1 site.config) }
     ensures value { IfOk result (λ c. c ≡ cluster_by (Some site) (ops_of (texts_in ops.entry))) }
     ensures fits { IfOk result (λ c. IfSome c IsFit) }
 {

@@ -1,6 +1,7 @@
 //! The command that runs all actors in one process.
 
-ghost use Rattle.std.specs.Prelude.{◌≡◌, ◌+◌, length};
+ghost use Rattle.std.specs.Prelude.{◌≡◌, ◌+◌, length, IsTrue};
+ghost use Rattle.nop_types.specs.Headers.{gives};
 ghost use Rattle.outside.specs.Causes.{CountsWhere};
 ghost use Rattle.commands.specs.Clusters.{ClusterEnds};
 ghost use Rattle.one_box.specs.Showing.{links_of};
@@ -21,7 +22,7 @@ pub(crate) fn run_cluster<H: Host, P: Ports, T: Clock, K: Sink>(
     clock: &mut T,
     sink: &mut K,
 ) -> Status
-    requires controllers { site.now.config.controllers ≡ 1 }
+    requires form { IsTrue (gives 1 site.now.config) }
     ensures ends { ClusterEnds H.meaning site.now ops
         (links_of P.L.Link) (ports_of P.Ports ports.old ports.new) (T.values clock.old)
         result (K.held sink.old) (K.held sink.new) }

@@ -121,7 +121,7 @@ fn controller(rt: &impl Abort, alloc: Global, group: (u8, u8), number: u8) -> Co
     requires { number < MAX_CONTROLLERS }
 {
     let (replicas, sequencers) = group;
-    let config = Config::new(replicas, sequencers, 1, 4).expect(rt, "a group");
+    let config = Config::new(replicas, sequencers, 1, 4, 0).expect(rt, "a group");
     Controller::new(alloc, config, number).expect(rt, "memory")
 }
 
@@ -132,7 +132,7 @@ fn a_controller(rt: HostRuntime) {
     let mut sent = Outbox::new(alloc);
     play(&rt, alloc, from_mut(&mut core), &mut sent, CONTROLLER);
     let expected =
-        "ControllerState { config: Config { replicas: 3, sequencers: 2, clients: 1, controllers: 4 }, number: 0, session: 4, seen: 0, current: 0, confirmed: false, round: 8, heard: true, missed: 0 }";
+        "ControllerState { config: Config { replicas: 3, sequencers: 2, clients: 1, controllers: 4, observers: 0 }, number: 0, session: 4, seen: 0, current: 0, confirmed: false, round: 8, heard: true, missed: 0 }";
     check_shown(&rt, alloc, &core.state(), expected);
     let expected = "Some((Resend, 100)) Some((Probe, 300)) None None";
     check_text(&rt, &timers(&rt, alloc, &core), expected);
@@ -243,7 +243,7 @@ const CLIENT: &str = "\
 
 /// A client of three replicas with one op.
 pub fn client(rt: &impl Abort, alloc: Global) -> Client {
-    let config = Config::new(3, 1, 1, 1).expect(rt, "a group");
+    let config = Config::new(3, 1, 1, 1, 0).expect(rt, "a group");
     let op = Op::new(alloc, b"P\0\x01k\0\x01v").expect(rt, "memory");
     let mut ops = Vec::new(alloc);
     ops.push(op).expect(rt, "memory");

@@ -49,7 +49,7 @@ fn sequencer_fails(rt: &impl Abort, alloc: Global) -> bool {
 #[test]
 fn cores_fail_for_good(rt: HostRuntime) {
     let alloc = rt.alloc();
-    let config = Config::new(3, 2, 1, 1).expect(&rt, "a group");
+    let config = Config::new(3, 2, 1, 1, 0).expect(&rt, "a group");
     let mut failed = replica_fails(&rt, alloc, config);
     failed |= controller_fails(&rt, alloc, config);
     failed |= sequencer_fails(&rt, alloc);

@@ -65,7 +65,7 @@ fn states<H: Host>(rt: &impl Abort, alloc: Global, cores: &[Replica<H>]) -> Stri
 
 /// Three replicas to which nothing has come.
 pub fn opened<H: Host>(rt: &impl Abort, alloc: Global) -> Vec<Replica<H>> {
-    let config = Config::new(3, 2, 2, 1).expect(rt, "a group");
+    let config = Config::new(3, 2, 2, 1, 0).expect(rt, "a group");
     let mut cores = Vec::new(alloc);
     for number in 0..config.replicas() {
         let core = Replica::new(alloc, config, number).expect(rt, "memory");
@@ -83,7 +83,7 @@ pub fn play_three<H: Host>(rt: &impl Abort, alloc: Global, script: &str, expecte
 
 #[test]
 fn a_replica_has_three_timers(rt: HostRuntime) {
-    let config = Config::new(3, 2, 2, 1).expect(&rt, "a group");
+    let config = Config::new(3, 2, 2, 1, 0).expect(&rt, "a group");
     let core: Replica<KvHost> = Replica::new(rt.alloc(), config, 0).expect(&rt, "memory");
     let expected = "Some((Resend, 50)) Some((Sync, 100)) Some((Watch, 1000)) None";
     check_text(&rt, &timers(&rt, rt.alloc(), &core), expected);

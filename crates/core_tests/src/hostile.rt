@@ -13,8 +13,9 @@ use std::alloc::Global;
 use std::process::Abort;
 use std::slice::from_mut;
 
-/// Datagrams of all kinds, each of which one of the cores below takes: a request, the same stamped, the same stamped in session 2, a
-/// leader's and a follower's reply to it, an order and its answer, a probe and its answer, and a question for a slot.
+/// Datagrams of all kinds. Each but the last two is taken by one of the cores below: a request, the same stamped, the same stamped in
+/// session 2, a leader's and a follower's reply to it, an order and its answer, a probe and its answer, and a question for a slot. The
+/// last two are a read of a key and an answer to it.
 const DATAGRAMS: &str = "\
 4e4f0301 00000000 0000000000000001 0007 5000016b000176
 4e4f0302 0000000000000001 0000000000000001 00000000 0000000000000001 0007 5000016b000176
@@ -25,10 +26,13 @@ const DATAGRAMS: &str = "\
 4e4f0305 00 01 0000000000000002
 4e4f0306 00 00 00000001
 4e4f0307 00 01 00000001
-4e4f0308 01 0000000000000001 0000 0001 100100000000000000000000000100000001";
+4e4f0308 01 0000000000000001 0000 0001 100100000000000000000000000100000001
+4e4f0309 00000000 0000000000000001 0001 6b
+4e4f030a 00 00000001 00000000 0000000000000001 0002 3d76";
 
 /// The same with a field out of its range: ids, sessions, rounds, a slot and a message of 0, a message number of 2^48, ops of 641 bytes,
-/// replicas 7, a tag of 2, a result without a tag, one of 258 bytes, controllers 4, sequencers 4, a count of 0 and one of 4,097.
+/// replicas 7, a tag of 2, a result without a tag, results of 258 bytes, controllers 4, sequencers 4, a count of 0 and one of 4,097, keys
+/// of 0 and 65 bytes, an observer 4.
 const OUT_OF_RANGE: &str = "\
 4e4f0301 00000000 0000000000000000 0007 5000016b000176
 4e4f0301 00000000 0000000000000001 0281 78*641
@@ -52,10 +56,16 @@ const OUT_OF_RANGE: &str = "\
 4e4f0308 07 0000000000000001 0000 0001 100100000000000000000000000100000001
 4e4f0308 01 0000000000000000 0000 0001 100100000000000000000000000100000001
 4e4f0308 01 0000000000000001 0000 0000 100100000000000000000000000100000001
-4e4f0308 01 0000000000000001 0000 1001 00*1400";
+4e4f0308 01 0000000000000001 0000 1001 00*1400
+4e4f0309 00000000 0000000000000000 0001 6b
+4e4f0309 00000000 0000000000000001 0000
+4e4f0309 00000000 0000000000000001 0041 6b*65
+4e4f030a 04 00000001 00000000 0000000000000001 0002 3d76
+4e4f030a 00 00000001 00000000 0000000000000000 0002 3d76
+4e4f030a 00 00000001 00000000 0000000000000001 0102 3d*258";
 
 /// Places in a datagram, and bytes there: no such magic, version or kind.
-const CHANGES: [(usize, u8); 6] = [(0, 0x4f), (1, 0x4e), (2, 2), (2, 4), (3, 0), (3, 9)];
+const CHANGES: [(usize, u8); 6] = [(0, 0x4f), (1, 0x4e), (2, 2), (2, 4), (3, 0), (3, 11)];
 
 /// A core takes these bytes, and gives nothing.
 fn ignores<C: Core>(rt: &impl Abort, alloc: Global, core: &mut C, bytes: &[u8]) {
@@ -146,7 +156,7 @@ const ORDERED: &str = "\
 #[test]
 fn a_controller_ignores_what_is_no_datagram(rt: HostRuntime) {
     let alloc = rt.alloc();
-    let config = Config::new(3, 2, 1, 1).expect(&rt, "a group");
+    let config = Config::new(3, 2, 1, 1, 0).expect(&rt, "a group");
     let mut core = Controller::new(alloc, config, 0).expect(&rt, "memory");
     let mut sent = Outbox::new(alloc);
     play(&rt, alloc, from_mut(&mut core), &mut sent, ORDERED);

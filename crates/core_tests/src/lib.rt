@@ -1,6 +1,6 @@
 //! Tests alone, by the public calls of the crates below: the cores one by one, and groups of
 //! replicas that are driven by hand-written deliveries, forged ones too, with logs that are trimmed
-//! and full ones.
+//! and full ones; and an observer.
 #![tactic(auto)]
 
 #[cfg(test)]
@@ -11,6 +11,8 @@ mod failing;
 mod groups;
 #[cfg(test)]
 mod hostile;
+#[cfg(test)]
+mod observers;
 #[cfg(test)]
 mod rows;
 #[cfg(test)]

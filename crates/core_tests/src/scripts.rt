@@ -107,6 +107,7 @@ fn text_of(rt: &impl Abort, alloc: Global, out: &Out) -> String {
         Out::Accepted { id, result, .. } => text_of_accept(rt, alloc, *id, result.as_slice()),
         Out::Busy(_) => String::from_str(alloc, "busy").expect(rt, "memory"),
         Out::Trimmed { first, entries } => text_of_trimmed(rt, alloc, *first, entries),
+        _ => panic!(rt; "no such output"),
     }
 }
 

@@ -4,7 +4,7 @@ use Rattle.std.specs.Int.{w16, w32, w64}
 use Rattle.nop_types.specs.Ranges.{DatagramFits}
 use Rattle.nop_types.specs.declared.datagram.Datagram.{Datagram}
 use Rattle.nop_types.specs.declared.datagram.Datagram.TheVariants as datagrams
-use Rattle.nop_types.specs.declared.kinds.TheConstants.{REQUEST, FRAGMENT}
+use Rattle.nop_types.specs.declared.kinds.TheConstants.{REQUEST, ANSWER}
 use Rattle.oum_codec.specs.Numbers.{be_bytes}
 use Rattle.oum_codec.specs.Spelling.{spelling}
 use Rattle.network_laws.specs.Network.{IsDatagram}
@@ -12,7 +12,7 @@ use Rattle.transcript_rows.specs.declared.row.TheConstants.{MAX_SENT_BYTES}
 
 pub record IsSpelled (bytes : List ℕ) : Type 0 where
   pub least : REQUEST ≤ slice_index bytes 3
-  pub most : slice_index bytes 3 ≤ FRAGMENT
+  pub most : slice_index bytes 3 ≤ ANSWER
   pub short : length bytes ≤ MAX_SENT_BYTES
 
 len16 : (n : ℕ) → length (be_bytes w16 n) ≡ 2
@@ -67,6 +67,16 @@ spelling_is (datagrams.Fragment f) fits = record {
   least = omega arith;
   most = omega arith;
   short = simp (length-append, len16, len32, len64) (omega (arith, fits.most));
+}
+spelling_is (datagrams.Read r) fits = record {
+  least = omega arith;
+  most = omega arith;
+  short = simp (length-append, len16, len32, len64) (omega (arith, fits.most));
+}
+spelling_is (datagrams.Answer a) fits = record {
+  least = omega arith;
+  most = omega arith;
+  short = simp (length-append, len16, len32, len64) (omega (arith, fits.result_length));
 }
 
 pub datagram_is : (bytes : List ℕ) → IsDatagram bytes → IsSpelled bytes

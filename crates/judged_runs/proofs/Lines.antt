@@ -52,6 +52,8 @@ LineIs c sent (lines.Dead actor) = IsActorOf c actor
 LineIs c sent (lines.Submit r) = IsRequest c r
 LineIs c sent (lines.Accept client id result) = ⊤
 LineIs c sent (lines.Busy client) = client < c.clients
+LineIs c sent (lines.Read client id observer key) = ⊥
+LineIs c sent (lines.Answer client id observer position result) = ⊥
 LineIs c sent (lines.Send index from dest bytes) =
     IsActorOf c from × (slice_get sent index ≡ Some (record { from = from; dest = dest; bytes = bytes }))
 
@@ -88,6 +90,8 @@ outs_tell c from there (outs.Accepted client id result ∷ os) all n sent at =
     (outs_tell c from there os all.1 n sent at)
 outs_tell c from there (outs.Busy client ∷ os) all n sent at =
     one_more_line c (sent ++ sends_of from os) (lines.Busy client) (lines_from from n os) all.0 (outs_tell c from there os all.1 n sent at)
+outs_tell c from there (outs.Reading client id observer key ∷ os) all n sent at = absurd all.0
+outs_tell c from there (outs.Answered client id observer position result ∷ os) all n sent at = absurd all.0
 outs_tell c from there (outs.Trimmed first entries ∷ os) all n sent at = outs_tell c from there os all.1 n sent at
 
 -- each datagram has a line
@@ -229,6 +233,7 @@ module _ {S : Type 0} (m : Meaning S) (c : Configuration) (w : WorldState) (ls :
   actor_step (Another k i) r h fits e =
       let t = took (at_other k w i) (next k) (slice_get (seats k w.others) i) r h e in
       subst (Tells c w) t.gives (other_step k i t.seat t.what t.there (fits t.what t.brought))
+  actor_step _ r h fits e = absurd cc
 
 -- ---- events
 

@@ -1,4 +1,4 @@
--- What actors tell of their steps: only clients submit, requests of their own with an id and the op that they were given.
+-- What actors tell of their steps: only clients submit, requests of their own with an id and the op that they were given. None reads.
 use Rattle.std.proofs.Common.{◌≡◌, ◌+◌, ◌≤◌, ◌<◌, ◌^◌, ℕ, Bool, true, false, Option, Some, None, subst, inl, inr, map, arith, length}
 use Rattle.std.proofs.Common.{List, [], ◌∷◌, ◌++◌}
 use Rattle.std.specs.Prelude.{◌-◌, ⊤, nat_lt, nat_le, ◌==◌, Result, Ok, Err}
@@ -59,6 +59,8 @@ pub record IsRequest (c : Configuration) (r : Request) : Type 0 where
 abbrev pub OutIs : Configuration → Out → Type 0
 OutIs c (outs.Submitted r) = IsRequest c r
 OutIs c (outs.Busy client) = client < c.clients
+OutIs c (outs.Reading client id observer key) = ⊥
+OutIs c (outs.Answered client id observer position result) = ⊥
 OutIs c _ = ⊤
 
 abbrev pub OutsAre : Configuration → List Out → Type 0
@@ -126,7 +128,7 @@ module _ {S : Type 0} (m : Meaning S) (c : Configuration) where
   unfolding replica.next
   replica_tells s (Packet bytes) = took_are s (reading bytes)
   replica_tells s (Ticked tick) = row_are (nat_lt s.messages LAST_MESSAGE) s (messages.Ticked tick)
-  replica_tells s (Submit op) = tt
+  replica_tells s _ = tt
 
 -- ---- sequencers
 
@@ -200,7 +202,7 @@ module _ (c : Configuration) where
   unfolding controller.next
   controller_tells s (Packet bytes) = controller_took_are s (reading bytes)
   controller_tells s (Ticked tick) = controller_tick_are s tick
-  controller_tells s (Submit op) = tt
+  controller_tells s _ = tt
 
 -- ---- clients
 

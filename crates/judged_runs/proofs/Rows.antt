@@ -10,8 +10,9 @@ use Rattle.nop_types.specs.Configuration.{Configuration, is_configuration}
 use Rattle.nop_types.specs.Lines as lines
 use Rattle.nop_types.specs.Lines.{Line}
 use Rattle.nop_types.specs.Ranges.{ViewFits}
-use Rattle.nop_types.specs.declared.limits.TheConstants.{MAX_CLIENTS, MAX_CONTROLLERS, MAX_REPLICAS, MAX_RESULT_BYTES, MAX_SEQUENCERS}
-use Rattle.nop_types.specs.declared.kinds.TheConstants.{REQUEST, FRAGMENT}
+use Rattle.nop_types.specs.declared.limits.TheConstants.{MAX_CLIENTS, MAX_CONTROLLERS, MAX_OBSERVERS, MAX_REPLICAS, MAX_RESULT_BYTES}
+use Rattle.nop_types.specs.declared.limits.TheConstants.{MAX_SEQUENCERS}
+use Rattle.nop_types.specs.declared.kinds.TheConstants.{REQUEST, ANSWER}
 use Rattle.nop_types.specs.declared.output.Actor.{Actor}
 use Rattle.nop_types.specs.declared.output.Actor.TheVariants as actors
 use Rattle.nop_types.specs.declared.output.Dest.{Dest}
@@ -44,6 +45,7 @@ pub record Counts (c : Configuration) : Type 0 where
   pub sequencers : c.sequencers ≤ MAX_SEQUENCERS
   pub clients : c.clients ≤ MAX_CLIENTS
   pub controllers : c.controllers ≤ MAX_CONTROLLERS
+  pub observers : c.observers ≤ MAX_OBSERVERS
 
 pub counts_of : (c : Configuration) → is_configuration c ≡ true → Counts c
 counts_of c e = record {
@@ -51,6 +53,7 @@ counts_of c e = record {
   sequencers = grind (arith, e);
   clients = grind (arith, e);
   controllers = grind (arith, e);
+  observers = grind (arith, e);
 }
 
 module _ (c : Configuration) (counts : Counts c) where
@@ -59,6 +62,7 @@ module _ (c : Configuration) (counts : Counts c) where
   actor_in (actors.Sequencer i) h = lt-ltb i MAX_SEQUENCERS (omega (arith, h, counts.sequencers))
   actor_in (actors.Client i) h = lt-ltb i MAX_CLIENTS (omega (arith, h, counts.clients))
   actor_in (actors.Controller i) h = lt-ltb i MAX_CONTROLLERS (omega (arith, h, counts.controllers))
+  actor_in (actors.Observer i) h = lt-ltb i MAX_OBSERVERS (omega (arith, h, counts.observers))
 
   dest_in : (d : Dest) → IsDestOf c d → dest_fits d ≡ true
   dest_in Replicas h = refl
@@ -109,7 +113,7 @@ module _ (c : Configuration) (counts : Counts c) where
         both (actor_fits from) _ (actor_in from there)
         (both (dest_fits dest) _ (dest_in dest h.dest)
         (both (nat_le REQUEST kind) _ (le-leb REQUEST kind h.spelled.least)
-        (both (nat_le kind FRAGMENT) _ (le-leb kind FRAGMENT h.spelled.most)
+        (both (nat_le kind ANSWER) _ (le-leb kind ANSWER h.spelled.most)
         (le-leb (length bytes) MAX_SENT_BYTES h.spelled.short))));
     typed = small;
   }
@@ -125,6 +129,7 @@ module _ (c : Configuration) (counts : Counts c) where
   line_row sent (lines.Send index from dest bytes) h few accepts sends =
       let near = slice_get_within sent index (record { from = from; dest = dest; bytes = bytes }) h.1 in
       sent_row index from dest bytes h.0 (omega (arith, near, few)) (sends _ index h.1)
+  line_row sent _ h few accepts sends = absurd h
 
   -- ---- the lines at the end
 

@@ -25,7 +25,7 @@ service_of port replicas sequencers = do
   base ← number_in 1024 65000 port
   r ← number_below 256 replicas
   s ← number_below 256 sequencers
-  service_at base (record { replicas = r; sequencers = s; clients = 1; controllers = MAX_CONTROLLERS })
+  service_at base (record { replicas = r; sequencers = s; clients = 1; controllers = MAX_CONTROLLERS; observers = 0 })
 
 abbrev pub caller_of : List ℕ → List ℕ → List ℕ → List ℕ → List ℕ → Option Caller
 caller_of port replicas sequencers client turns = do

@@ -36,7 +36,7 @@ fn service_of(port: &[u8], replicas: &[u8], sequencers: &[u8]) -> Option<Service
     let base = BasePort::new(number_in(1024, 65000, port)? as u16)?;
     let replicas = small_number(256, replicas)?;
     let sequencers = small_number(256, sequencers)?;
-    match Config::new(replicas, sequencers, 1, MAX_CONTROLLERS) {
+    match Config::new(replicas, sequencers, 1, MAX_CONTROLLERS, 0) {
         Some(config) => Some(Service { base, config }),
         None => None,
     }

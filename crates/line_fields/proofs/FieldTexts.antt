@@ -13,7 +13,7 @@ use Rattle.hex.specs.Hex.{IsBytes, decode_of, encode_lower, encode_with, lower_d
 use Rattle.hex.proofs.HexLemmas.{decode_of-encode_lower, length-encode_with}
 use Rattle.nop_types.specs.Configuration.{Configuration, is_configuration}
 use Rattle.nop_types.specs.declared.limits.TheConstants.{MAX_REPLICAS}
-use Rattle.nop_types.specs.declared.limits.TheConstants.{MAX_SEQUENCERS, MAX_CLIENTS, MAX_CONTROLLERS}
+use Rattle.nop_types.specs.declared.limits.TheConstants.{MAX_SEQUENCERS, MAX_CLIENTS, MAX_CONTROLLERS, MAX_OBSERVERS}
 use Rattle.nop_types.specs.declared.output.Actor.{Actor}
 use Rattle.nop_types.specs.declared.output.Actor.TheVariants as actors
 use Rattle.line_fields.specs.Fields.{fields, fields_on, is_text, digit_on, number_on, number_of, number_below, numbered, actor_of}
@@ -145,6 +145,7 @@ pub record Small (c : Configuration) : Type 0 where
   pub sequencers : c.sequencers ≤ 4
   pub clients : c.clients ≤ 16
   pub controllers : c.controllers ≤ 4
+  pub observers : c.observers ≤ 4
 
 pub actor_again : (c : Configuration) → Small c → (a : Actor) → IsActorOf c a → actor_of c (actor_text a) ≡ Some a
 unfolding actor_of
@@ -159,10 +160,12 @@ actor_again c small (actors.Controller (suc k)) h =
     ∙ controller_is_later c (decimal (suc k)) (starts_with_digit (suc k) (omega (arith, small.controllers)))
     ∙ ap (λ (n : Option ℕ). numbered actors.Controller (from_one n))
     (small_again c.controllers (suc k) h (omega (arith, small.controllers)))
+actor_again c small (actors.Observer i) h = ap (numbered actors.Observer) (small_again c.observers i h (omega (arith, small.observers)))
 
 pub small_counts : (c : Configuration) → IsTrue (is_configuration c) → Small c
 small_counts c e =
-    let controllers = nat_lt 0 c.controllers && nat_le c.controllers MAX_CONTROLLERS in
+    let observers = nat_le c.observers MAX_OBSERVERS in
+    let controllers = nat_lt 0 c.controllers && (nat_le c.controllers MAX_CONTROLLERS && observers) in
     let clients = nat_le c.clients MAX_CLIENTS && controllers in
     let sequencers = nat_le c.sequencers MAX_SEQUENCERS && (nat_lt 0 c.clients && clients) in
     let replicas = nat_le c.replicas MAX_REPLICAS && (nat_lt 0 c.sequencers && sequencers) in
@@ -172,12 +175,14 @@ small_counts c e =
     let g = and_parts (nat_le c.sequencers MAX_SEQUENCERS) (nat_lt 0 c.clients && clients) d.1 in
     let h = and_parts (nat_lt 0 c.clients) clients g.1 in
     let k = and_parts (nat_le c.clients MAX_CLIENTS) controllers h.1 in
-    let m = and_parts (nat_lt 0 c.controllers) (nat_le c.controllers MAX_CONTROLLERS) k.1 in
+    let m = and_parts (nat_lt 0 c.controllers) (nat_le c.controllers MAX_CONTROLLERS && observers) k.1 in
+    let o = and_parts (nat_le c.controllers MAX_CONTROLLERS) observers m.1 in
     record {
       replicas = leb-true c.replicas MAX_REPLICAS b.0;
       sequencers = leb-true c.sequencers MAX_SEQUENCERS g.0;
       clients = leb-true c.clients MAX_CLIENTS k.0;
-      controllers = leb-true c.controllers MAX_CONTROLLERS m.1;
+      controllers = leb-true c.controllers MAX_CONTROLLERS o.0;
+      observers = leb-true c.observers MAX_OBSERVERS o.1;
     }
 
 pub actor_named_again : (c : Configuration) (a : Actor) → IsTrue (is_configuration c) → IsActorOf c a → actor_of c (actor_text a) ≡ Some a
@@ -289,9 +294,11 @@ module _ (c : Configuration) (small : Small c) where
   actor_marked (actors.Sequencer i) h = decimal_marked i (let k = small.sequencers in omega arith)
   actor_marked (actors.Client i) h = decimal_marked i (let k = small.clients in omega arith)
   actor_marked (actors.Controller i) h = controller_marked i (let k = small.controllers in omega arith)
+  actor_marked (actors.Observer i) h = decimal_marked i (let k = small.observers in omega arith)
 
   pub actor_short : (a : Actor) → IsActorOf c a → length (actor_text a) ≤ 21
   actor_short (actors.Replica i) h = omega (arith, decimal_short i (let k = small.replicas in omega arith))
   actor_short (actors.Sequencer i) h = omega (arith, decimal_short i (let k = small.sequencers in omega arith))
   actor_short (actors.Client i) h = omega (arith, decimal_short i (let k = small.clients in omega arith))
   actor_short (actors.Controller i) h = controller_short i (let k = small.controllers in omega arith)
+  actor_short (actors.Observer i) h = omega (arith, decimal_short i (let k = small.observers in omega arith))

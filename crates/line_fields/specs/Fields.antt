@@ -6,7 +6,7 @@ use Rattle.hex.specs.Hex.{decode_of}
 use Rattle.hex.specs.declared.error.FromHexError.{FromHexError}
 use Rattle.nop_types.specs.Configuration.{Configuration}
 use Rattle.nop_types.specs.declared.output.Actor.{Actor}
-use Rattle.nop_types.specs.declared.output.Actor.TheVariants.{Replica, Sequencer, Client, Controller}
+use Rattle.nop_types.specs.declared.output.Actor.TheVariants.{Replica, Sequencer, Client, Controller, Observer}
 
 -- the fields, where this is the field so far: one more than there are spaces, and each may be empty
 abbrev pub fields_on : List ℕ → List ℕ → List (List ℕ)
@@ -55,6 +55,7 @@ lettered c letter digits =
     if letter == 114 then numbered Replica (number_below c.replicas digits)
     else if letter == 115 then numbered Sequencer (number_below c.sequencers digits)
     else if letter == 99 then numbered Client (number_below c.clients digits)
+    else if letter == 111 then numbered Observer (number_below c.observers digits)
     else None
 
 abbrev pub by_letter : Configuration → List ℕ → Option Actor
@@ -71,7 +72,8 @@ from_one (Some (suc k)) = Some (suc k)
 abbrev pub by_number : Configuration → List ℕ → Option Actor
 by_number c digits = numbered Controller (from_one (number_below c.controllers digits))
 
--- the actor of this configuration that the field names: `ctl` is controller 0; `ctl` and a number, or `r`, `s` or `c` and a number
+-- the actor of this configuration that the field names: `ctl` is controller 0; `ctl` and a number, or `r`, `s`, `c` or `o` and a
+-- number
 unfoldable pub actor_of : Configuration → List ℕ → Option Actor
 actor_of c field =
     if is_text (codes "ctl") field then Some (Controller 0)
@@ -84,6 +86,7 @@ IsActorOf c (Replica i) = i < c.replicas
 IsActorOf c (Sequencer i) = i < c.sequencers
 IsActorOf c (Client i) = i < c.clients
 IsActorOf c (Controller i) = i < c.controllers
+IsActorOf c (Observer i) = i < c.observers
 
 abbrev pub client_number : Option Actor → Option ℕ
 client_number (Some (Client i)) = Some i
@@ -94,11 +97,8 @@ sequencer_number (Some (Sequencer i)) = Some i
 sequencer_number _ = None
 
 abbrev pub controller_number : Option Actor → Option ℕ
-controller_number None = None
-controller_number (Some (Replica i)) = None
-controller_number (Some (Sequencer i)) = None
-controller_number (Some (Client i)) = None
 controller_number (Some (Controller i)) = Some i
+controller_number _ = None
 
 -- ---- bytes in hexadecimal
 

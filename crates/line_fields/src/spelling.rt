@@ -63,6 +63,7 @@ fn lettered(config: Config, letter: u8, digits: &[u8]) -> Option<Actor>
         b'r' => Some(Actor::Replica(numbered(config.replicas(), digits)?)),
         b's' => Some(Actor::Sequencer(numbered(config.sequencers(), digits)?)),
         b'c' => Some(Actor::Client(u32::from(numbered(config.clients(), digits)?))),
+        b'o' => Some(Actor::Observer(numbered(config.observers(), digits)?)),
         _ => None,
     }
 }

@@ -16,7 +16,7 @@ use Rattle.transcript_text.specs.Transcript.{hex_text}
 
 -- the first line that is written, whatever was read
 abbrev pub header : Header
-header = record { form = 1; config = record { replicas = 1; sequencers = 1; clients = 16; controllers = 1 } }
+header = record { form = 1; config = record { replicas = 1; sequencers = 1; clients = 16; controllers = 1; observers = 0 } }
 
 -- the transcript of these claims with a history
 abbrev pub transcript_of : List Line → List Request → Transcript

@@ -29,7 +29,7 @@ fn put_first_line(to: &mut Vec<u8>) -> Result<(), NoMemory>
     ensures { OnOk result (to.new.items
         ≡ to.old.items ++ texts.transcript_line header.form header.config) }
 {
-    match Config::new(1, 1, 16, 1) {
+    match Config::new(1, 1, 16, 1, 0) {
         Some(config) => transcript_line(1, config, to),
         None => unreachable!(),
     }

@@ -23,10 +23,7 @@ pub sends_of-append : (from : Actor) (xs ys : List Out) → sends_of from (xs ++
 sends_of-append from [] ys = refl
 sends_of-append from (outs.Send dest bytes ∷ xs) ys =
     ap (λ (s : List Sent). record { from = from; dest = dest; bytes = bytes } ∷ s) (sends_of-append from xs ys)
-sends_of-append from (outs.Submitted r ∷ xs) ys = sends_of-append from xs ys
-sends_of-append from (outs.Accepted client id result ∷ xs) ys = sends_of-append from xs ys
-sends_of-append from (outs.Busy client ∷ xs) ys = sends_of-append from xs ys
-sends_of-append from (outs.Trimmed first entries ∷ xs) ys = sends_of-append from xs ys
+sends_of-append from (_ ∷ xs) ys = sends_of-append from xs ys
 
 at_count : (from : Actor) (n k : ℕ) (ys : List Out) → n ≡ k → lines_from from n ys ≡ lines_from from k ys
 at_count from n k ys e = ap (λ (i : ℕ). lines_from from i ys) e
@@ -43,6 +40,10 @@ lines_from-append from n (outs.Submitted r ∷ xs) ys = ap (λ (l : List Line). 
 lines_from-append from n (outs.Accepted client id result ∷ xs) ys =
     ap (λ (l : List Line). lines.Accept client id result ∷ l) (lines_from-append from n xs ys)
 lines_from-append from n (outs.Busy client ∷ xs) ys = ap (λ (l : List Line). lines.Busy client ∷ l) (lines_from-append from n xs ys)
+lines_from-append from n (outs.Reading client id observer key ∷ xs) ys =
+    ap (λ (l : List Line). lines.Read client id observer key ∷ l) (lines_from-append from n xs ys)
+lines_from-append from n (outs.Answered client id observer position result ∷ xs) ys =
+    ap (λ (l : List Line). lines.Answer client id observer position result ∷ l) (lines_from-append from n xs ys)
 lines_from-append from n (outs.Trimmed first entries ∷ xs) ys = lines_from-append from n xs ys
 
 pub Grows-then : (a b c : Tally) (xs ys : List Line) → Grows a b xs → Grows b c ys → Grows a c (xs ++ ys)

@@ -1,6 +1,6 @@
 -- The network: all datagrams that were ever sent, in order.
 use Rattle.std.specs.Prelude.{◌≡◌, ℕ, ◌+◌, List, [], ◌∷◌, ◌++◌, Option, Some, None}
-use Rattle.nop_types.specs.Lines.{Line, Dead, Submit, Accept, Busy, Send}
+use Rattle.nop_types.specs.Lines.{Line, Dead, Submit, Accept, Busy, Read, Answer, Send}
 use Rattle.nop_types.specs.declared.output.Actor.{Actor}
 use Rattle.nop_types.specs.declared.output.Dest.{Dest}
 use Rattle.nop_types.specs.declared.output.Out.{Out}
@@ -15,10 +15,7 @@ pub record Sent : Type 0 where
 abbrev pub sends_of : Actor → List Out → List Sent
 sends_of from [] = []
 sends_of from (outs.Send dest bytes ∷ rest) = record { from = from; dest = dest; bytes = bytes } ∷ sends_of from rest
-sends_of from (outs.Submitted r ∷ rest) = sends_of from rest
-sends_of from (outs.Accepted client id result ∷ rest) = sends_of from rest
-sends_of from (outs.Busy client ∷ rest) = sends_of from rest
-sends_of from (outs.Trimmed first entries ∷ rest) = sends_of from rest
+sends_of from (_ ∷ rest) = sends_of from rest
 
 -- a line for each output but entries that moved out of a log, where `count` datagrams were sent before
 abbrev pub lines_from : Actor → ℕ → List Out → List Line
@@ -27,6 +24,9 @@ lines_from from count (outs.Send dest bytes ∷ rest) = Send count from dest byt
 lines_from from count (outs.Submitted r ∷ rest) = Submit r ∷ lines_from from count rest
 lines_from from count (outs.Accepted client id result ∷ rest) = Accept client id result ∷ lines_from from count rest
 lines_from from count (outs.Busy client ∷ rest) = Busy client ∷ lines_from from count rest
+lines_from from count (outs.Reading client id observer key ∷ rest) = Read client id observer key ∷ lines_from from count rest
+lines_from from count (outs.Answered client id observer position result ∷ rest) =
+    Answer client id observer position result ∷ lines_from from count rest
 lines_from from count (outs.Trimmed first entries ∷ rest) = lines_from from count rest
 
 -- what an actor did, or that it crashed before

@@ -6,7 +6,9 @@ ghost use Rattle.network.specs.Network.{did_of, sends_of, lines_from, sends_by, 
 use crate::network::Network;
 use nop_types::{Actor, Bytes, Dest, NoMemory, Out, Outbox};
 use std::alloc::Global;
-use transcript_text::{accept_line, busy_line, dead_line, send_line, submit_line};
+use transcript_text::{
+    accept_line, answer_line, busy_line, dead_line, read_line, send_line, submit_line,
+};
 
 /// A line of a datagram that is sent has some thirty bytes.
 const LINE_ROOM: usize = 40;
@@ -85,6 +87,19 @@ fn carry_out_one(
         Out::Submitted(request) => submit_line(request, &mut tally.text),
         Out::Accepted { client, id, result } => carry_accept(*client, *id, result, tally),
         Out::Busy(client) => busy_line(*client, &mut tally.text),
+        Out::Reading {
+            client,
+            id,
+            observer,
+            key,
+        } => read_line(*client, *id, *observer, key, &mut tally.text),
+        Out::Answered {
+            client,
+            id,
+            observer,
+            position,
+            result,
+        } => { answer_line(*client, *id, *observer, *position, result, &mut tally.text) }
         Out::Trimmed { .. } => Ok(()),
     }
 }

@@ -41,10 +41,7 @@ among_append (bytes ∷ a) b =
 pub among_outs : (os : List Out) → fragments_among (bytes_in os) ≡ fragments_in os
 among_outs [] = refl
 among_outs (outs.Send dest bytes ∷ os) = ap (λ (fs : List Fragment). fragment_read (reading bytes) ++ fs) (among_outs os)
-among_outs (outs.Submitted r ∷ os) = among_outs os
-among_outs (outs.Accepted client id result ∷ os) = among_outs os
-among_outs (outs.Busy client ∷ os) = among_outs os
-among_outs (outs.Trimmed first entries ∷ os) = among_outs os
+among_outs (_ ∷ os) = among_outs os
 
 -- a fragment that is read of the bytes of one
 pub among_has : (sent : List (List ℕ)) (bytes : List ℕ) (f : Fragment) → Has sent bytes → reading bytes ≡ Ok (datagrams.Fragment f)

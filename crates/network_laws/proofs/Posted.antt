@@ -28,10 +28,7 @@ use Rattle.network_laws.specs.Network.{bytes_in, IsFragment, IsReplyIn, PostsRep
 bytes_append : (a b : List Out) → bytes_in (a ++ b) ≡ bytes_in a ++ bytes_in b
 bytes_append [] b = refl
 bytes_append (outs.Send dest bytes ∷ a) b = ap (λ (rest : List (List ℕ)). bytes ∷ rest) (bytes_append a b)
-bytes_append (outs.Submitted r ∷ a) b = bytes_append a b
-bytes_append (outs.Accepted client id result ∷ a) b = bytes_append a b
-bytes_append (outs.Busy client ∷ a) b = bytes_append a b
-bytes_append (outs.Trimmed first entries ∷ a) b = bytes_append a b
+bytes_append (_ ∷ a) b = bytes_append a b
 
 -- ---- the fragments of a message
 

@@ -4,7 +4,7 @@ use Rattle.std.proofs.Common.{inl, inr, List, [], ◌++◌}
 use Rattle.std.specs.Prelude.{◌⊎◌, nat_lt, Result, Ok}
 use Rattle.std.specs.List.{AllByRecursion}
 use Rattle.std.proofs.lemmas.Bool.{ltb-true}
-use Rattle.nop_types.specs.Given.{Given, Packet, Ticked, Submit}
+use Rattle.nop_types.specs.Given.{Given, Packet, Ticked}
 use Rattle.nop_types.specs.Lists.{Has}
 use Rattle.nop_types.specs.Bounds.{Bounds}
 use Rattle.nop_types.specs.Logs.{Trimmed}
@@ -149,7 +149,7 @@ module _ {S : Type 0} (m : Meaning S) (peer_messages : List Peer) (sent : List (
     | inr none ↦ refused_delivers bytes none
   ]
   delivers bounds (Ticked tick) may = row_delivers bounds s.reassembly (messages.Ticked tick) h.came tt tt
-  delivers bounds (Submit op) may = does_nothing s.reassembly h.came
+  delivers bounds _ may = does_nothing s.reassembly h.came
 
 pub step_delivers : {S : Type 0} (m : Meaning S) → Bounds m Trimmed → (peer_messages : List Peer) (sent : List (List ℕ)) (used : ℕ → ℕ) (r : ℕ)
     (s : Replica) (given : Given) → Network peer_messages sent used → InNetwork sent used r s → MayCome sent given

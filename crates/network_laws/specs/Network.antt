@@ -1,7 +1,7 @@
 -- What holds of all datagrams that were ever sent.
 use Rattle.std.specs.Prelude.{◌≡◌, ◌⊎◌, ℕ, List, [], ◌∷◌, ◌++◌, Ok, Err, ⊤}
 use Rattle.std.specs.List.{AllByRecursion}
-use Rattle.nop_types.specs.Given.{Given, Packet, Ticked, Submit}
+use Rattle.nop_types.specs.Given.{Given, Packet}
 use Rattle.nop_types.specs.Lists.{Has}
 use Rattle.nop_types.specs.declared.datagram.Datagram.{Datagram}
 use Rattle.nop_types.specs.declared.datagram.Datagram.TheVariants as datagrams
@@ -23,10 +23,7 @@ use Rattle.network_laws.specs.PostedFragments.{fragment_read}
 abbrev pub bytes_in : List Out → List (List ℕ)
 bytes_in [] = []
 bytes_in (outs.Send dest bytes ∷ rest) = bytes ∷ bytes_in rest
-bytes_in (outs.Submitted r ∷ rest) = bytes_in rest
-bytes_in (outs.Accepted client id result ∷ rest) = bytes_in rest
-bytes_in (outs.Busy client ∷ rest) = bytes_in rest
-bytes_in (outs.Trimmed first entries ∷ rest) = bytes_in rest
+bytes_in (_ ∷ rest) = bytes_in rest
 
 -- the fragments among datagrams
 abbrev pub fragments_among : List (List ℕ) → List Fragment
@@ -76,8 +73,7 @@ pub record IsNoDatagram (bytes : List ℕ) : Type 0 where
   pub error : Bad
   pub refused : reading bytes ≡ Err error
 
--- a packet was sent, or is no datagram; a tick and an op may come at any time
+-- a packet was sent, or is no datagram; all else may come at any time
 abbrev pub MayCome : List (List ℕ) → Given → Type 0
 MayCome sent (Packet bytes) = Has sent bytes ⊎ IsNoDatagram bytes
-MayCome sent (Ticked tick) = ⊤
-MayCome sent (Submit op) = ⊤
+MayCome sent _ = ⊤

@@ -8,8 +8,10 @@ pub data Given : Type 0 where
   Packet : List ℕ → Given
   Ticked : Tick → Given
   Submit : List ℕ → Given
+  Read : (observer : ℕ) → (key : List ℕ) → Given
 
 abbrev pub given : Input → Given
 given (inputs.Packet bytes) = Packet bytes.now
 given (inputs.Tick tick) = Ticked tick
 given (inputs.Submit op) = Submit op.now
+given (inputs.Read observer key) = Read observer key.now

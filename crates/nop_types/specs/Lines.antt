@@ -10,4 +10,6 @@ pub data Line : Type 0 where
   Submit : Request → Line
   Accept : (client id : ℕ) → (result : List ℕ) → Line
   Busy : (client : ℕ) → Line
+  Read : (client id observer : ℕ) → (key : List ℕ) → Line
+  Answer : (client id observer position : ℕ) → (result : List ℕ) → Line
   Send : (index : ℕ) → (from : Actor) → (dest : Dest) → (datagram : List ℕ) → Line

@@ -1,7 +1,7 @@
 -- The ranges of the fields of messages.
 use Rattle.std.specs.Prelude.{◌≡◌, ℕ, ◌+◌, ◌<◌, ◌≤◌, ◌^◌, length, Option, None, is_some, nat_lt, IfSome, ⊤}
 use Rattle.std.specs.List.{AllByRecursion}
-use Rattle.nop_types.specs.declared.limits.TheConstants.{MAX_OP_BYTES, MAX_RESULT_BYTES, MAX_SLOTS, MAX_LENGTH, MAX_FRAGMENTS}
+use Rattle.nop_types.specs.declared.limits.TheConstants.{MAX_OP_BYTES, MAX_KEY_BYTES, MAX_RESULT_BYTES, MAX_SLOTS, MAX_LENGTH, MAX_FRAGMENTS}
 use Rattle.nop_types.specs.declared.limits.TheConstants.{FRAGMENT_BYTES, NUMBER_END}
 use Rattle.nop_types.specs.Checkpoints.{Checkpoint, CheckpointFits}
 use Rattle.nop_types.specs.Logs.{Log, Keeping, Whole, Trimmed, unsynced, length_of}
@@ -12,6 +12,8 @@ use Rattle.nop_types.specs.declared.request.Entry.TheVariants.{NoOp, Req}
 use Rattle.nop_types.specs.declared.datagram.Stamped.{Stamped}
 use Rattle.nop_types.specs.declared.datagram.Reply.{Reply}
 use Rattle.nop_types.specs.declared.datagram.Fragment.{Fragment}
+use Rattle.nop_types.specs.declared.datagram.Read.{Read}
+use Rattle.nop_types.specs.declared.datagram.Answer.{Answer}
 use Rattle.nop_types.specs.declared.datagram.Datagram.{Datagram}
 use Rattle.nop_types.specs.declared.datagram.Datagram.TheVariants as datagrams
 use Rattle.nop_types.specs.declared.peer.Peer.{Peer}
@@ -84,6 +86,21 @@ pub record PingFits (k j round : ℕ) : Type 0 where
   pub sequencer : j ≤ 3
   pub fits : IsCount round
 
+pub record ReadFits (r : Read) : Type 0 where
+  pub client : r.client < 2 ^ 32
+  pub id_low : 1 ≤ r.id
+  pub id : r.id < 2 ^ 64
+  pub some : 1 ≤ length r.key
+  pub most : length r.key ≤ MAX_KEY_BYTES
+
+pub record AnswerFits (a : Answer) : Type 0 where
+  pub observer : a.observer ≤ 3
+  pub position : a.position < 2 ^ 32
+  pub client : a.client < 2 ^ 32
+  pub id_low : 1 ≤ a.id
+  pub id : a.id < 2 ^ 64
+  pub result_length : length a.result ≤ MAX_RESULT_BYTES
+
 -- each field is in its range
 abbrev pub DatagramFits : Datagram → Type 0
 DatagramFits (datagrams.Request r) = RequestFits r
@@ -94,6 +111,8 @@ DatagramFits (datagrams.Installed controller sequencer session) = InstallFits co
 DatagramFits (datagrams.Ping controller sequencer round) = PingFits controller sequencer round
 DatagramFits (datagrams.Pong controller sequencer round) = PingFits controller sequencer round
 DatagramFits (datagrams.Fragment f) = FragmentFits f
+DatagramFits (datagrams.Read r) = ReadFits r
+DatagramFits (datagrams.Answer a) = AnswerFits a
 
 abbrev pub EntryFits : Entry → Type 0
 EntryFits NoOp = ⊤

@@ -1,16 +1,18 @@
 ghost use Rattle.std.specs.Prelude.{◌≡◌, ◌↔◌, ◌<◌, ◌≤◌, IsTrue, IsSome, IfSome};
 ghost use Rattle.nop_types.specs.Configuration.{Configuration, is_configuration};
 
-use crate::{MAX_CLIENTS, MAX_CONTROLLERS, MAX_REPLICAS, MAX_SEQUENCERS};
+use crate::{MAX_CLIENTS, MAX_CONTROLLERS, MAX_OBSERVERS, MAX_REPLICAS, MAX_SEQUENCERS};
 use std::marker::Model;
 
-/// How many actors there are: 1, 3, 5 or 7 replicas, 1 to 4 sequencers, 1 to 16 clients and 1 to 4 controllers.
+/// How many actors there are: 1, 3, 5 or 7 replicas, 1 to 4 sequencers, 1 to 16 clients, 1 to 4 controllers
+/// and 0 to 4 observers.
 #[derive(Clone, Copy, Debug, PartialEq, Eq)]
 pub struct Config {
     replicas: u8,
     sequencers: u8,
     clients: u8,
     controllers: u8,
+    observers: u8,
 }
 
 impl Model for Config {
@@ -25,6 +27,7 @@ impl Model for Config {
           sequencers = c.sequencers;
           clients = c.clients;
           controllers = c.controllers;
+          observers = c.observers;
         } };
 
     ghost invariant = { λ c. IsTrue (is_configuration (record {
@@ -32,6 +35,7 @@ impl Model for Config {
       sequencers = c.sequencers;
       clients = c.clients;
       controllers = c.controllers;
+      observers = c.observers;
     })) };
 
     ghost inverse = { λ d.
@@ -40,24 +44,33 @@ impl Model for Config {
           sequencers = d.sequencers;
           clients = d.clients;
           controllers = d.controllers;
+          observers = d.observers;
         } };
 }
 
 impl Config {
     /// None exactly outside the limits.
-    pub fn new(replicas: u8, sequencers: u8, clients: u8, controllers: u8) -> Option<Config>
+    pub fn new(
+        replicas: u8,
+        sequencers: u8,
+        clients: u8,
+        controllers: u8,
+        observers: u8,
+    ) -> Option<Config>
         ensures some { IsSome result
             ↔ IsTrue (is_configuration (record {
               replicas = replicas;
               sequencers = sequencers;
               clients = clients;
               controllers = controllers;
+              observers = observers;
             })) }
         ensures value { IfSome result (λ c. c ≡ record {
           replicas = replicas;
           sequencers = sequencers;
           clients = clients;
           controllers = controllers;
+          observers = observers;
         }) }
     {
         if replicas % 2 == 0 || replicas > MAX_REPLICAS {
@@ -72,11 +85,15 @@ impl Config {
         if controllers == 0 || controllers > MAX_CONTROLLERS {
             return None;
         }
+        if observers > MAX_OBSERVERS {
+            return None;
+        }
         Some(Config {
             replicas,
             sequencers,
             clients,
             controllers,
+            observers,
         })
     }
 
@@ -105,5 +122,12 @@ impl Config {
         ensures limits { IsTrue (is_configuration self) }
     {
         self.controllers
+    }
+
+    pub fn observers(self) -> u8
+        ensures count { result ≡ self.observers }
+        ensures limits { IsTrue (is_configuration self) }
+    {
+        self.observers
     }
 }

@@ -1,4 +1,4 @@
-use crate::{Bytes, Request, View};
+use crate::{Bytes, Key, Request, View};
 
 /// A request with the session and the message number that a sequencer wrote on it.
 #[derive(Debug, Drop)]
@@ -30,6 +30,24 @@ pub struct Fragment {
     pub payload: Bytes,
 }
 
+/// A client's read of a key. Ids count from 1, apart from those of requests.
+#[derive(Debug, Drop)]
+pub struct Read {
+    pub client: u32,
+    pub id: u64,
+    pub key: Key,
+}
+
+/// An observer's answer to a read, from the state after the first `position` slots.
+#[derive(Debug, Drop)]
+pub struct Answer {
+    pub observer: u8,
+    pub position: u32,
+    pub client: u32,
+    pub id: u64,
+    pub result: Bytes,
+}
+
 /// What the network carries. Installs and pings name the controller that sent them, and their answers the one that they are for.
 #[derive(Debug, Drop)]
 pub enum Datagram {
@@ -57,4 +75,6 @@ pub enum Datagram {
         round: u32,
     },
     Fragment(Fragment),
+    Read(Read),
+    Answer(Answer),
 }

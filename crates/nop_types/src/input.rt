@@ -1,4 +1,4 @@
-use crate::Op;
+use crate::{Key, Op};
 
 /// A timeout, or an order from outside.
 #[derive(Clone, Copy, Debug, PartialEq, Eq)]
@@ -13,10 +13,11 @@ pub enum Tick {
     Install(u8),
 }
 
-/// What a core takes in one step.
+/// What a core takes in one step; a read is of the observer with this number.
 #[derive(Clone, Copy)]
 pub enum Input<'a> {
     Packet(&'a [u8]),
     Tick(Tick),
     Submit(&'a Op),
+    Read(u8, &'a Key),
 }

@@ -26,6 +26,10 @@ pub const PONG: u8 = 7;
 
 pub const FRAGMENT: u8 = 8;
 
+pub const READ: u8 = 9;
+
+pub const ANSWER: u8 = 10;
+
 /// Where a datagram has its kind.
 pub const KIND_PLACE: usize = 3;
 
@@ -68,6 +72,8 @@ const _: () = prove!(
         && PING == 6
         && PONG == 7
         && FRAGMENT == 8
+        && READ == 9
+        && ANSWER == 10
 );
 
 const _: () = prove!(KIND_PLACE == 3 && COUNT_PLACE == 15 && FRAGMENT_HEADER_BYTES == 17);

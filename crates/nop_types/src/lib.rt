@@ -15,11 +15,11 @@
 //! borrows one, and `to_log` copies it; `lay_over` moves entries over the first ones of others.
 //! Where the sync point of a replica rises, the entries up to it go out as `Out::Trimmed`.
 //!
-//! Besides, an `Op` has at most `MAX_OP_BYTES` bytes; `Config::new` and `Checkpoint::new` are None
-//! exactly outside the limits, and each `Checkpoint` is within them (`CheckpointFits`); `View::le`
-//! is the order of views by both parts, `View::join` the least view above two (law
-//! `join_is_least`), and `leader_of` one of the n replicas. In each crate, a call that takes memory
-//! may answer `NoMemory` instead.
+//! Besides, an `Op` has at most `MAX_OP_BYTES` bytes, a `Key` 1 to `MAX_KEY_BYTES`; `Config::new`
+//! and `Checkpoint::new` are None exactly outside the limits, and each `Checkpoint` is within them
+//! (`CheckpointFits`); `View::le` is the order of views by both parts, `View::join` the least view
+//! above two (law `join_is_least`), and `leader_of` one of the n replicas. In each crate, a call
+//! that takes memory may answer `NoMemory` instead.
 //!
 //! Files: `view`, `request`, `log`, `checkpoint`, `datagram`, `peer`, `output`, `core_trait`,
 //! `host`, `limits`. Definitions: `specs/Execution` (`exec`, what the execution of a log leaves;
@@ -42,6 +42,7 @@ mod ending;
 mod header;
 mod host;
 mod input;
+mod key;
 pub mod kinds;
 mod limits;
 mod log;
@@ -58,16 +59,17 @@ pub use bytes::Bytes;
 pub use checkpoint::{Checkpoint, SavedClient, try_clone_checkpoint};
 pub use config::Config;
 pub use core_trait::Core;
-pub use datagram::{Datagram, Fragment, Reply, Stamped};
+pub use datagram::{Answer, Datagram, Fragment, Read, Reply, Stamped};
 pub use ending::end_step;
 pub use header::Header;
 pub use host::Host;
 pub use input::{Input, Tick};
+pub use key::Key;
 pub use limits::{
     EPOCH_STEP, FRAGMENT_BYTES, MAX_CLIENTS, MAX_CONTROLLERS, MAX_DATAGRAM_BYTES, MAX_FRAGMENTS,
-    MAX_HOST_BYTES, MAX_KEY_BYTES, MAX_LENGTH, MAX_LINE_BYTES, MAX_LINES, MAX_OP_BYTES, MAX_QUEUED,
-    MAX_REPLICAS, MAX_RESULT_BYTES, MAX_SEQUENCERS, MAX_SERVED, MAX_SLOTS, MAX_UNFINISHED,
-    MAX_VALUE_BYTES, NUMBER_END, WINDOW,
+    MAX_HOST_BYTES, MAX_KEY_BYTES, MAX_LENGTH, MAX_LINE_BYTES, MAX_LINES, MAX_OBSERVERS,
+    MAX_OP_BYTES, MAX_QUEUED, MAX_REPLICAS, MAX_RESULT_BYTES, MAX_SEQUENCERS, MAX_SERVED,
+    MAX_SLOTS, MAX_UNFINISHED, MAX_VALUE_BYTES, NUMBER_END, WINDOW,
 };
 pub use log::{Log, LogRef};
 pub use memory::NoMemory;

@@ -57,6 +57,9 @@ pub const MAX_SEQUENCERS: u8 = 4;
 /// The most controllers.
 pub const MAX_CONTROLLERS: u8 = 4;
 
+/// The most observers.
+pub const MAX_OBSERVERS: u8 = 4;
+
 /// The most clients of a schedule.
 pub const MAX_CLIENTS: u8 = 16;
 
@@ -87,6 +90,7 @@ const _: () = prove!(
         && MAX_REPLICAS == 7
         && MAX_SEQUENCERS == 4
         && MAX_CONTROLLERS == 4
+        && MAX_OBSERVERS == 4
         && MAX_CLIENTS == 16
         && MAX_LINE_BYTES == 4096
         && MAX_LINES == 1_000_000

@@ -1,6 +1,6 @@
 ghost use Rattle.std.specs.Prelude.{◌≡◌, ◌++◌, ◌∷◌, [], take, OnOk, OnErr};
 
-use crate::{Bytes, Log, NoMemory, Request};
+use crate::{Bytes, Key, Log, NoMemory, Request};
 use std::alloc::Global;
 use std::marker::Model;
 
@@ -11,6 +11,7 @@ pub enum Actor {
     Sequencer(u8),
     Client(u32),
     Controller(u8),
+    Observer(u8),
 }
 
 /// Where a datagram is sent: to all replicas, to all sequencers, or to one actor.
@@ -33,11 +34,33 @@ pub struct Accept {
 pub enum Out {
     Send(Dest, Bytes),
     Submitted(Request),
-    Accepted { client: u32, id: u64, result: Bytes },
+    Accepted {
+        client: u32,
+        id: u64,
+        result: Bytes,
+    },
     Busy(u32),
+    /// A client asks the observer with this number for a key.
+    Reading {
+        client: u32,
+        id: u64,
+        observer: u8,
+        key: Key,
+    },
+    /// The answer to a read, from the state after the first `position` slots.
+    Answered {
+        client: u32,
+        id: u64,
+        observer: u8,
+        position: u32,
+        result: Bytes,
+    },
     /// The sync point of a replica rose: these entries, from the slot `first` on, moved out of its log. The log has no checkpoint and
     /// sync point 0.
-    Trimmed { first: u32, entries: Log },
+    Trimmed {
+        first: u32,
+        entries: Log,
+    },
 }
 
 /// What a step gave, in order.

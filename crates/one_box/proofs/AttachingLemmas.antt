@@ -46,6 +46,7 @@ few_of _ = omega arith
 few_by : (w : WorldState) (x : Who) → length (timers_by w x) ≤ 255
 few_by w (AReplica i) = few_if (slice_get w.replicas i) _ (omega arith)
 few_by w (Another k i) = few_if (slice_get (seats k w.others) i) (timers k) (few_of k)
+few_by w _ = omega arith
 
 pub few_timers : (w : WorldState) (a : Actor) → length (timers_of w a) ≤ 255
 few_timers w a = few_by w (who a)

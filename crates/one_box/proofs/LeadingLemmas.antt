@@ -71,6 +71,7 @@ at_refusal next f (Some p) r h is = cc
 of_refusal : {S : Type 0} (m : Meaning S) (w : WorldState) (x : Who) (r : Refusal) (h : Happened) → step_of m w x (Err r) ≡ Ok h → ⊥
 of_refusal m w (AReplica i) r h is = at_refusal _ _ (slice_get w.replicas i) r h is
 of_refusal m w (Another k i) r h is = at_refusal _ _ (slice_get (seats k w.others) i) r h is
+of_refusal m w _ r h is = cc
 
 tick_taken : {S : Type 0} (m : Meaning S) (w : WorldState) (x : Who) (tick : Tick) (h : Happened) (b : Bool)
     → step_of m w x (tick_if b tick) ≡ Ok h → b ≡ true

@@ -11,11 +11,12 @@ use Rattle.oum_codec.specs.declared.bad.Bad.{Bad}
 use Rattle.oum_codec.specs.declared.bad.Bad.TheVariants.{Short, Magic, Version, Kind, Field, Trailing, NoMemory}
 use Rattle.oum_codec.specs.Numbers.{IsBytes}
 use Rattle.oum_codec.specs.Spelling.{header, spelling, Spells}
-use Rattle.oum_codec.specs.Reading.{Gives, request_of, stamped_of, reply_of, fragment_of, body_of, reading}
+use Rattle.oum_codec.specs.Reading.{Gives, request_of, stamped_of, reply_of, fragment_of, read_of, answer_of, body_of, reading}
 use Rattle.oum_codec.proofs.Steps.{ok_is, guard_ok}
 use Rattle.oum_codec.proofs.Numbers.{IsBytes-rest}
 use Rattle.oum_codec.proofs.EachKind.{request_takes, request_again, stamped_takes, stamped_again, reply_takes, reply_again, install_as}
 use Rattle.oum_codec.proofs.EachKind.{install_as_takes, install_again, ping_as, ping_as_takes, ping_again, fragment_takes, fragment_again}
+use Rattle.oum_codec.proofs.EachKind.{read_takes, read_again, answer_takes, answer_again}
 
 -- the first of two readings, where its test holds, else the second
 chosen : (b : Bool) (x y z : Result Datagram Bad) → cond b x y ≡ z → ((b ≡ true) × (x ≡ z)) ⊎ ((b ≡ false) × (y ≡ z))
@@ -46,7 +47,13 @@ body_takes kind rest d fits e =
                           rw (eqb-true _ _ here.0) (ping_as_takes 7 datagrams.Pong rest d (λ i j n h. h) (λ i j n. refl) fits here.1)
                       | inr next ↦ elim (chosen (eqb kind 8) (fragment_of rest) _ (Ok d) next.1) [
                         | inl here ↦ rw (eqb-true _ _ here.0) (fragment_takes rest d fits here.1)
-                        | inr none ↦ absurd (let h = none.1 in cc)
+                        | inr next ↦ elim (chosen (eqb kind 9) (read_of rest) _ (Ok d) next.1) [
+                          | inl here ↦ rw (eqb-true _ _ here.0) (read_takes rest d fits here.1)
+                          | inr next ↦ elim (chosen (eqb kind 10) (answer_of rest) _ (Ok d) next.1) [
+                            | inl here ↦ rw (eqb-true _ _ here.0) (answer_takes rest d fits here.1)
+                            | inr none ↦ absurd (let h = none.1 in cc)
+                          ]
+                        ]
                       ]
                     ]
                   ]
@@ -83,6 +90,8 @@ reads_again (datagrams.Installed controller sequencer session) fits = rw (instal
 reads_again (datagrams.Ping controller sequencer round) fits = rw (ping_again controller sequencer round fits) refl
 reads_again (datagrams.Pong controller sequencer round) fits = rw (ping_again controller sequencer round fits) refl
 reads_again (datagrams.Fragment f) fits = fragment_again f fits
+reads_again (datagrams.Read r) fits = read_again r fits
+reads_again (datagrams.Answer a) fits = answer_again a fits
 
 pub is_found : (bytes : List ℕ) (r : Result Datagram Bad) → IsBytes bytes → Gives r (reading bytes) → IfOk r (λ d. Spells d bytes)
 is_found bytes (Ok d) fits given = is_spelled bytes d fits given

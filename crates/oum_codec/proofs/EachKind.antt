@@ -7,10 +7,13 @@ use Rattle.std.proofs.lemmas.Bool.{ltb-false, ltb-true}
 use Rattle.std.proofs.lemmas.Bool.Decides.{nat_tests}
 use Rattle.std.proofs.lemmas.List.{append-nil, nil_from_length}
 use Rattle.nop_types.specs.Ranges.{DatagramFits, RequestFits, StampedFits, ReplyFits, InstallFits, PingFits, FragmentFits}
+use Rattle.nop_types.specs.Ranges.{ReadFits, AnswerFits}
 use Rattle.nop_types.specs.declared.request.Request.{Request}
 use Rattle.nop_types.specs.declared.datagram.Stamped.{Stamped}
 use Rattle.nop_types.specs.declared.datagram.Reply.{Reply}
 use Rattle.nop_types.specs.declared.datagram.Fragment.{Fragment}
+use Rattle.nop_types.specs.declared.datagram.Read.{Read}
+use Rattle.nop_types.specs.declared.datagram.Answer.{Answer}
 use Rattle.nop_types.specs.declared.datagram.Datagram.{Datagram}
 use Rattle.nop_types.specs.declared.datagram.Datagram.TheVariants as datagrams
 use Rattle.oum_codec.specs.declared.bad.Bad.{Bad}
@@ -20,20 +23,22 @@ use Rattle.oum_codec.specs.declared.fixed.ReplyFields.{ReplyFields}
 use Rattle.oum_codec.specs.declared.fixed.InstallFields.{InstallFields}
 use Rattle.oum_codec.specs.declared.fixed.PingFields.{PingFields}
 use Rattle.oum_codec.specs.declared.fixed.FragmentFields.{FragmentFields}
+use Rattle.oum_codec.specs.declared.fixed.AnswerFields.{AnswerFields}
 use Rattle.oum_codec.specs.Numbers.{IsBytes, be_bytes}
 use Rattle.oum_codec.specs.Spelling.{view_bytes, header, request_bytes, stamped_bytes, reply_bytes, install_bytes, ping_bytes}
-use Rattle.oum_codec.specs.Spelling.{fragment_bytes, spelling}
-use Rattle.nop_types.specs.declared.limits.TheConstants.{FRAGMENT_BYTES, MAX_FRAGMENTS, MAX_OP_BYTES, MAX_RESULT_BYTES}
+use Rattle.oum_codec.specs.Spelling.{fragment_bytes, read_bytes, answer_bytes, spelling}
+use Rattle.nop_types.specs.declared.limits.TheConstants.{FRAGMENT_BYTES, MAX_FRAGMENTS, MAX_KEY_BYTES, MAX_OP_BYTES, MAX_RESULT_BYTES}
 use Rattle.nop_types.specs.declared.limits.TheConstants.{NUMBER_END}
 use Rattle.oum_codec.specs.Fixed.{tag_fits, request_fields_at, request_in_range, stamped_fields_at, stamped_in_range, reply_fields_at}
 use Rattle.oum_codec.specs.Fixed.{reply_in_range, install_fields_at, install_in_range, ping_fields_at, ping_in_range, fragment_fields_at}
-use Rattle.oum_codec.specs.Fixed.{fragment_in_range, least_payload}
-use Rattle.oum_codec.specs.Reading.{◌>>=◌, request_of, stamped_of, reply_of, install_of, ping_of, fragment_of}
+use Rattle.oum_codec.specs.Fixed.{fragment_in_range, least_payload, read_in_range, answer_fields_at, answer_in_range}
+use Rattle.oum_codec.specs.Reading.{◌>>=◌, request_of, stamped_of, reply_of, install_of, ping_of, fragment_of, read_of, answer_of}
 use Rattle.oum_codec.proofs.Steps.{bind_ok, ok_is}
 use Rattle.oum_codec.proofs.FixedFields.{StampedWidths, ReplyWidths, request_fields_bytes, request_fields_take, request_fields_again}
 use Rattle.oum_codec.proofs.FixedFields.{stamped_fields_bytes, stamped_fields_take, stamped_fields_again, reply_fields_bytes}
 use Rattle.oum_codec.proofs.FixedFields.{reply_fields_take, reply_fields_again, install_fields_take, install_fields_again}
 use Rattle.oum_codec.proofs.FixedFields.{ping_fields_take, ping_fields_again, FragmentWidths, fragment_fields_take, fragment_fields_again}
+use Rattle.oum_codec.proofs.FixedFields.{AnswerWidths, answer_fields_bytes, answer_fields_take, answer_fields_again}
 use Rattle.oum_codec.proofs.Bodies.{body_ok, body_again}
 
 -- ---- a request
@@ -366,3 +371,79 @@ fragment_again f fits =
     payload_enough g (length f.payload) (record { some = fits.some; full = λ inner. omega (arith, fits.full inner) }) in
     body_again (fragment_fields_at (fragment_bytes f)) fragment_in_range least_payload (λ f. FRAGMENT_BYTES)
     (λ f payload. datagrams.Fragment (fragment_made f payload)) g f.payload there ranges enough fits.most
+
+-- ---- a read
+
+pub read_takes : (rest : List ℕ) (d : Datagram) → IsBytes rest → read_of rest ≡ Ok d → DatagramFits d × (header 9 ++ rest ≡ spelling d)
+unfolding read_of
+read_takes rest d fits e =
+    let b =
+    body_ok (request_fields_at rest) read_in_range (λ f. f.op_len) (λ f. f.op_len)
+    (λ f key. datagrams.Read (record { client = f.client; id = f.id; key = key })) d e in
+    let t = request_fields_take rest (b.f, b.out) fits b.there in
+    let len : b.f.op_len ≡ length b.out = omega (arith, b.enough, b.no_more) in
+    let id_low : 1 ≤ b.f.id = grind (arith, nat_tests, b.ranges) in
+    let some : 1 ≤ b.f.op_len = grind (arith, nat_tests, b.ranges) in
+    let most : b.f.op_len ≤ MAX_KEY_BYTES = grind (arith, nat_tests, b.ranges) in
+    let whole : rest ≡ read_bytes (record { client = b.f.client; id = b.f.id; key = b.out }) = t.0.parts ∙ request_whole b.f b.out len in
+    subst (λ (x : Datagram). DatagramFits x × (header 9 ++ rest ≡ spelling x)) b.is (
+      record { client = t.1.client; id_low = id_low; id = t.1.id; some = omega (arith, some, len); most = omega (arith, most, len) },
+      ap (λ (x : List ℕ). header 9 ++ x) whole,
+    )
+
+pub read_again : (r : Read) → ReadFits r → read_of (read_bytes r) ≡ Ok (datagrams.Read r)
+unfolding read_of
+read_again r fits =
+    let f : RequestFields = record { client = r.client; id = r.id; op_len = length r.key } in
+    let there : request_fields_at (read_bytes r) ≡ Some (f, r.key) = ap request_fields_at (sym (request_whole f r.key refl))
+    ∙ request_fields_again f r.key (record { client = fits.client; id = fits.id; op_len = omega (arith, fits.most) }) in
+    let ranges : read_in_range f ≡ true = grind (arith, nat_tests, fits.id_low, fits.some, fits.most) in
+    body_again (request_fields_at (read_bytes r)) read_in_range (λ f. f.op_len) (λ f. f.op_len)
+    (λ f key. datagrams.Read (record { client = f.client; id = f.id; key = key })) f r.key there ranges (omega arith) (omega arith)
+
+-- ---- an answer
+
+abbrev answer_made : AnswerFields → List ℕ → Answer
+answer_made f result = record { observer = f.observer; position = f.position; client = f.client; id = f.id; result = result }
+
+answer_whole : (f : AnswerFields) (result : List ℕ) → f.result_len ≡ length result
+    → answer_fields_bytes f ++ result ≡ answer_bytes (answer_made f result)
+answer_whole f result len =
+    let prefix : List ℕ = f.observer ∷ [] ++ be_bytes w32 f.position ++ be_bytes w32 f.client ++ be_bytes w64 f.id in
+    append_assoc prefix (be_bytes w16 f.result_len) result ∙ ap (λ (n : ℕ). prefix ++ (be_bytes w16 n ++ result)) len
+
+pub answer_takes : (rest : List ℕ) (d : Datagram) → IsBytes rest → answer_of rest ≡ Ok d
+    → DatagramFits d × (header 10 ++ rest ≡ spelling d)
+unfolding answer_of
+answer_takes rest d fits e =
+    let b =
+    body_ok (answer_fields_at rest) answer_in_range (λ f. f.result_len) (λ f. f.result_len)
+    (λ f result. datagrams.Answer (answer_made f result)) d e in
+    let t = answer_fields_take rest (b.f, b.out) fits b.there in
+    let len : b.f.result_len ≡ length b.out = omega (arith, b.enough, b.no_more) in
+    let observer : b.f.observer ≤ 3 = grind (arith, nat_tests, b.ranges) in
+    let id_low : 1 ≤ b.f.id = grind (arith, nat_tests, b.ranges) in
+    let result_high : b.f.result_len ≤ MAX_RESULT_BYTES = grind (arith, nat_tests, b.ranges) in
+    let whole : rest ≡ answer_bytes (answer_made b.f b.out) = t.0.parts ∙ answer_whole b.f b.out len in
+    let ranges : AnswerFits (answer_made b.f b.out) = record {
+      observer = observer;
+      position = t.1.position;
+      client = t.1.client;
+      id_low = id_low;
+      id = t.1.id;
+      result_length = omega (arith, result_high, len);
+    } in
+    subst (λ (x : Datagram). DatagramFits x × (header 10 ++ rest ≡ spelling x)) b.is (ranges, ap (λ (x : List ℕ). header 10 ++ x) whole)
+
+pub answer_again : (a : Answer) → AnswerFits a → answer_of (answer_bytes a) ≡ Ok (datagrams.Answer a)
+unfolding answer_of
+answer_again a fits =
+    let f : AnswerFields =
+    record { observer = a.observer; position = a.position; client = a.client; id = a.id; result_len = length a.result } in
+    let widths : AnswerWidths f =
+    record { position = fits.position; client = fits.client; id = fits.id; result_len = omega (arith, fits.result_length) } in
+    let there : answer_fields_at (answer_bytes a) ≡ Some (f, a.result) =
+    ap answer_fields_at (sym (answer_whole f a.result refl)) ∙ answer_fields_again f a.result widths in
+    let ranges : answer_in_range f ≡ true = grind (arith, nat_tests, fits.observer, fits.id_low, fits.result_length) in
+    body_again (answer_fields_at (answer_bytes a)) answer_in_range (λ f. f.result_len) (λ f. f.result_len)
+    (λ f result. datagrams.Answer (answer_made f result)) f a.result there ranges (omega arith) (omega arith)

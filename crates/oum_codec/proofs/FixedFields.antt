@@ -7,11 +7,12 @@ use Rattle.oum_codec.specs.declared.fixed.ReplyFields.{ReplyFields}
 use Rattle.oum_codec.specs.declared.fixed.InstallFields.{InstallFields}
 use Rattle.oum_codec.specs.declared.fixed.PingFields.{PingFields}
 use Rattle.oum_codec.specs.declared.fixed.FragmentFields.{FragmentFields}
+use Rattle.oum_codec.specs.declared.fixed.AnswerFields.{AnswerFields}
 use Rattle.oum_codec.specs.Numbers.{IsBytes, be_bytes, number_at, byte_at, view_at}
 use Rattle.oum_codec.specs.Spelling.{view_bytes, install_bytes, ping_bytes}
 use Rattle.oum_codec.specs.Places.{ViewWidths}
 use Rattle.oum_codec.specs.Fixed.{request_fields_at, stamped_fields_at, reply_fields_at, install_fields_at, ping_fields_at}
-use Rattle.oum_codec.specs.Fixed.{fragment_fields_at}
+use Rattle.oum_codec.specs.Fixed.{fragment_fields_at, answer_fields_at}
 use Rattle.oum_codec.proofs.Steps.{bind_some, some_is}
 use Rattle.oum_codec.proofs.Numbers.{Takes, Takes-then, u16_takes, u32_takes, u64_takes, u16_again, u32_again, u64_again, byte_takes}
 use Rattle.oum_codec.proofs.Numbers.{view_takes, view_again}
@@ -228,3 +229,53 @@ fragment_fields_again f rest fits =
     ≡ f.replica ∷ (be_bytes w64 f.message ++ (be_bytes w16 f.index ++ (be_bytes w16 f.count ++ rest))) = simp append_assoc in
     ap fragment_fields_at regrouped
     ∙ rw (u64_again f.message _ fits.message, u16_again f.index _ fits.index, u16_again f.count rest fits.count) refl
+
+-- ---- an answer
+
+abbrev pub answer_fields_bytes : AnswerFields → List ℕ
+answer_fields_bytes f =
+    f.observer ∷ [] ++ be_bytes w32 f.position ++ be_bytes w32 f.client ++ be_bytes w64 f.id ++ be_bytes w16 f.result_len
+
+pub record AnswerWidths (f : AnswerFields) : Type 0 where
+  pub position : f.position < 2 ^ 32
+  pub client : f.client < 2 ^ 32
+  pub id : f.id < 2 ^ 64
+  pub result_len : f.result_len < 2 ^ 16
+
+pub answer_fields_take : (bytes : List ℕ) (x : AnswerFields × List ℕ) → IsBytes bytes → answer_fields_at bytes ≡ Some x
+    → Takes bytes (answer_fields_bytes x.0) x.1 × AnswerWidths x.0
+unfolding answer_fields_at
+answer_fields_take bytes x fits e =
+    let a = bind_some (byte_at bytes) _ x e in
+    let b = bind_some (number_at w32 a.0.1) _ x a.2 in
+    let c = bind_some (number_at w32 b.0.1) _ x b.2 in
+    let d = bind_some (number_at w64 c.0.1) _ x c.2 in
+    let f = bind_some (number_at w16 d.0.1) _ x d.2 in
+    let t0 = byte_takes bytes a.0 fits a.1 in
+    let t1 = u32_takes a.0.1 b.0 t0.rest_fits b.1 in
+    let t2 = u32_takes b.0.1 c.0 t1.0.rest_fits c.1 in
+    let t3 = u64_takes c.0.1 d.0 t2.0.rest_fits d.1 in
+    let t4 = u16_takes d.0.1 f.0 t3.0.rest_fits f.1 in
+    let e1 = Takes-then bytes _ _ _ _ t0 t1.0 in
+    let e2 = Takes-then bytes _ _ _ _ e1 t2.0 in
+    let e3 = Takes-then bytes _ _ _ _ e2 t3.0 in
+    let e4 = Takes-then bytes _ _ _ _ e3 t4.0 in
+    let made : AnswerFields × List ℕ =
+    (record { observer = a.0.0; position = b.0.0; client = c.0.0; id = d.0.0; result_len = f.0.0 }, f.0.1) in
+    subst (λ (y : AnswerFields × List ℕ). Takes bytes (answer_fields_bytes y.0) y.1 × AnswerWidths y.0) (some_is made x f.2)
+    (e4, record { position = t1.1; client = t2.1; id = t3.1; result_len = t4.1 })
+
+pub answer_fields_again : (f : AnswerFields) (rest : List ℕ) → AnswerWidths f
+    → answer_fields_at (answer_fields_bytes f ++ rest) ≡ Some (f, rest)
+unfolding answer_fields_at
+answer_fields_again f rest fits =
+    let regrouped : answer_fields_bytes f ++ rest
+    ≡ f.observer ∷ (be_bytes w32 f.position ++ (be_bytes w32 f.client ++ (be_bytes w64 f.id ++ (be_bytes w16 f.result_len ++ rest)))) =
+    simp append_assoc in
+    ap answer_fields_at regrouped
+    ∙ rw (
+      u32_again f.position _ fits.position,
+      u32_again f.client _ fits.client,
+      u64_again f.id _ fits.id,
+      u16_again f.result_len rest fits.result_len,
+    ) refl

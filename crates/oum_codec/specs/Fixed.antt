@@ -1,18 +1,20 @@
--- The fields of each kind that have a fixed size, up to an op, a result or a payload: where all of them are there, and
+-- The fields of each kind that have a fixed size, up to an op, a key, a result or a payload: where all of them are there, and
 -- whether all of them are in range.
 use Rattle.std.specs.Prelude.{ℕ, ◌+◌, Bool, List, Option, Some, nat_lt, nat_le, ◌&&◌, ◌||◌, if◌then◌else◌}
 use Rattle.std.specs.Int.{w16, w32, w64}
-use Rattle.nop_types.specs.declared.limits.TheConstants.{FRAGMENT_BYTES, MAX_CONTROLLERS, MAX_FRAGMENTS, MAX_OP_BYTES, MAX_REPLICAS}
-use Rattle.nop_types.specs.declared.limits.TheConstants.{MAX_RESULT_BYTES, MAX_SEQUENCERS, NUMBER_END}
+use Rattle.nop_types.specs.declared.limits.TheConstants.{FRAGMENT_BYTES, MAX_CONTROLLERS, MAX_FRAGMENTS, MAX_KEY_BYTES}
+use Rattle.nop_types.specs.declared.limits.TheConstants.{MAX_OBSERVERS, MAX_OP_BYTES, MAX_REPLICAS, MAX_RESULT_BYTES}
+use Rattle.nop_types.specs.declared.limits.TheConstants.{MAX_SEQUENCERS, NUMBER_END}
 use Rattle.oum_codec.specs.declared.fixed.RequestFields.{RequestFields}
 use Rattle.oum_codec.specs.declared.fixed.StampedFields.{StampedFields}
 use Rattle.oum_codec.specs.declared.fixed.ReplyFields.{ReplyFields}
 use Rattle.oum_codec.specs.declared.fixed.InstallFields.{InstallFields}
 use Rattle.oum_codec.specs.declared.fixed.PingFields.{PingFields}
 use Rattle.oum_codec.specs.declared.fixed.FragmentFields.{FragmentFields}
+use Rattle.oum_codec.specs.declared.fixed.AnswerFields.{AnswerFields}
 use Rattle.oum_codec.specs.Numbers.{◌>>=◌, number_at, byte_at, view_at}
 
--- of a request: client, id and length of the op
+-- of a request: client, id and length of the op; of a read: client, id and length of the key
 unfoldable pub request_fields_at : List ℕ → Option (RequestFields × List ℕ)
 request_fields_at bytes = do
   client ← number_at w32 bytes
@@ -23,6 +25,10 @@ request_fields_at bytes = do
 -- ids count from 1
 abbrev pub request_in_range : RequestFields → Bool
 request_in_range f = nat_lt 0 f.id && nat_le f.op_len MAX_OP_BYTES
+
+-- ids of reads count from 1 too, and no key is empty
+abbrev pub read_in_range : RequestFields → Bool
+read_in_range f = nat_lt 0 f.id && (nat_lt 0 f.op_len && nat_le f.op_len MAX_KEY_BYTES)
 
 -- of a stamped request: session and number, then those of a request
 unfoldable pub stamped_fields_at : List ℕ → Option (StampedFields × List ℕ)
@@ -100,3 +106,20 @@ fragment_in_range f = nat_lt f.replica MAX_REPLICAS && (nat_lt 0 f.message && (n
 -- each payload but the last is full, and no payload is empty
 abbrev pub least_payload : FragmentFields → ℕ
 least_payload f = if nat_lt (f.index + 1) f.count then FRAGMENT_BYTES else 1
+
+-- of an answer
+unfoldable pub answer_fields_at : List ℕ → Option (AnswerFields × List ℕ)
+answer_fields_at bytes = do
+  observer ← byte_at bytes
+  position ← number_at w32 observer.1
+  client ← number_at w32 position.1
+  id ← number_at w64 client.1
+  result_len ← number_at w16 id.1
+  Some (
+    record { observer = observer.0; position = position.0; client = client.0; id = id.0; result_len = result_len.0 },
+    result_len.1,
+  )
+
+-- ids count from 1, positions from 0
+abbrev pub answer_in_range : AnswerFields → Bool
+answer_in_range f = nat_lt f.observer MAX_OBSERVERS && (nat_lt 0 f.id && nat_le f.result_len MAX_RESULT_BYTES)

@@ -11,7 +11,7 @@ use Rattle.nop_types.specs.declared.kinds.TheConstants as kinds
 use Rattle.nop_types.specs.declared.limits.TheConstants.{FRAGMENT_BYTES}
 use Rattle.oum_codec.specs.Fixed.{request_fields_at, request_in_range, stamped_fields_at, stamped_in_range, reply_fields_at, reply_in_range}
 use Rattle.oum_codec.specs.Fixed.{install_fields_at, install_in_range, ping_fields_at, ping_in_range, fragment_fields_at, fragment_in_range}
-use Rattle.oum_codec.specs.Fixed.{least_payload}
+use Rattle.oum_codec.specs.Fixed.{least_payload, read_in_range, answer_fields_at, answer_in_range}
 
 -- reading fails with this error; being out of memory says nothing of it
 abbrev pub Fails : {A : Type 0} → Bad → Result A Bad → Type 0
@@ -95,6 +95,21 @@ fragment_of bytes = do
   payload ← sized (least_payload f.0) FRAGMENT_BYTES f.1
   Ok (datagrams.Fragment (record { replica = f.0.replica; message = f.0.message; index = f.0.index; count = f.0.count; payload = payload }))
 
+-- of a read
+unfoldable pub read_of : List ℕ → Result Datagram Bad
+read_of bytes = do
+  f ← fields_of (request_fields_at bytes) read_in_range
+  key ← sized f.0.op_len f.0.op_len f.1
+  Ok (datagrams.Read (record { client = f.0.client; id = f.0.id; key = key }))
+
+-- of an answer
+unfoldable pub answer_of : List ℕ → Result Datagram Bad
+answer_of bytes = do
+  f ← fields_of (answer_fields_at bytes) answer_in_range
+  bytes ← sized f.0.result_len f.0.result_len f.1
+  Ok (datagrams.Answer
+      (record { observer = f.0.observer; position = f.0.position; client = f.0.client; id = f.0.id; result = bytes }))
+
 -- what follows the four bytes, by the kind
 abbrev pub body_of : ℕ → List ℕ → Result Datagram Bad
 body_of kind rest =
@@ -106,6 +121,8 @@ body_of kind rest =
     else if kind == kinds.PING then (ping_of rest >>= λ f. Ok (datagrams.Ping f.controller f.sequencer f.round))
     else if kind == kinds.PONG then (ping_of rest >>= λ f. Ok (datagrams.Pong f.controller f.sequencer f.round))
     else if kind == kinds.FRAGMENT then fragment_of rest
+    else if kind == kinds.READ then read_of rest
+    else if kind == kinds.ANSWER then answer_of rest
     else Err Kind
 
 -- the value that the bytes spell, or the first test that they fail

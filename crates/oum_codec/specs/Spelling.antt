@@ -7,6 +7,8 @@ use Rattle.nop_types.specs.declared.request.Request.{Request}
 use Rattle.nop_types.specs.declared.datagram.Stamped.{Stamped}
 use Rattle.nop_types.specs.declared.datagram.Reply.{Reply}
 use Rattle.nop_types.specs.declared.datagram.Fragment.{Fragment}
+use Rattle.nop_types.specs.declared.datagram.Read.{Read}
+use Rattle.nop_types.specs.declared.datagram.Answer.{Answer}
 use Rattle.nop_types.specs.declared.datagram.Datagram.{Datagram}
 use Rattle.nop_types.specs.declared.datagram.Datagram.TheVariants as datagrams
 use Rattle.nop_types.specs.declared.kinds.TheConstants as kinds
@@ -44,6 +46,13 @@ ping_bytes controller sequencer round = controller ∷ [] ++ sequencer ∷ [] ++
 abbrev pub fragment_bytes : Fragment → List ℕ
 fragment_bytes f = f.replica ∷ [] ++ be_bytes w64 f.message ++ be_bytes w16 f.index ++ be_bytes w16 f.count ++ f.payload
 
+abbrev pub read_bytes : Read → List ℕ
+read_bytes r = be_bytes w32 r.client ++ be_bytes w64 r.id ++ counted_bytes r.key
+
+abbrev pub answer_bytes : Answer → List ℕ
+answer_bytes a =
+    a.observer ∷ [] ++ be_bytes w32 a.position ++ be_bytes w32 a.client ++ be_bytes w64 a.id ++ counted_bytes a.result
+
 abbrev pub spelling : Datagram → List ℕ
 spelling (datagrams.Request r) = header kinds.REQUEST ++ request_bytes r
 spelling (datagrams.Stamped s) = header kinds.STAMPED ++ stamped_bytes s
@@ -53,6 +62,8 @@ spelling (datagrams.Installed controller sequencer session) = header kinds.INSTA
 spelling (datagrams.Ping controller sequencer round) = header kinds.PING ++ ping_bytes controller sequencer round
 spelling (datagrams.Pong controller sequencer round) = header kinds.PONG ++ ping_bytes controller sequencer round
 spelling (datagrams.Fragment f) = header kinds.FRAGMENT ++ fragment_bytes f
+spelling (datagrams.Read r) = header kinds.READ ++ read_bytes r
+spelling (datagrams.Answer a) = header kinds.ANSWER ++ answer_bytes a
 
 -- a fragment of a message that has several
 abbrev pub IsPartOfSeveral : Datagram → Type 0

@@ -1,7 +1,7 @@
 use nop_types::NoMemory as OutOfMemory;
 
 /// Why bytes are no datagram: the first of these tests that they fail. Four bytes are there, the first two are N and O, the
-/// version is 3, the kind is 1 to 8, all fields of a fixed size are there, all of them are in range, the counted bytes or
+/// version is 3, the kind is 1 to 10, all fields of a fixed size are there, all of them are in range, the counted bytes or
 /// the least payload are there, nothing follows.
 #[derive(Clone, Copy, Debug, PartialEq, Eq)]
 pub enum Bad {

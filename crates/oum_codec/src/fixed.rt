@@ -1,16 +1,18 @@
-//! The fields of a fixed size of each kind, up to an op, a result or a payload.
+//! The fields of a fixed size of each kind, up to an op, a key, a result or a payload.
 
 ghost use Rattle.std.specs.Prelude.{◌≡◌, option_map};
-ghost use Rattle.oum_codec.specs.Fixed.{request_fields_at, request_in_range, stamped_fields_at, stamped_in_range};
+ghost use Rattle.oum_codec.specs.Fixed.{request_fields_at, request_in_range, read_in_range, stamped_fields_at, stamped_in_range};
 ghost use Rattle.oum_codec.specs.Fixed.{reply_fields_at, reply_in_range, tag_fits, install_fields_at, install_in_range};
 ghost use Rattle.oum_codec.specs.Fixed.{ping_fields_at, ping_in_range, fragment_fields_at, fragment_in_range, least_payload};
+ghost use Rattle.oum_codec.specs.Fixed.{answer_fields_at, answer_in_range};
 
 use crate::fields::{split_u8, split_u16, split_u32, split_u64, split_view};
 use nop_types::{
-    FRAGMENT_BYTES, MAX_CONTROLLERS, MAX_FRAGMENTS, MAX_OP_BYTES, MAX_REPLICAS, MAX_RESULT_BYTES,
-    MAX_SEQUENCERS, NUMBER_END, View,
+    FRAGMENT_BYTES, MAX_CONTROLLERS, MAX_FRAGMENTS, MAX_KEY_BYTES, MAX_OBSERVERS, MAX_OP_BYTES,
+    MAX_REPLICAS, MAX_RESULT_BYTES, MAX_SEQUENCERS, NUMBER_END, View,
 };
 
+/// Of a request, or of a read, which has a key in the place of the op.
 #[derive(Clone, Copy)]
 pub struct RequestFields {
     pub client: u32,
@@ -33,6 +35,13 @@ impl RequestFields {
         ensures { result ≡ request_in_range self }
     {
         0 < self.id && self.op_len as usize <= MAX_OP_BYTES
+    }
+
+    /// The ranges of a read.
+    pub fn is_in_range_of_read(self) -> bool
+        ensures { result ≡ read_in_range self }
+    {
+        0 < self.id && 0 < self.op_len && self.op_len as usize <= MAX_KEY_BYTES
     }
 }
 
@@ -227,5 +236,41 @@ impl FragmentFields {
         } else {
             1
         }
+    }
+}
+
+#[derive(Clone, Copy)]
+pub struct AnswerFields {
+    pub observer: u8,
+    pub position: u32,
+    pub client: u32,
+    pub id: u64,
+    pub result_len: u16,
+}
+
+impl AnswerFields {
+    #[tactic(auto, unfolding(crate::specs::Fixed::answer_fields_at))]
+    pub fn split(bytes: &[u8]) -> Option<(AnswerFields, &[u8])>
+        ensures { option_map (λ x. (x.0, x.1.now)) result ≡ answer_fields_at bytes.now }
+    {
+        let (observer, rest) = split_u8(bytes)?;
+        let (position, rest) = split_u32(rest)?;
+        let (client, rest) = split_u32(rest)?;
+        let (id, rest) = split_u64(rest)?;
+        let (result_len, rest) = split_u16(rest)?;
+        let fields = AnswerFields {
+            observer,
+            position,
+            client,
+            id,
+            result_len,
+        };
+        Some((fields, rest))
+    }
+
+    pub fn is_in_range(self) -> bool
+        ensures { result ≡ answer_in_range self }
+    {
+        self.observer < MAX_OBSERVERS && 0 < self.id && self.result_len as usize <= MAX_RESULT_BYTES
     }
 }

@@ -1,4 +1,4 @@
-//! The eight kinds of datagrams as bytes.
+//! The ten kinds of datagrams as bytes.
 //!
 //! `decode` answers the datagram that the bytes spell, with each field in its range, and for other
 //! bytes the first test, in the order of the format, that they fail; `read_datagram` answers None

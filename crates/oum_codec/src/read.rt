@@ -2,14 +2,16 @@ ghost use Rattle.std.specs.Prelude.{◌≡◌, ◌⊎◌, IfOk, IfSome};
 ghost use Rattle.nop_types.specs.declared.datagram.Datagram.{Datagram};
 ghost use Rattle.oum_codec.specs.Spelling.{Spells};
 ghost use Rattle.oum_codec.specs.Reading.{Finds, Gives, GivesBy, sized, request_of, stamped_of, reply_of};
-ghost use Rattle.oum_codec.specs.Reading.{install_of, ping_of, fragment_of, body_of, reading};
+ghost use Rattle.oum_codec.specs.Reading.{install_of, ping_of, fragment_of, read_of, answer_of, body_of, reading};
 
 use crate::Bad;
 use crate::fixed::{
-    FragmentFields, InstallFields, PingFields, ReplyFields, RequestFields, StampedFields,
+    AnswerFields, FragmentFields, InstallFields, PingFields, ReplyFields, RequestFields,
+    StampedFields,
 };
 use nop_types::{
-    Bytes, Datagram, FRAGMENT_BYTES, Fragment, NoMemory, Op, Reply, Request, Stamped, kinds,
+    Answer, Bytes, Datagram, FRAGMENT_BYTES, Fragment, Key, NoMemory, Op, Read, Reply, Request,
+    Stamped, kinds,
 };
 use std::alloc::Global;
 
@@ -139,6 +141,46 @@ fn fragment(alloc: Global, bytes: &[u8]) -> Result<Datagram, Bad>
     }))
 }
 
+#[tactic(auto, unfolding(crate::specs::Reading::read_of))]
+fn read(alloc: Global, bytes: &[u8]) -> Result<Datagram, Bad>
+    ensures { Gives result (read_of bytes.now) }
+{
+    let Some((fields, rest)) = RequestFields::split(bytes) else {
+        return Err(Bad::Short);
+    };
+    if !fields.is_in_range_of_read() {
+        return Err(Bad::Field);
+    }
+    let len = fields.op_len as usize;
+    let key = Key::new(alloc, within(rest, len, len)?)?;
+    Ok(Datagram::Read(Read {
+        client: fields.client,
+        id: fields.id,
+        key,
+    }))
+}
+
+#[tactic(auto, unfolding(crate::specs::Reading::answer_of))]
+fn answer(alloc: Global, bytes: &[u8]) -> Result<Datagram, Bad>
+    ensures { Gives result (answer_of bytes.now) }
+{
+    let Some((fields, rest)) = AnswerFields::split(bytes) else {
+        return Err(Bad::Short);
+    };
+    if !fields.is_in_range() {
+        return Err(Bad::Field);
+    }
+    let len = fields.result_len as usize;
+    let bytes = Bytes::new(alloc, within(rest, len, len)?)?;
+    Ok(Datagram::Answer(Answer {
+        observer: fields.observer,
+        position: fields.position,
+        client: fields.client,
+        id: fields.id,
+        result: bytes,
+    }))
+}
+
 fn body(alloc: Global, kind: u8, rest: &[u8]) -> Result<Datagram, Bad>
     ensures { Gives result (body_of kind rest.now) }
 {
@@ -179,6 +221,8 @@ fn body(alloc: Global, kind: u8, rest: &[u8]) -> Result<Datagram, Bad>
             })
         }
         kinds::FRAGMENT => fragment(alloc, rest),
+        kinds::READ => read(alloc, rest),
+        kinds::ANSWER => answer(alloc, rest),
         _ => Err(Bad::Kind),
     }
 }
@@ -202,7 +246,7 @@ fn datagram(alloc: Global, bytes: &[u8]) -> Result<Datagram, Bad>
 }
 
 /// The datagram that the bytes spell, or the first test that they fail. No more memory is taken than for the value's op,
-/// result or payload.
+/// key, result or payload.
 pub fn decode(alloc: Global, bytes: &[u8]) -> Result<Datagram, Bad>
     // What is read is spelled so.
     ensures found { IfOk result (λ d. Spells d bytes.now) }

@@ -3,10 +3,12 @@ ghost use Rattle.std.specs.Int.{w16, w32, w64};
 ghost use Rattle.nop_types.specs.Ranges.{DatagramFits, ReplyFits};
 ghost use Rattle.oum_codec.specs.Numbers.{be_bytes};
 ghost use Rattle.oum_codec.specs.Spelling.{view_bytes, counted_bytes, request_bytes, stamped_bytes, reply_bytes};
-ghost use Rattle.oum_codec.specs.Spelling.{install_bytes, ping_bytes, header, spelling};
+ghost use Rattle.oum_codec.specs.Spelling.{install_bytes, ping_bytes, read_bytes, answer_bytes, header, spelling};
 
 use nop_types::kinds::FRAGMENT_HEADER_BYTES;
-use nop_types::{Datagram, MAX_RESULT_BYTES, NoMemory, Reply, Request, Stamped, View, kinds};
+use nop_types::{
+    Answer, Datagram, MAX_RESULT_BYTES, NoMemory, Read, Reply, Request, Stamped, View, kinds,
+};
 use std::alloc::Global;
 
 /// Appends two bytes.
@@ -73,7 +75,7 @@ fn put_both(to: &mut Vec<u8>, prefix: &[u8], back: &[u8]) -> Result<(), NoMemory
     Ok(())
 }
 
-/// All of a request but its op: the client, the id and the length of the op.
+/// A client, an id and a length: all of a request but its op, of a read but its key, and the end of an answer but its result.
 #[tactic(auto, unfolding(crate::specs::Numbers::be_bytes))]
 fn request_header(client: u32, id: u64, op_len: u16) -> [u8; 14]
     ensures { result ≡ be_bytes w32 client ++ be_bytes w64 id ++ be_bytes w16 op_len }
@@ -267,6 +269,33 @@ pub fn put_fragment(
     )
 }
 
+fn put_read(to: &mut Vec<u8>, read: &Read) -> Result<(), NoMemory>
+    ensures { OnOk result (to.new.items ≡ to.old.items ++ (header 9 ++ read_bytes read.now)) }
+{
+    put_header(to, kinds::READ)?;
+    let key = read.key.as_slice();
+    put_both(
+        to,
+        &request_header(read.client, read.id, key.len() as u16),
+        key,
+    )
+}
+
+fn put_answer(to: &mut Vec<u8>, answer: &Answer) -> Result<(), NoMemory>
+    requires { length answer.now.result ≤ MAX_RESULT_BYTES }
+    ensures { OnOk result (to.new.items ≡ to.old.items ++ (header 10 ++ answer_bytes answer.now)) }
+{
+    put_header(to, kinds::ANSWER)?;
+    to.extend_from_slice(&[answer.observer])?;
+    put_u32(to, answer.position)?;
+    let result = answer.result.as_slice();
+    put_both(
+        to,
+        &request_header(answer.client, answer.id, result.len() as u16),
+        result,
+    )
+}
+
 fn put(to: &mut Vec<u8>, datagram: &Datagram) -> Result<(), NoMemory>
     requires { DatagramFits datagram.now }
     ensures { OnOk result (to.new.items ≡ to.old.items ++ spelling datagram.now) }
@@ -309,6 +338,8 @@ fn put(to: &mut Vec<u8>, datagram: &Datagram) -> Result<(), NoMemory>
             fragment.count,
             fragment.payload.as_slice(),
         ),
+        Datagram::Read(read) => put_read(to, read),
+        Datagram::Answer(answer) => put_answer(to, answer),
     }
 }
 
@@ -323,6 +354,8 @@ fn spelled_len(datagram: &Datagram) -> usize
         Datagram::Stamped(stamped) => 34 + stamped.request.op.as_slice().len(),
         Datagram::Reply(reply) => 36 + reply.result.as_slice().len(),
         Datagram::Fragment(fragment) => FRAGMENT_HEADER_BYTES + fragment.payload.as_slice().len(),
+        Datagram::Read(read) => 18 + read.key.as_slice().len(),
+        Datagram::Answer(answer) => 23 + answer.result.as_slice().len(),
         Datagram::Install { .. } | Datagram::Installed { .. } => 14,
         Datagram::Ping { .. } | Datagram::Pong { .. } => 10,
     }

@@ -23,6 +23,7 @@ pub fn same(a: Actor, b: Actor) -> bool
         (Actor::Sequencer(i), Actor::Sequencer(j)) => i == j,
         (Actor::Client(i), Actor::Client(j)) => i == j,
         (Actor::Controller(i), Actor::Controller(j)) => i == j,
+        (Actor::Observer(i), Actor::Observer(j)) => i == j,
         _ => false,
     }
 }

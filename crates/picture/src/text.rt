@@ -63,6 +63,7 @@ impl Text {
             Actor::Client(i) => self.numbered("c", u64::from(i)),
             Actor::Controller(0) => self.put("ctl"),
             Actor::Controller(i) => self.numbered("ctl", u64::from(i)),
+            Actor::Observer(i) => self.numbered("o", u64::from(i)),
         }
     }
 

@@ -127,6 +127,7 @@ fn put_datagram<T: OpText>(
         Datagram::Ping { round, .. } => put_slot("ping ", *round, to),
         Datagram::Pong { round, .. } => put_slot("pong ", *round, to),
         Datagram::Fragment(fragment) => put_fragment(fragment, peer, to),
+        _ => {}
     }
     Ok(())
 }

@@ -25,7 +25,7 @@ use Rattle.protocol.specs.Said.{SyncPrepare}
 -- ---- the actors, and what they say
 
 abbrev pub three : (sequencers clients : ℕ) → Configuration
-three s k = record { replicas = 3; sequencers = s; clients = k; controllers = 2 }
+three s k = record { replicas = 3; sequencers = s; clients = k; controllers = 2; observers = 0 }
 
 abbrev pub view : (leader session : ℕ) → View
 view l s = record { leader = l; session = s }

@@ -3,7 +3,7 @@ use Rattle.std.proofs.Common.{◌≡◌, ℕ, true, Some, refl, sym, ap, subst, 
 use Rattle.std.proofs.Common.{◌++◌, map}
 use Rattle.std.specs.Prelude.{◌^◌, ◌-◌, Result, Ok, not, filter, ◌==◌, nat_lt}
 use Rattle.std.proofs.lemmas.Bool.{and_parts}
-use Rattle.nop_types.specs.Given.{Given, Packet, Ticked, Submit}
+use Rattle.nop_types.specs.Given.{Given, Packet}
 use Rattle.nop_types.specs.Lines as lines
 use Rattle.nop_types.specs.Lists.{Has}
 use Rattle.nop_types.specs.Meaning.{Meaning}
@@ -171,8 +171,7 @@ module _ {S : Type 0} (m : Meaning S) (f : ℕ) (c : Conf) (k : ℕ) (inv : Inv 
 
   came_in : (i : Given) → MayCome c i → (p : Reply) → Has (reply_of i) p → Has c.replies p
   came_in (Packet bytes) came p h = reply_came (reading bytes) came p h
-  came_in (Ticked tick) came p h = absurd (Has-none p h)
-  came_in (Submit op) came p h = absurd (Has-none p h)
+  came_in _ came p h = absurd (Has-none p h)
 
 pub clients_reach : {S : Type 0} (m : Meaning S) → ClientsReach m
 clients_reach m f c k i inv came =

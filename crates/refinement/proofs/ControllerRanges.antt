@@ -3,7 +3,7 @@ use Rattle.std.proofs.Common.{◌≡◌, ℕ, ◌+◌, ◌^◌, ◌<◌, Bool, t
 use Rattle.std.specs.Prelude.{◌==◌, ◌&&◌, Result, Ok, cond, nat_lt, nat_le, max}
 use Rattle.std.proofs.lemmas.Bool.{ltb-true, leb-false}
 use Rattle.std.proofs.lemmas.Nat.{mod_below}
-use Rattle.nop_types.specs.Given.{Given, Packet, Ticked, Submit}
+use Rattle.nop_types.specs.Given.{Given, Packet, Ticked}
 use Rattle.nop_types.specs.Lists.{Has}
 use Rattle.nop_types.specs.Ranges.{InstallFits, DatagramFits}
 use Rattle.nop_types.specs.Sessions.{home}
@@ -113,7 +113,7 @@ next_within : (c : Conf) (s : ControllerState) (i : Given) → MayCome c i → I
 unfolding next
 next_within c s (Packet bytes) came w = datagram_within s (reading bytes) (λ d e. (came d e).fits) w
 next_within c s (Ticked tick) came w = tick_within s tick w
-next_within c s (Submit op) came w = w
+next_within c s _ came w = w
 
 -- a session that is given out is that of a controller in its ranges
 install_fits : (t : ControllerState) → IsWithin t → InstallFits (home t.session) t.current t.session

@@ -4,7 +4,7 @@ use Rattle.std.specs.Prelude.{List, [], ◌∷◌, ◌++◌, IsTrue, Result, Ok,
 use Rattle.std.proofs.lemmas.Bool.{eq-eqb, ne_eqb, cond-true, cond-false}
 use Rattle.std.proofs.lemmas.Bool.Decides.{nat_tests}
 use Rattle.nop_types.specs.Configuration.{Configuration, is_configuration}
-use Rattle.nop_types.specs.Given.{Given, Packet, Ticked, Submit}
+use Rattle.nop_types.specs.Given.{Given, Packet, Ticked}
 use Rattle.nop_types.specs.Lists.{Has}
 use Rattle.nop_types.specs.Meaning.{Meaning}
 use Rattle.nop_types.specs.Ranges.{PingFits}
@@ -223,7 +223,7 @@ module _ {S : Type 0} (m : Meaning S) (f : ℕ) (c : Conf) (s : ControllerState)
   unfolding next
   input_reaches (Packet bytes) = datagram_reaches (reading bytes)
   input_reaches (Ticked tick) = tick_reaches tick
-  input_reaches (Submit op) = still
+  input_reaches _ = still
 
 pub controllers_reach : {S : Type 0} (m : Meaning S) → ControllersReach m
 controllers_reach m f c s i inv shows within came = input_reaches m f c s inv shows within i

@@ -13,7 +13,7 @@ use Rattle.nop_types.specs.declared.datagram.Datagram.{Datagram}
 use Rattle.nop_types.specs.declared.datagram.Datagram.TheVariants as datagrams
 use Rattle.nop_types.specs.declared.output.Dest.{Dest}
 use Rattle.nop_types.specs.declared.output.Out.{Out}
-use Rattle.nop_types.specs.declared.output.Out.TheVariants.{Send, Submitted, Accepted, Busy, Trimmed}
+use Rattle.nop_types.specs.declared.output.Out.TheVariants.{Send, Submitted, Accepted}
 use Rattle.lemmas.proofs.Members.{Has-none, Has-one}
 use Rattle.oum_codec.specs.Spelling.{spelling}
 use Rattle.protocol.specs.Conf.{Conf, Install}
@@ -52,11 +52,9 @@ only_new c d outs requests stamps replies installs _ h = inl h
 
 pub says_none_first : (outs : List Out) → lines_in outs ≡ [] → SaysFirst outs
 says_none_first [] e = tt
-says_none_first (Send dest bytes ∷ outs) e = e
-says_none_first (Busy client ∷ outs) e = e
-says_none_first (Trimmed first entries ∷ outs) e = e
 says_none_first (Submitted r ∷ outs) e = absurd cc
 says_none_first (Accepted client id result ∷ outs) e = absurd cc
+says_none_first (_ ∷ outs) e = e
 
 pub says_none : (lines : List Line) (outs : List Out) → lines_in outs ≡ [] → lines ≡ lines ++ lines_in outs
 says_none lines outs e = sym (ap (λ (more : List Line). lines ++ more) e ∙ append-nil lines)

@@ -25,10 +25,8 @@ datagrams_fit c (datagrams.Reply p) fit whole sent = fit.replies p sent
 datagrams_fit c (datagrams.Install controller sequencer session) fit whole sent =
     subst (λ (n : ℕ). InstallFits n sequencer session) sent.own
     (fit.installs (record { sequencer = sequencer; session = session }) sent.given)
-datagrams_fit c (datagrams.Installed controller sequencer session) fit whole sent = sent
-datagrams_fit c (datagrams.Ping controller sequencer round) fit whole sent = sent
-datagrams_fit c (datagrams.Pong controller sequencer round) fit whole sent = sent
 datagrams_fit c (datagrams.Fragment p) fit whole sent = absurd whole
+datagrams_fit c _ fit whole sent = sent
 
 -- ---- replicas
 

@@ -3,7 +3,7 @@ use Rattle.std.proofs.Common.{◌≡◌, ℕ, Bool, true, false, Some, None, ref
 use Rattle.std.specs.Prelude.{Result, Ok, cond, nat_lt}
 use Rattle.std.proofs.lemmas.Bool.{and_parts, ltb-true}
 use Rattle.nop_types.specs.declared.limits.TheConstants.{NUMBER_END}
-use Rattle.nop_types.specs.Given.{Given, Packet, Ticked, Submit}
+use Rattle.nop_types.specs.Given.{Given, Packet}
 use Rattle.nop_types.specs.Lists.{Has}
 use Rattle.nop_types.specs.Meaning.{Meaning}
 use Rattle.nop_types.specs.Ranges.{RequestFits, StampedFits}
@@ -49,8 +49,7 @@ module _ {S : Type 0} (m : Meaning S) (f : ℕ) (c : Conf) (j : ℕ) (inv : Inv 
 
   stamps_fit : (i : Given) → MayCome c i → (p : Stamped) → Has (stamp_in s i) p → StampedFits p
   stamps_fit (Packet bytes) came p h = datagram_fits (reading bytes) came p h
-  stamps_fit (Ticked tick) came p h = absurd (Has-none p h)
-  stamps_fit (Submit op) came p h = absurd (Has-none p h)
+  stamps_fit _ came p h = absurd (Has-none p h)
 
 pub sequencers_stay_in_ranges : {S : Type 0} (m : Meaning S) → SequencersStayInRanges m
 sequencers_stay_in_ranges m f c j i inv all came = record {

@@ -2,7 +2,7 @@
 use Rattle.std.proofs.Common.{◌≡◌, ℕ, ◌≤◌, ◌+◌, Bool, true, false, cond, Some, None, refl, ap, subst, inl, inr, arith, List, [], ◌∷◌}
 use Rattle.std.specs.Prelude.{Result, Ok, ◌==◌, nat_lt}
 use Rattle.std.proofs.lemmas.Bool.{and_parts, eqb-true, ltb-true, ltb-false}
-use Rattle.nop_types.specs.Given.{Given, Packet, Ticked, Submit}
+use Rattle.nop_types.specs.Given.{Given, Packet}
 use Rattle.nop_types.specs.Lists.{Has}
 use Rattle.nop_types.specs.Meaning.{Meaning}
 use Rattle.nop_types.specs.Ranges.{SessionFits, InstallFits, PingFits}
@@ -164,8 +164,7 @@ module _ {S : Type 0} (m : Meaning S) (f : ℕ) (c : Conf) (j : ℕ) (inv : Inv 
   input_reaches : (i : Given) → MayCome c i → SequencerReaches m f c j (stamp_in s i) (next s i)
   unfolding next
   input_reaches (Packet bytes) came = datagram_reaches (reading bytes) came
-  input_reaches (Ticked tick) came = still
-  input_reaches (Submit op) came = still
+  input_reaches _ came = still
 
 pub sequencers_reach : {S : Type 0} (m : Meaning S) → SequencersReach m
 sequencers_reach m f c j i inv sessions came = input_reaches m f c j inv sessions i came

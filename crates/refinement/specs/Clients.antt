@@ -4,7 +4,7 @@ use Rattle.lemmas.specs.Functions.{put}
 use Rattle.nop_types.specs.Given.{Given}
 use Rattle.nop_types.specs.Meaning.{Meaning}
 use Rattle.nop_types.specs.declared.output.Out.{Out}
-use Rattle.nop_types.specs.declared.output.Out.TheVariants.{Send, Submitted, Accepted, Busy, Trimmed}
+use Rattle.nop_types.specs.declared.output.Out.TheVariants.{Submitted}
 use Rattle.nop_types.specs.declared.request.Request.{Request}
 use Rattle.client_quorum.specs.declared.state.ClientState.{ClientState}
 use Rattle.client_quorum.specs.ClientSteps.{next}
@@ -18,10 +18,7 @@ use Rattle.refinement.specs.Steps.{LeadsTo}
 abbrev pub requests_in : List Out → List Request
 requests_in [] = []
 requests_in (Submitted r ∷ outs) = r ∷ requests_in outs
-requests_in (Send dest bytes ∷ outs) = requests_in outs
-requests_in (Accepted client id result ∷ outs) = requests_in outs
-requests_in (Busy client ∷ outs) = requests_in outs
-requests_in (Trimmed first entries ∷ outs) = requests_in outs
+requests_in (_ ∷ outs) = requests_in outs
 
 -- the client k has this state, and these outputs are out; all else is as it was
 abbrev pub with_client : Conf → ℕ → ClientState × List Out → Conf

@@ -1,8 +1,8 @@
 -- Datagrams that pass between actors, and what they are in the protocol.
 use Rattle.std.specs.Prelude.{◌≡◌, ◌⊎◌, ⊤, ℕ, List, Ok}
-use Rattle.nop_types.specs.Given.{Given, Packet, Ticked, Submit}
+use Rattle.nop_types.specs.Given.{Given, Packet}
 use Rattle.nop_types.specs.Lists.{Has}
-use Rattle.nop_types.specs.Ranges.{DatagramFits, InstallFits, PingFits}
+use Rattle.nop_types.specs.Ranges.{DatagramFits, InstallFits, PingFits, ReadFits, AnswerFits}
 use Rattle.nop_types.specs.Sessions.{home}
 use Rattle.nop_types.specs.declared.datagram.Datagram.{Datagram}
 use Rattle.nop_types.specs.declared.datagram.Datagram.TheVariants as datagrams
@@ -18,8 +18,9 @@ pub record WasGivenOut (c : Conf) (controller sequencer session : ℕ) : Type 0 
   pub given : Has c.installs (record { sequencer = sequencer; session = session })
   pub own : home session ≡ controller
 
--- What the protocol knows of a datagram that was sent. It knows no pings and no answers to a controller, so of them it is known only
--- that they are in their ranges; and a fragment is a part of a message, of which it is said elsewhere that it was told.
+-- What the protocol knows of a datagram that was sent. It knows no pings, no answers to a controller and no reads with their
+-- answers, so of them it is known only that they are in their ranges; and a fragment is a part of a message, of which it is said
+-- elsewhere that it was told.
 abbrev pub WasSent : Conf → Datagram → Type 0
 WasSent c (datagrams.Request r) = Has c.requests r
 WasSent c (datagrams.Stamped p) = Has c.stamps p
@@ -29,6 +30,8 @@ WasSent c (datagrams.Installed controller sequencer session) = InstallFits contr
 WasSent c (datagrams.Ping controller sequencer round) = PingFits controller sequencer round
 WasSent c (datagrams.Pong controller sequencer round) = PingFits controller sequencer round
 WasSent c (datagrams.Fragment p) = ⊤
+WasSent c (datagrams.Read r) = ReadFits r
+WasSent c (datagrams.Answer a) = AnswerFits a
 
 -- a datagram that is no part of a message
 abbrev pub IsWhole : Datagram → Type 0
@@ -43,8 +46,7 @@ pub record Arrived (c : Conf) (d : Datagram) : Type 0 where
 -- an input that may come to a client, a sequencer or a controller
 abbrev pub MayCome : Conf → Given → Type 0
 MayCome c (Packet bytes) = (d : Datagram) → reading bytes ≡ Ok d → Arrived c d
-MayCome c (Ticked tick) = ⊤
-MayCome c (Submit op) = ⊤
+MayCome c _ = ⊤
 
 -- ---- what is sent
 

@@ -2,7 +2,7 @@
 use Rattle.std.specs.Prelude.{◌≤◌, ◌<◌, ◌^◌, ⊤, ℕ, List, length}
 use Rattle.std.specs.List.{AllByRecursion}
 use Rattle.nop_types.specs.declared.limits.TheConstants.{MAX_OP_BYTES}
-use Rattle.nop_types.specs.Given.{Given, Packet, Ticked, Submit}
+use Rattle.nop_types.specs.Given.{Given, Submit}
 use Rattle.nop_types.specs.Lists.{Has}
 use Rattle.nop_types.specs.Meaning.{Meaning}
 use Rattle.nop_types.specs.Ranges.{RequestFits, StampedFits, ReplyFits, InstallFits, DatagramFits}
@@ -48,8 +48,7 @@ pub record ClientFits (s : ClientState) : Type 0 where
 -- an op that is submitted, likewise
 abbrev pub GivenFits : Given → Type 0
 GivenFits (Submit op) = length op ≤ MAX_OP_BYTES
-GivenFits (Packet bytes) = ⊤
-GivenFits (Ticked tick) = ⊤
+GivenFits _ = ⊤
 
 abbrev pub ClientsStayInRanges : Type 0
 ClientsStayInRanges = (c : Conf) (k : ℕ) (i : Given) → AllFit c → ClientFits (c.clients k) → GivenFits i

@@ -7,7 +7,7 @@ use Rattle.std.specs.List.{AllByRecursion}
 use Rattle.std.proofs.lemmas.Bool.{ltb-true}
 use Rattle.std.proofs.lemmas.Nat.{mod_below}
 use Rattle.nop_types.specs.Configuration.{Configuration}
-use Rattle.nop_types.specs.Given.{Given, Packet, Ticked, Submit}
+use Rattle.nop_types.specs.Given.{Given, Packet, Ticked}
 use Rattle.nop_types.specs.Lines as lines
 use Rattle.nop_types.specs.Lines.{Line}
 use Rattle.nop_types.specs.Lists.{Has}
@@ -67,6 +67,7 @@ Goes c (One (actors.Replica i)) bytes = i < c.replicas
 Goes c (One (actors.Sequencer j)) bytes = j < c.sequencers
 Goes c (One (actors.Client k)) bytes = IsReplyTo k bytes
 Goes c (One (actors.Controller k)) bytes = k < c.controllers
+Goes c (One (actors.Observer i)) bytes = i < c.observers
 
 -- of these datagrams each Install and each Ping names a controller of the configuration
 pub record Names (c : Configuration) (Is : Datagram → Type 0) : Type 0 where
@@ -153,6 +154,10 @@ lines_are_of c from n (outs.Accepted client id result ∷ os) all =
     other_line c (lines.Accept client id result) (lines_from from n os) (λ r e. cc) (lines_are_of c from n os all.1)
 lines_are_of c from n (outs.Busy client ∷ os) all =
     other_line c (lines.Busy client) (lines_from from n os) (λ r e. cc) (lines_are_of c from n os all.1)
+lines_are_of c from n (outs.Reading client id observer key ∷ os) all =
+    other_line c (lines.Read client id observer key) (lines_from from n os) (λ r e. cc) (lines_are_of c from n os all.1)
+lines_are_of c from n (outs.Answered client id observer position result ∷ os) all =
+    other_line c (lines.Answer client id observer position result) (lines_from from n os) (λ r e. cc) (lines_are_of c from n os all.1)
 lines_are_of c from n (outs.Trimmed first entries ∷ os) all = lines_are_of c from n os all.1
 
 pub dead_is_of : (c : Configuration) (from : Actor) → SubmitsOf c (lines.Dead from ∷ [])
@@ -356,4 +361,4 @@ module _ (c : Configuration) where
   unfolding controller.next
   controller_directs s (Packet bytes) is = on_datagram_directs s (reading bytes) is
   controller_directs s (Ticked tick) is = on_tick_directs s tick is
-  controller_directs s (Submit op) is = quiet_directs s is
+  controller_directs s _ is = quiet_directs s is

@@ -92,6 +92,7 @@ module _ {S : Type 0} (m : Meaning S) where
   actor_grows w (Another k i) r h is =
       carried_grows w (actor_at (Another k i)) (at_other k w i) (λ p. refl)
       (step_at (next k) (slice_get (seats k w.others) i) r) h is
+  actor_grows w _ r h is = absurd cc
 
   step_grows : (w : WorldState) (e : Event) (h : Happened) → step m w e ≡ Ok h → length w.sent ≤ length h.world.sent
   unfolding step

@@ -306,6 +306,7 @@ module _ {S : Type 0} (m : Meaning S) (config : Configuration) (bounds : Bounds 
   actor_keeps (Another k i) r h brings e =
       let t = took (at_other k w i) (next k) (slice_get (seats k w.others) i) r h e in
       subst (Keeps config w) t.gives (other_keeps k i t.seat t.what t.there (brings t.what t.brought))
+  actor_keeps _ r h brings e = absurd cc
 
   step_keeps : (x : Event) (h : Happened) → step m w x ≡ Ok h → Keeps config w h
   unfolding step

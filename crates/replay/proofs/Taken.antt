@@ -54,10 +54,11 @@ IsSent sent _ = ⊤
 abbrev IsOneOf : Configuration → Who → Type 0
 IsOneOf c (AReplica i) = i < c.replicas
 IsOneOf c (Another k i) = i < count k c
+IsOneOf c _ = ⊥
 
-actor_there : (c : Configuration) (a : Actor) → IsActorOf c a → IsOneOf c (who a)
-actor_there c (actors.Replica i) h = h
-actor_there c _ h = h
+actor_there : (c : Configuration) → c.observers ≡ 0 → (a : Actor) → IsActorOf c a → IsOneOf c (who a)
+actor_there c none (actors.Observer i) h = absurd (omega (arith, h, none))
+actor_there c none _ h = h
 
 seat_taken : {S : Type 0} (act : Seated S × Did → Happened) (next : S → Given → S × List Out) (xs : List (Seated S)) (i : ℕ)
     (what : Stimulus) → i < length xs → IsTaken (then_at act (step_at next (slice_get xs i) (Ok what)))
@@ -65,15 +66,16 @@ seat_taken act next xs i what l =
     let p = slice_get-some xs i l in
     (_, ap (λ o. then_at act (step_at next o (Ok what))) p.1)
 
-module _ {S : Type 0} (m : Meaning S) (w : WorldState) (has : HasActors w) where
+module _ {S : Type 0} (m : Meaning S) (w : WorldState) (has : HasActors w) (none : w.config.observers ≡ 0) where
   seat_there : (x : Who) (what : Stimulus) → IsOneOf w.config x → IsTaken (step_of m w x (Ok what))
   seat_there (AReplica i) what h =
       seat_taken (at_replica w i) (replica.next m) w.replicas i what (omega (arith, h, has.replicas))
   seat_there (Another k i) what h =
       seat_taken (at_other k w i) (next k) (seats k w.others) i what (omega (arith, h, has.others k))
+  seat_there _ what h = absurd h
 
   actor_taken : (a : Actor) (what : Stimulus) → IsActorOf w.config a → IsTaken (step_of m w (who a) (Ok what))
-  actor_taken a what h = seat_there (who a) what (actor_there w.config a h)
+  actor_taken a what h = seat_there (who a) what (actor_there w.config none a h)
 
   brought : (a : Actor) (r : Result Stimulus Refusal) (what : Stimulus) → r ≡ Ok what → IsActorOf w.config a
       → IsTaken (step_of m w (who a) r)
@@ -229,7 +231,8 @@ module _ {S : Type 0} (m : Meaning S) (IsSound : S → Type 0) (keeps : KeepsTo 
       → IsTaken (step m w e)
   taken_there es w ls e led of sent =
       let r = reached es w ls led in
-      event_taken m w (has_actors _ r) e (subst (λ (k : Configuration). IsEventOf k e) (sym (config_is _ r)) of) sent
+      event_taken m w (has_actors _ r) (ap (λ (k : Configuration). k.observers) (config_is _ r)) e
+      (subst (λ (k : Configuration). IsEventOf k e) (sym (config_is _ r)) of) sent
 
   pub drawn_goes_on : (w : WorldState) (g : Lcg) → MayDraw m w → GoesOn m w (event_drawn w.sent g).0
   drawn_goes_on w g may =

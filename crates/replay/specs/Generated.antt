@@ -23,9 +23,9 @@ use Rattle.replay.specs.Drawing.{generator_of, event_drawn, get_of}
 
 -- ---- the events
 
--- five replicas, two sequencers, four clients and one controller
+-- five replicas, two sequencers, four clients, one controller and no observers
 abbrev pub drawn_config : Configuration
-drawn_config = record { replicas = 5; sequencers = 2; clients = 4; controllers = 1 }
+drawn_config = record { replicas = 5; sequencers = 2; clients = 4; controllers = 1; observers = 0 }
 
 -- client 0 gets the key `a`
 abbrev pub first_event : Event

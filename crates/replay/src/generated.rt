@@ -34,7 +34,7 @@ const _: () = prove!(MAX_DRAWN_EVENTS == 100_000);
 fn drawn_config() -> Config
     ensures { result ≡ drawn_config }
 {
-    match Config::new(5, 2, 4, 1) {
+    match Config::new(5, 2, 4, 1, 0) {
         Some(config) => config,
         None => unreachable!(),
     }

@@ -3,7 +3,7 @@ use Rattle.std.proofs.Common.{◌≡◌, ℕ, ◌<◌, ◌≤◌, ◌+◌, ◌-�
 use Rattle.std.specs.Prelude.{nat_lt, nat_le, ◌==◌, ◌&&◌}
 use Rattle.std.proofs.lemmas.Bool.{ltb-true}
 use Rattle.std.proofs.lemmas.Bool.Decides.{nat_tests}
-use Rattle.nop_types.specs.Given.{Packet, Submit}
+use Rattle.nop_types.specs.Given.{Packet, Submit, Read}
 use Rattle.nop_types.specs.Logs.{Log, Trimmed, length_of}
 use Rattle.nop_types.specs.Meaning.{Meaning}
 use Rattle.nop_types.specs.declared.datagram.Fragment.{Fragment}
@@ -62,6 +62,10 @@ ignores_packet m s bytes = record {
 pub ignores_op : {S : Type 0} (m : Meaning S) (s : Replica) (op : List ℕ) → IsIgnored m s (Submit op)
 unfolding next
 ignores_op m s op = refl
+
+pub ignores_read : {S : Type 0} (m : Meaning S) (s : Replica) (observer : ℕ) (key : List ℕ) → IsIgnored m s (Read observer key)
+unfolding next
+ignores_read m s observer key = refl
 
 -- ---- whole messages
 

@@ -4,7 +4,7 @@ use Rattle.std.specs.Prelude.{ℕ, ◌+◌, List, [], ◌∷◌, Bool, true, fal
 use Rattle.nop_types.specs.Configuration.{Configuration}
 use Rattle.nop_types.specs.Logs.{Trimmed}
 use Rattle.nop_types.specs.Meaning.{Meaning}
-use Rattle.nop_types.specs.Given.{Given, Packet, Ticked, Submit}
+use Rattle.nop_types.specs.Given.{Given, Packet, Ticked}
 use Rattle.nop_types.specs.declared.input.Tick.{Tick}
 use Rattle.nop_types.specs.declared.input.Tick.TheVariants as ticks
 use Rattle.nop_types.specs.declared.datagram.Fragment.{Fragment}
@@ -88,4 +88,4 @@ on_datagram m s _ = (s, [])
 unfoldable pub next : {S : Type 0} → Meaning S → Replica → Given → Replica × List Out
 next m s (Packet bytes) = on_datagram m s (reading bytes)
 next m s (Ticked tick) = row m s (messages.Ticked tick)
-next m s (Submit op) = (s, [])
+next m s _ = (s, [])

@@ -1,5 +1,5 @@
 ghost use Rattle.std.specs.Prelude.{◌≡◌, ◌≤◌, ◌<◌, ◌+◌, ◌-◌, ℕ, List, [], false};
-ghost use Rattle.nop_types.specs.Given.{Submit};
+ghost use Rattle.nop_types.specs.Given.{Submit, Read};
 ghost use Rattle.nop_types.specs.Logs.{Log, Trimmed, length_of};
 ghost use Rattle.nop_types.specs.Meaning.{Meaning};
 ghost use Rattle.nop_types.specs.Ranges.{PeerFits};
@@ -24,11 +24,13 @@ pub fn messages_are_cut()
 {}
 
 /// What is not for a replica changes nothing and sends nothing: bytes that spell no datagram, a datagram for others, a fragment of
-/// its own number or of none of the group, and an op. So does a message of no other replica, and one that is taken only in its
+/// its own number or of none of the group, an op and a read. So does a message of no other replica, and one that is taken only in its
 /// view in Normal, where that is another view or status.
 pub fn ignores_what_is_for_others<S>()
     ensures packets { (m : Meaning S) (s : Replica) (bytes : List ℕ) → IgnoresPacket m s bytes }
     ensures ops { (m : Meaning S) (s : Replica) (op : List ℕ) → IsIgnored m s (Submit op) }
+    ensures reads { (m : Meaning S) (s : Replica) (observer : ℕ) (key : List ℕ) →
+        IsIgnored m s (Read observer key) }
     ensures messages { (m : Meaning S) (s : ReplicaState) (p : Peer) → IgnoresMessage m s p }
 {}
 

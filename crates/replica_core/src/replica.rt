@@ -179,9 +179,9 @@ impl<H: Host> ReplicaParts<H> {
         ensures err { OnErr result (out.new ≡ out.old) }
     {
         let bytes = match input {
-            Input::Tick(tick) => return self.row(Arrival::Ticked(tick), out),
-            Input::Submit(_) => return Ok(()),
             Input::Packet(bytes) => bytes,
+            Input::Tick(tick) => return self.row(Arrival::Ticked(tick), out),
+            _ => return Ok(()),
         };
         match read_datagram(self.member.alloc, bytes)? {
             Some(Datagram::Stamped(packet)) => self.row(Arrival::Stamped(packet), out),

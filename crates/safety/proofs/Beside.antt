@@ -9,7 +9,7 @@ use Rattle.nop_types.specs.declared.peer.Peer.{Peer}
 use Rattle.peer_codec.specs.Reading as peers
 use Rattle.replica_core.specs.ReplicaSteps.{Replica}
 use Rattle.network.specs.Network.{Sent}
-use Rattle.world.specs.Others.{Who, AReplica, Another}
+use Rattle.world.specs.Others.{Who, AReplica}
 use Rattle.world.specs.Seats.{Seated}
 use Rattle.world.specs.WorldSteps.{WorldState}
 use Rattle.network_laws.specs.Steps.{InNetwork}
@@ -20,7 +20,7 @@ use Rattle.safety.specs.Following.{spoken, other_datagrams, plain, trimmed_seat,
 
 abbrev pub is_replica : Who → Bool
 is_replica (AReplica i) = true
-is_replica (Another k i) = false
+is_replica _ = false
 
 -- ---- letters
 

@@ -72,6 +72,7 @@ module _ {S : Type 0} (m : Meaning S) (t : WorldState) (h : Happened) where
   actor_sends (Another k i) r other e =
       seat_others (next k) (other_sends k) (actor_at (Another k i)) t (at_other k t i) (slice_get (seats k t.others) i) r h
       (λ x. (refl, (refl, refl))) e
+  actor_sends _ r other e = absurd cc
 
   pub others_send : (e : Event) → is_replica (who (actor_of e)) ≡ false → step m t e ≡ Ok h → SentOthers t h
   unfolding step

@@ -209,6 +209,7 @@ module _ {S : Type 0} (m : Meaning S) (t : WorldState) (ls : List Line) (w : Who
       subst (λ (o : Others). After h (step_other k w i (slice_get (seats k o) i) (brought t e))) f.others
       (other_step k i (slice_get (seats k t.others) i) (stimulus_of t.config t.sent e) (brought t e) h
       (event_meets (next k) (other_ignores k) t w.sent f.sent e (ap is_replica is)) at)
+  by_actor e _ is other h at = absurd cc
 
 -- what comes to an actor that is no replica
 pub others_follow : {S : Type 0} (m : Meaning S) (t : WorldState) (ls : List Line) (w : WholeWorld) (e : Event) (h : Happened)

@@ -243,13 +243,7 @@ module _ {S : Type 0} (m : Meaning S) where
             → Does s (replica.on_datagram m s x) (real_effect s (option_map (trimmed_arrival m) (arrival_read x)))
         by (Ok (datagrams.Stamped p)) d = row_does s s.reassembly (messages.Packet p)
         by (Ok (datagrams.Fragment f)) d = absurd cc
-        by (Ok (datagrams.Request q)) d = rests s s refl refl
-        by (Ok (datagrams.Reply q)) d = rests s s refl refl
-        by (Ok (datagrams.Install k j n)) d = rests s s refl refl
-        by (Ok (datagrams.Installed k j n)) d = rests s s refl refl
-        by (Ok (datagrams.Ping k j n)) d = rests s s refl refl
-        by (Ok (datagrams.Pong k j n)) d = rests s s refl refl
-        by (Err bad) d = rests s s refl refl
+        by _ d = rests s s refl refl
 
 -- what a row sends is in its ranges, under the replica's own number, and finds message numbers
 pub record RowFits {S : Type 0} (m : Meaning S) (i : ℕ) (s : Replica) (e : Effect) : Type 0 where

@@ -1,7 +1,7 @@
 -- What an actor that is no replica sends is no fragment, and its lines are those of which the whole world speaks.
 use Rattle.std.proofs.Common.{◌≡◌, ℕ, ◌+◌, Bool, true, false, cond, List, [], ◌∷◌, Option, Some, None, map, refl, ap}
 use Rattle.std.specs.Prelude.{Result, Ok, Err, not, filter, ⊤}
-use Rattle.nop_types.specs.Given.{Given, Packet, Ticked, Submit}
+use Rattle.nop_types.specs.Given.{Given, Packet, Ticked}
 use Rattle.nop_types.specs.Lines.{Line}
 use Rattle.nop_types.specs.Lines as lines
 use Rattle.nop_types.specs.declared.datagram.Datagram.{Datagram}
@@ -135,7 +135,7 @@ lines_spoken from n (outs.Submitted r ∷ rest) = ap (λ (l : List Line). lines.
 lines_spoken from n (outs.Accepted client id result ∷ rest) =
     ap (λ (l : List Line). lines.Accept client id result ∷ l) (lines_spoken from n rest)
 lines_spoken from n (outs.Busy client ∷ rest) = ap (λ (l : List Line). lines.Busy client ∷ l) (lines_spoken from n rest)
-lines_spoken from n (outs.Trimmed first entries ∷ rest) = lines_spoken from n rest
+lines_spoken from n (_ ∷ rest) = lines_spoken from n rest
 
 -- ---- clients
 
@@ -219,7 +219,7 @@ controller_sends : (s : ControllerState) (i : Given) → AreOther (controller.ne
 unfolding controller.next
 controller_sends s (Packet bytes) = controller_reads s (reading bytes)
 controller_sends s (Ticked tick) = controller_ticks s tick
-controller_sends s (Submit op) = tt
+controller_sends s _ = tt
 
 -- ---- each kind of them
 

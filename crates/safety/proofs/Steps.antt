@@ -206,10 +206,11 @@ module _ {S : Type 0} (m : Meaning S) (w : WholeWorld) (b : Brings) where
   pub others_write : (x : Who) → is_replica x ≡ false → (whole.step_of m w x b).letters ≡ w.letters
   others_write (AReplica i) other = absurd cc
   others_write (Another k i) other = other_writes k i (slice_get (seats k w.others) i)
+  others_write _ other = refl
 
   pub others_keep : (archive : List Entry) (x : Who) → is_replica x ≡ false → archive_of m archive w x b ≡ archive
   others_keep archive (AReplica i) other = absurd cc
-  others_keep archive (Another k i) other = refl
+  others_keep archive _ other = refl
 
 -- each event is followed, where what the whole world sends for it is in its ranges
 pub event_follows : {S : Type 0} (m : Meaning S) (IsSound : S → Type 0) → KeepsTo m IsSound → (t : WorldState) (ls : List Line)

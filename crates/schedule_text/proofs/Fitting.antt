@@ -152,10 +152,10 @@ made_fits made h false gives is e = absurd cc
 
 -- a header that can have these counts, whichever they are
 header_fits : (form : ℕ) (n s k j : Option ℕ) (h : Header)
-    → ((n s k i : ℕ) → j ≡ Some i → gives form (record { replicas = n; sequencers = s; clients = k; controllers = i }) ≡ true)
+    → ((n s k i : ℕ) → j ≡ Some i → gives form (record { replicas = n; sequencers = s; clients = k; controllers = i; observers = 0 }) ≡ true)
     → header_with form n s k j ≡ Ok h → is_header h ≡ true
 header_fits form (Some n) (Some s) (Some k) (Some j) h can e =
-    let config : Configuration = record { replicas = n; sequencers = s; clients = k; controllers = j } in
+    let config : Configuration = record { replicas = n; sequencers = s; clients = k; controllers = j; observers = 0 } in
     made_fits (record { form = form; config = config }) h (is_configuration config) (can n s k j refl) refl e
 header_fits form None s k j h can e = absurd cc
 header_fits form (Some n) None k j h can e = absurd cc

@@ -16,7 +16,7 @@ use Rattle.nop_types.specs.Configuration.{Configuration}
 use Rattle.nop_types.specs.declared.input.Tick.{Tick}
 use Rattle.nop_types.specs.declared.input.Tick.TheVariants.{Suspect, Watch, Resend, Sync, Retry, Probe}
 use Rattle.nop_types.specs.declared.output.Actor.{Actor}
-use Rattle.nop_types.specs.declared.output.Actor.TheVariants.{Replica, Sequencer, Client, Controller}
+use Rattle.nop_types.specs.declared.output.Actor.TheVariants.{Replica, Sequencer, Client, Controller, Observer}
 use Rattle.line_fields.specs.Fields.{fields, fields_on, is_text, digit_on, number_on, number_of, below, number_below, numbered}
 use Rattle.line_fields.specs.Fields.{lettered, by_letter, from_one, by_number, actor_of, client_number, sequencer_number}
 use Rattle.line_fields.specs.Fields.{controller_number, as_option, bytes_of}
@@ -109,7 +109,7 @@ was_from_one (Some n) a e = (n, refl)
 
 lettered_plain : (c : Configuration) (letter : ℕ) (digits : List ℕ) (a : Actor) → lettered c letter digits ≡ Some a
     → IsPlain (letter ∷ digits)
-lettered_plain c letter digits a h = by_tests (letter == 114) (letter == 115) (letter == 99) refl refl refl h
+lettered_plain c letter digits a h = by_tests (letter == 114) (letter == 115) (letter == 99) (letter == 111) refl refl refl refl h
   where
     named : (limit : ℕ) (actor : ℕ → Actor) (l : ℕ) → letter ≡ l → is_plain l ≡ true
         → numbered actor (number_below limit digits) ≡ Some a → IsPlain (letter ∷ digits)
@@ -117,14 +117,16 @@ lettered_plain c letter digits a h = by_tests (letter == 114) (letter == 115) (l
         let m = was_below limit (number_of digits) actor a e in
         plain_first letter digits (rw is plain) (number_plain digits m.0 m.1)
 
-    by_tests : (r s k : Bool) → (letter == 114) ≡ r → (letter == 115) ≡ s → (letter == 99) ≡ k
+    by_tests : (r s k o : Bool) → (letter == 114) ≡ r → (letter == 115) ≡ s → (letter == 99) ≡ k → (letter == 111) ≡ o
         → (if r then numbered Replica (number_below c.replicas digits)
         else if s then numbered Sequencer (number_below c.sequencers digits)
-        else if k then numbered Client (number_below c.clients digits) else None) ≡ Some a → IsPlain (letter ∷ digits)
-    by_tests true s k p q t e = named c.replicas Replica 114 (eqb-true letter 114 p) refl e
-    by_tests false true k p q t e = named c.sequencers Sequencer 115 (eqb-true letter 115 q) refl e
-    by_tests false false true p q t e = named c.clients Client 99 (eqb-true letter 99 t) refl e
-    by_tests false false false p q t e = absurd cc
+        else if k then numbered Client (number_below c.clients digits)
+        else if o then numbered Observer (number_below c.observers digits) else None) ≡ Some a → IsPlain (letter ∷ digits)
+    by_tests true s k o p q t u e = named c.replicas Replica 114 (eqb-true letter 114 p) refl e
+    by_tests false true k o p q t u e = named c.sequencers Sequencer 115 (eqb-true letter 115 q) refl e
+    by_tests false false true o p q t u e = named c.clients Client 99 (eqb-true letter 99 t) refl e
+    by_tests false false false true p q t u e = named c.observers Observer 111 (eqb-true letter 111 u) refl e
+    by_tests false false false false p q t u e = absurd cc
 
 actor_plain : (c : Configuration) (field : List ℕ) (a : Actor) → actor_of c field ≡ Some a → IsPlain field
 unfolding actor_of

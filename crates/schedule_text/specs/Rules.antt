@@ -158,10 +158,10 @@ event_of_fields c (word ∷ rest) =
 abbrev pub count_of : List ℕ → Option ℕ
 count_of field = number_below 256 field
 
--- a header of this form with these counts
+-- a header of this form with these counts: no form has observers
 abbrev pub header_with : ℕ → Option ℕ → Option ℕ → Option ℕ → Option ℕ → Result Header Rule
 header_with form (Some n) (Some s) (Some c) (Some k) =
-    let made : Configuration = record { replicas = n; sequencers = s; clients = c; controllers = k } in
+    let made : Configuration = record { replicas = n; sequencers = s; clients = c; controllers = k; observers = 0 } in
     if is_configuration made then Ok (record { form = form; config = made }) else Err WrongField
 header_with form _ _ _ _ = Err WrongField
 

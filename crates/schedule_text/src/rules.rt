@@ -63,7 +63,7 @@ fn header_with(
     ensures { result ≡ header_with form n s c k }
 {
     match (n, s, c, k) {
-        (Some(n), Some(s), Some(c), Some(k)) => match Config::new(n, s, c, k) {
+        (Some(n), Some(s), Some(c), Some(k)) => match Config::new(n, s, c, k, 0) {
             Some(config) => Ok(Header { form, config }),
             None => Err(Rule::WrongField),
         },

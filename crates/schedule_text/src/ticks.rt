@@ -43,8 +43,8 @@ pub fn takes_tick(actor: Actor, tick: Tick) -> bool
                 Tick::Suspect | Tick::Watch | Tick::Resend | Tick::Sync
             )
         }
-        Actor::Sequencer(_) => false,
         Actor::Client(_) => matches!(tick, Tick::Retry),
         Actor::Controller(_) => matches!(tick, Tick::Probe | Tick::Resend),
+        _ => false,
     }
 }

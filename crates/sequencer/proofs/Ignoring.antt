@@ -1,6 +1,6 @@
 -- What is not for a sequencer changes nothing.
 use Rattle.std.proofs.Common.{◌≡◌, ℕ, List, [], refl, Bool, true, false, Result, Ok, Err}
-use Rattle.nop_types.specs.Given.{Packet, Ticked, Submit}
+use Rattle.nop_types.specs.Given.{Packet, Ticked, Submit, Read}
 use Rattle.nop_types.specs.declared.input.Tick.{Tick}
 use Rattle.nop_types.specs.declared.output.Out.{Out}
 use Rattle.nop_types.specs.declared.request.Request.{Request}
@@ -51,3 +51,7 @@ ignores_tick s tick = refl
 pub ignores_op : (s : SequencerState) (op : List ℕ) → IsIgnored s (Submit op)
 unfolding next
 ignores_op s op = refl
+
+pub ignores_read : (s : SequencerState) (observer : ℕ) (key : List ℕ) → IsIgnored s (Read observer key)
+unfolding next
+ignores_read s observer key = refl

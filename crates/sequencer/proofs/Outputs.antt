@@ -1,10 +1,10 @@
 -- What is sent to the replicas are the stamped packets.
 use Rattle.std.proofs.Common.{◌≡◌, ℕ, List, [], ◌∷◌, ◌++◌, map, refl, ap, sym, ◌∙◌, Option, Some, None, Bool, true, false, Result, Ok}
 use Rattle.std.proofs.lemmas.List.{map-append}
-use Rattle.nop_types.specs.Given.{Given, Packet, Ticked, Submit}
+use Rattle.nop_types.specs.Given.{Given, Packet}
 use Rattle.nop_types.specs.declared.output.Out.{Out}
 use Rattle.nop_types.specs.declared.output.Out.TheVariants as outs
-use Rattle.nop_types.specs.declared.output.Dest.TheVariants.{Replicas, Sequencers, One}
+use Rattle.nop_types.specs.declared.output.Dest.TheVariants.{Replicas}
 use Rattle.nop_types.specs.declared.datagram.Stamped.{Stamped}
 use Rattle.nop_types.specs.declared.datagram.Datagram.{Datagram}
 use Rattle.nop_types.specs.declared.datagram.Datagram.TheVariants as datagrams
@@ -17,12 +17,7 @@ use Rattle.sequencer.specs.Runs.{run, one_or_none, stamp_at, stamp_in, Step, sta
 to_replicas_append : (xs ys : List Out) → to_replicas (xs ++ ys) ≡ to_replicas xs ++ to_replicas ys
 to_replicas_append [] ys = refl
 to_replicas_append (outs.Send Replicas bytes ∷ xs) ys = ap (λ l. bytes ∷ l) (to_replicas_append xs ys)
-to_replicas_append (outs.Send Sequencers bytes ∷ xs) ys = to_replicas_append xs ys
-to_replicas_append (outs.Send (One actor) bytes ∷ xs) ys = to_replicas_append xs ys
-to_replicas_append (outs.Submitted r ∷ xs) ys = to_replicas_append xs ys
-to_replicas_append (outs.Accepted client id result ∷ xs) ys = to_replicas_append xs ys
-to_replicas_append (outs.Busy client ∷ xs) ys = to_replicas_append xs ys
-to_replicas_append (outs.Trimmed first entries ∷ xs) ys = to_replicas_append xs ys
+to_replicas_append (_ ∷ xs) ys = to_replicas_append xs ys
 
 packet_sent : (p : Option Stamped) → to_replicas (send_packet p) ≡ map spelled (one_or_none p)
 packet_sent None = refl
@@ -45,8 +40,7 @@ sent_at s _ = refl
 sent_in : (s : SequencerState) (i : Given) → to_replicas (next s i).1 ≡ map spelled (stamp_in s i)
 unfolding next
 sent_in s (Packet bytes) = sent_at s (reading bytes)
-sent_in s (Ticked tick) = refl
-sent_in s (Submit op) = refl
+sent_in s _ = refl
 
 pub outputs_are_stamps : (s : SequencerState) (inputs : List Given)
     → to_replicas (run s inputs).1 ≡ map spelled (stamps s (map Step inputs))

@@ -3,7 +3,7 @@ use Rattle.std.proofs.Common.{◌≡◌, ◌≤◌, ◌+◌, ℕ, zero, suc, Lis
 use Rattle.std.proofs.Common.{cond, Result, Ok, arith}
 use Rattle.std.specs.Prelude.{slice_get, nat_lt, ◌==◌}
 use Rattle.std.proofs.lemmas.Option.{none-some, same_Some}
-use Rattle.nop_types.specs.Given.{Given, Packet, Ticked, Submit}
+use Rattle.nop_types.specs.Given.{Given, Packet}
 use Rattle.nop_types.specs.declared.request.Request.{Request}
 use Rattle.nop_types.specs.declared.datagram.Stamped.{Stamped}
 use Rattle.nop_types.specs.declared.datagram.Datagram.{Datagram}
@@ -59,8 +59,7 @@ rest_ahead s _ ps rest j p e = rest j p e
 input_ahead : (s : SequencerState) (i : Given) (ps : List Stamped) → AreAhead (next s i).0 ps → AreAhead s (stamp_in s i ++ ps)
 unfolding next
 input_ahead s (Packet bytes) ps rest j p e = rest_ahead s (reading bytes) ps rest j p e
-input_ahead s (Ticked tick) ps rest j p e = rest j p e
-input_ahead s (Submit op) ps rest j p e = rest j p e
+input_ahead s _ ps rest j p e = rest j p e
 
 call_ahead : (s : SequencerState) (c : Call) (ps : List Stamped) → AreAhead (after_call s c) ps → AreAhead s (stamp_by s c ++ ps)
 call_ahead s (Step input) ps rest = input_ahead s input ps rest
@@ -103,8 +102,7 @@ rest_once s _ ps ahead once = once
 input_once : (s : SequencerState) (i : Given) (ps : List Stamped) → AreAhead (next s i).0 ps → AreOnce ps → AreOnce (stamp_in s i ++ ps)
 unfolding next
 input_once s (Packet bytes) ps ahead once = rest_once s (reading bytes) ps ahead once
-input_once s (Ticked tick) ps ahead once = once
-input_once s (Submit op) ps ahead once = once
+input_once s _ ps ahead once = once
 
 call_once : (s : SequencerState) (c : Call) (ps : List Stamped) → AreAhead (after_call s c) ps → AreOnce ps → AreOnce (stamp_by s c ++ ps)
 call_once s (Step input) ps ahead once = input_once s input ps ahead once

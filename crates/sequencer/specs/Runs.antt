@@ -1,9 +1,9 @@
 -- Runs of inputs, and what is stamped in them.
 use Rattle.std.specs.Prelude.{ℕ, List, [], ◌∷◌, ◌++◌, Option, Some, None, Result, Ok}
-use Rattle.nop_types.specs.Given.{Given, Packet, Ticked, Submit}
+use Rattle.nop_types.specs.Given.{Given, Packet}
 use Rattle.nop_types.specs.declared.output.Out.{Out}
 use Rattle.nop_types.specs.declared.output.Out.TheVariants as outs
-use Rattle.nop_types.specs.declared.output.Dest.TheVariants.{Replicas, Sequencers, One}
+use Rattle.nop_types.specs.declared.output.Dest.TheVariants.{Replicas}
 use Rattle.nop_types.specs.declared.request.Request.{Request}
 use Rattle.nop_types.specs.declared.datagram.Stamped.{Stamped}
 use Rattle.nop_types.specs.declared.datagram.Datagram.{Datagram}
@@ -30,8 +30,7 @@ stamp_at s _ = []
 -- the packet that an input is stamped as, if it is a request
 abbrev pub stamp_in : SequencerState → Given → List Stamped
 stamp_in s (Packet bytes) = stamp_at s (reading bytes)
-stamp_in s (Ticked tick) = []
-stamp_in s (Submit op) = []
+stamp_in s _ = []
 
 -- what is asked of a sequencer: a step, or a call of `stamp`
 pub data Call : Type 0 where
@@ -58,9 +57,4 @@ spelled p = spelling (datagrams.Stamped p)
 abbrev pub to_replicas : List Out → List (List ℕ)
 to_replicas [] = []
 to_replicas (outs.Send Replicas bytes ∷ os) = bytes ∷ to_replicas os
-to_replicas (outs.Send Sequencers bytes ∷ os) = to_replicas os
-to_replicas (outs.Send (One actor) bytes ∷ os) = to_replicas os
-to_replicas (outs.Submitted r ∷ os) = to_replicas os
-to_replicas (outs.Accepted client id result ∷ os) = to_replicas os
-to_replicas (outs.Busy client ∷ os) = to_replicas os
-to_replicas (outs.Trimmed first entries ∷ os) = to_replicas os
+to_replicas (_ ∷ os) = to_replicas os

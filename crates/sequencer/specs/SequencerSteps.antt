@@ -1,28 +1,8 @@
 -- The step table of the sequencer.
-use Rattle.std.specs.Prelude.{
-  ℕ,
-  ◌+◌,
-  ◌^◌,
-  ◌<◌,
-  ◌≤◌,
-  List,
-  [],
-  ◌∷◌,
-  Bool,
-  true,
-  false,
-  cond,
-  Option,
-  Some,
-  None,
-  Result,
-  Ok,
-  Err,
-  nat_lt,
-}
+use Rattle.std.specs.Prelude.{ℕ, ◌+◌, ◌^◌, ◌<◌, ◌≤◌, List, [], ◌∷◌, Bool, true, false, cond, Option, Some, None, Result, Ok, nat_lt}
 use Rattle.std.specs.Prelude.{◌==◌, ◌&&◌, if◌then◌else◌}
 use Rattle.nop_types.specs.declared.limits.TheConstants.{NUMBER_END, MAX_SEQUENCERS}
-use Rattle.nop_types.specs.Given.{Given, Packet, Ticked, Submit}
+use Rattle.nop_types.specs.Given.{Given, Packet}
 use Rattle.nop_types.specs.declared.output.Out.{Out}
 use Rattle.nop_types.specs.declared.output.Out.TheVariants.{Send}
 use Rattle.nop_types.specs.declared.output.Dest.TheVariants.{Replicas, One}
@@ -111,5 +91,4 @@ on_datagram s _ = (s, [])
 
 unfoldable pub next : SequencerState → Given → SequencerState × List Out
 next s (Packet bytes) = on_datagram s (reading bytes)
-next s (Ticked tick) = (s, [])
-next s (Submit op) = (s, [])
+next s _ = (s, [])

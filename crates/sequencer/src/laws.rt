@@ -1,5 +1,5 @@
 ghost use Rattle.std.specs.Prelude.{◌≡◌, List, ℕ, Some, map, slice_get};
-ghost use Rattle.nop_types.specs.Given.{Given, Ticked, Submit};
+ghost use Rattle.nop_types.specs.Given.{Given, Ticked, Submit, Read};
 ghost use Rattle.nop_types.specs.declared.input.Tick.{Tick};
 ghost use Rattle.nop_types.specs.declared.datagram.Stamped.{Stamped};
 ghost use Rattle.sequencer.specs.declared.state.SequencerState.{SequencerState};
@@ -19,10 +19,12 @@ pub fn stamps_once()
         p.session ≡ q.session → p.number ≡ q.number → i ≡ j }
 {}
 
-/// What is not for a sequencer changes nothing and sends nothing: bytes that spell no datagram, a datagram for others, a tick and an
-/// op. So it is with a request where there is no session or no number is left.
+/// What is not for a sequencer changes nothing and sends nothing: bytes that spell no datagram, a datagram for others, a tick, an op
+/// and a read. So it is with a request where there is no session or no number is left.
 pub fn ignores_what_is_for_others()
     ensures packets { (s : SequencerState) (bytes : List ℕ) → IgnoresPacket s bytes }
     ensures ticks { (s : SequencerState) (tick : Tick) → IsIgnored s (Ticked tick) }
     ensures ops { (s : SequencerState) (op : List ℕ) → IsIgnored s (Submit op) }
+    ensures reads { (s : SequencerState) (observer : ℕ) (key : List ℕ) →
+        IsIgnored s (Read observer key) }
 {}

@@ -3,7 +3,7 @@ use Rattle.std.proofs.Common.{◌≡◌, ◌+◌, ◌^◌, ◌≤◌, ◌<◌, �
 use Rattle.std.proofs.Common.{arith}
 use Rattle.std.specs.Prelude.{◌&&◌, ◌||◌, nat_lt, max}
 use Rattle.std.proofs.lemmas.Bool.Decides.{nat_tests}
-use Rattle.nop_types.specs.Given.{Packet, Ticked, Submit}
+use Rattle.nop_types.specs.Given.{Packet, Ticked, Submit, Read}
 use Rattle.nop_types.specs.Sessions.{epoch, count}
 use Rattle.nop_types.specs.declared.limits.TheConstants.{EPOCH_STEP}
 use Rattle.nop_types.specs.declared.input.Tick.{Tick}
@@ -76,6 +76,10 @@ ignores_tick s tick e = tick_rests s tick e
 pub ignores_op : (s : ControllerState) (op : List ℕ) → IsIgnored s (Submit op)
 unfolding next
 ignores_op s op = refl
+
+pub ignores_read : (s : ControllerState) (observer : ℕ) (key : List ℕ) → IsIgnored s (Read observer key)
+unfolding next
+ignores_read s observer key = refl
 
 not_moved : (s : ControllerState) (j : ℕ) (x : Option ℕ) → x ≡ None → Rests s (move_by x s j)
 not_moved s j None e = refl

@@ -4,7 +4,7 @@ use Rattle.std.proofs.Common.{Bool, true, false, Result, Ok, IsTrue, arith}
 use Rattle.std.specs.Prelude.{◌==◌, nat_lt, nat_le}
 use Rattle.std.proofs.lemmas.Option.{none-some}
 use Rattle.std.proofs.lemmas.Grind.{common_steps}
-use Rattle.nop_types.specs.Given.{Given, Packet, Ticked, Submit}
+use Rattle.nop_types.specs.Given.{Given, Packet, Ticked}
 use Rattle.nop_types.specs.Lists.{Has}
 use Rattle.nop_types.specs.Configuration.{Configuration, is_configuration}
 use Rattle.nop_types.specs.Ranges.{DatagramFits, SessionFits}
@@ -202,7 +202,7 @@ row : (s : ControllerState) (i : Given) → Stands s → IsRow (next s i)
 unfolding next
 row s (Packet bytes) w = datagram_row s (reading bytes) w
 row s (Ticked tick) w = tick_row s tick w
-row s (Submit op) w = quiet s w
+row s _ w = quiet s w
 
 -- ---- runs
 

@@ -4,7 +4,7 @@ use Rattle.std.proofs.Common.{Bool, true, false, cond, Result, Ok, arith}
 use Rattle.std.specs.Prelude.{◌==◌, slice_get, nat_lt, nat_le}
 use Rattle.std.proofs.lemmas.Option.{none-some, same_Some}
 use Rattle.nop_types.specs.Configuration.{Configuration}
-use Rattle.nop_types.specs.Given.{Given, Packet, Ticked, Submit}
+use Rattle.nop_types.specs.Given.{Given, Packet, Ticked}
 use Rattle.nop_types.specs.Lists.{Has}
 use Rattle.nop_types.specs.Sessions.{home}
 use Rattle.nop_types.specs.declared.limits.TheConstants.{MAX_CONTROLLERS}
@@ -115,7 +115,7 @@ pub goes_on : (s : ControllerState) (i : Given) → GoesOn s (next s i).0
 unfolding next
 goes_on s (Packet bytes) = on_read s (reading bytes)
 goes_on s (Ticked tick) = ticked_on s tick
-goes_on s (Submit op) = same s
+goes_on s _ = same s
 
 -- ---- the sessions of the moves rise
 

@@ -5,7 +5,7 @@ use Rattle.nop_types.specs.Configuration.{Configuration, is_configuration}
 use Rattle.nop_types.specs.Ranges.{SessionFits}
 use Rattle.nop_types.specs.Sessions.{epoch, count, session_of, home, opening_session}
 use Rattle.nop_types.specs.declared.limits.TheConstants.{MAX_CONTROLLERS, EPOCH_STEP}
-use Rattle.nop_types.specs.Given.{Given, Packet, Ticked, Submit}
+use Rattle.nop_types.specs.Given.{Given, Packet, Ticked}
 use Rattle.nop_types.specs.declared.input.Tick.{Tick}
 use Rattle.nop_types.specs.declared.input.Tick.TheVariants as ticks
 use Rattle.nop_types.specs.declared.output.Out.{Out}
@@ -176,4 +176,4 @@ on_datagram s _ = (s, [])
 unfoldable pub next : ControllerState → Given → ControllerState × List Out
 next s (Packet bytes) = on_datagram s (reading bytes)
 next s (Ticked tick) = on_tick s tick
-next s (Submit op) = (s, [])
+next s _ = (s, [])

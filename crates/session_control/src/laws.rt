@@ -1,5 +1,5 @@
 ghost use Rattle.std.specs.Prelude.{◌≡◌, ◌≢◌, ◌<◌, ◌≤◌, ◌+◌, ◌^◌, ◌%◌, ◌++◌, ◌∷◌, [], List, ℕ, Some, Ok, IsTrue, false, slice_get};
-ghost use Rattle.nop_types.specs.Given.{Given, Ticked, Submit};
+ghost use Rattle.nop_types.specs.Given.{Given, Ticked, Submit, Read};
 ghost use Rattle.nop_types.specs.declared.input.Tick.{Tick};
 ghost use Rattle.nop_types.specs.Lists.{Has};
 ghost use Rattle.nop_types.specs.Configuration.{Configuration, is_configuration};
@@ -73,12 +73,14 @@ pub fn installs_are_of_last_move()
 {}
 
 /// What is not for the controller changes nothing and sends nothing: bytes that spell no datagram, a datagram for others or of an
-/// earlier probe or session, a tick that is for others or orders a move to no sequencer, and an op.
+/// earlier probe or session, a tick that is for others or orders a move to no sequencer, an op and a read.
 pub fn ignores_what_is_for_others()
     ensures packets { (s : ControllerState) (bytes : List ℕ) → IgnoresPacket s bytes }
     ensures ticks { (s : ControllerState) (tick : Tick) → is_tick_for s tick ≡ false →
         IsIgnored s (Ticked tick) }
     ensures ops { (s : ControllerState) (op : List ℕ) → IsIgnored s (Submit op) }
+    ensures reads { (s : ControllerState) (observer : ℕ) (key : List ℕ) →
+        IsIgnored s (Read observer key) }
 {}
 
 /// Where the next epoch would not fit 32 bits, no move is made: be it the next one above a session that was seen, or above the last

@@ -178,8 +178,8 @@ pub fn act(
 {
     let bytes = match input {
         Input::Tick(tick) => return on_tick(alloc, state, tick, out),
-        Input::Submit(_) => return Ok(()),
         Input::Packet(bytes) => bytes,
+        _ => return Ok(()),
     };
     match read_datagram(alloc, bytes)? {
         Some(

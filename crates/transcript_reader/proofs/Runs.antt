@@ -11,7 +11,7 @@ use Rattle.transcript_reader.specs.Transcripts.{Transcript, TranscriptFits, is_e
 use Rattle.transcript_reader.specs.declared.part.Part.{Part}
 use Rattle.transcript_reader.specs.declared.part.Part.TheVariants.{Events, States, Members, Over}
 use Rattle.transcript_rows.specs.declared.row.Row.{Row}
-use Rattle.transcript_rows.specs.declared.row.Row.TheVariants.{Dead, Submit, Accept, Busy, Sent, State, Slot, Member, End}
+use Rattle.transcript_rows.specs.declared.row.Row.TheVariants.{Dead, Submit, Accept, Busy, Read, Answer, Sent, State, Slot, Member, End}
 
 -- a run over some rows goes on with others
 pub then_run : (xs ys : List Row) (o p : Option SoFar) (line next : ℕ) → next ≡ length xs + line → run_on o line xs ≡ p
@@ -31,6 +31,8 @@ event_taken (Dead actor) e line claims places history = refl
 event_taken (Submit request) e line claims places history = refl
 event_taken (Accept client id result) e line claims places history = refl
 event_taken (Busy client) e line claims places history = refl
+event_taken (Read client id observer key) e line claims places history = refl
+event_taken (Answer client id observer position result) e line claims places history = refl
 event_taken (Sent index from dest kind len) e line claims places history = refl
 event_taken _ e line claims places history = absurd (false≢true e)
 

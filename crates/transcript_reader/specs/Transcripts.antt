@@ -8,7 +8,7 @@ use Rattle.nop_types.specs.Lines as lines
 use Rattle.nop_types.specs.declared.request.Request.{Request}
 use Rattle.transcript_reader.specs.declared.limits.TheConstants.{MAX_TRANSCRIPT_LINES}
 use Rattle.transcript_rows.specs.declared.row.Row.{Row}
-use Rattle.transcript_rows.specs.declared.row.Row.TheVariants.{Dead, Submit, Accept, Busy, Sent, State, Slot, Member, End}
+use Rattle.transcript_rows.specs.declared.row.Row.TheVariants.{Dead, Submit, Accept, Busy, Read, Answer, Sent, State, Slot, Member, End}
 use Rattle.transcript_rows.specs.Rows.{RowFits, row_text}
 use Rattle.transcript_text.specs.Transcript.{transcript_line}
 
@@ -24,6 +24,8 @@ is_event (Dead actor) = true
 is_event (Submit request) = true
 is_event (Accept client id result) = true
 is_event (Busy client) = true
+is_event (Read client id observer key) = true
+is_event (Answer client id observer position result) = true
 is_event (Sent index from dest kind len) = true
 is_event _ = false
 

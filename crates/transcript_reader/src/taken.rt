@@ -113,6 +113,8 @@ impl Taken {
         match row {
             Row::Dead(_) => Ok(self.take_event()),
             Row::Busy(_) => Ok(self.take_event()),
+            Row::Read { .. } => Ok(self.take_event()),
+            Row::Answer { .. } => Ok(self.take_event()),
             Row::Sent { .. } => Ok(self.take_event()),
             Row::Submit(request) => self.take_claim(line, Claim::Submitted(request)),
             Row::Accept { client, id, result } => {

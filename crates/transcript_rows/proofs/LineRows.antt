@@ -10,16 +10,18 @@ use Rattle.nop_types.specs.declared.view.View.{View}
 use Rattle.transcript_rows.specs.Rows.{row_text}
 use Rattle.transcript_rows.specs.LineRows.{row_of}
 use Rattle.transcript_rows.specs.declared.row.Row.TheVariants.{State, Slot, Member, End}
-use Rattle.transcript_text.proofs.LineLemmas.{send_fields, replica_fields}
-use Rattle.transcript_text.specs.Transcript.{line_text, dead_line, submit_line, accept_line, busy_line, replica_line, entry_line, history_line, end_line}
+use Rattle.transcript_text.proofs.LineLemmas.{send_fields, answer_fields, replica_fields}
+use Rattle.transcript_text.specs.Transcript.{line_text, dead_line, submit_line, accept_line, busy_line, read_line, replica_line, entry_line, history_line, end_line}
 use Rattle.transcript_text.specs.Transcript.{client_text, hex_text, line_end, pair_text, space}
 
 pub line_as_row : (line : Line) → row_text (row_of line) ≡ line_text line
-unfolding row_text dead_line submit_line accept_line busy_line
+unfolding row_text dead_line submit_line accept_line busy_line read_line
 line_as_row (lines.Dead actor) = simp append_assoc
 line_as_row (lines.Submit request) = simp append_assoc
 line_as_row (lines.Accept client id result) = simp append_assoc
 line_as_row (lines.Busy client) = simp append_assoc
+line_as_row (lines.Read client id observer key) = simp append_assoc
+line_as_row (lines.Answer client id observer position result) = answer_fields client id observer position result
 line_as_row (lines.Send index from dest datagram) = send_fields index from dest datagram
 
 pub state_as_row : (number : ℕ) (crashed : Bool) (status : Phase) (view : View) (len sync_point : ℕ)

@@ -8,7 +8,7 @@ use Rattle.std.proofs.lemmas.List.Folds.{list_all-append}
 use Rattle.line_fields.proofs.FieldTexts.{is_mark, and_true, AllMarked, actor_short, decimal_short, hex_within, small_counts}
 use Rattle.nop_types.specs.Headers.{is_header}
 use Rattle.nop_types.specs.declared.header.Header.{Header}
-use Rattle.nop_types.specs.declared.limits.TheConstants.{MAX_LINE_BYTES, MAX_CLIENTS, MAX_OP_BYTES, MAX_RESULT_BYTES}
+use Rattle.nop_types.specs.declared.limits.TheConstants.{MAX_LINE_BYTES, MAX_CLIENTS, MAX_KEY_BYTES, MAX_OP_BYTES, MAX_RESULT_BYTES}
 use Rattle.nop_types.specs.declared.output.Actor.{Actor}
 use Rattle.nop_types.specs.declared.output.Actor.TheVariants as actors
 use Rattle.nop_types.specs.declared.output.Dest.{Dest}
@@ -18,13 +18,13 @@ use Rattle.nop_types.specs.declared.replica_state.Phase.TheVariants.{Normal, Cha
 use Rattle.nop_types.specs.declared.request.Entry.{Entry}
 use Rattle.nop_types.specs.declared.request.Entry.TheVariants.{NoOp, Req}
 use Rattle.nop_types.specs.declared.request.Request.{Request}
-use Rattle.transcript_rows.proofs.RowTexts.{small, actor_there, kind_read, sent_parts, state_named, slot_parts, word_marked, fields_marked}
+use Rattle.transcript_rows.proofs.RowTexts.{small, actor_there, kind_read, read_parts, answer_parts, sent_parts, state_named, slot_parts, word_marked, fields_marked}
 use Rattle.transcript_rows.proofs.RowTexts.{header_fields, header_marked, last_fields, small_form, counted, spelled, spelled_header}
 use Rattle.transcript_rows.specs.Reading.{limits}
 use Rattle.transcript_rows.specs.Rows.{row_word, row_fields, actor_fits, dest_fits, pair_fits, request_fits, entry_fits, row_fits}
 use Rattle.transcript_rows.specs.Rows.{request_fields, entry_fields, IsTypedRequest, IsTypedEntry, IsTyped, RowFits}
 use Rattle.transcript_rows.specs.declared.row.Row.{Row}
-use Rattle.transcript_rows.specs.declared.row.Row.TheVariants.{Dead, Submit, Accept, Busy, Sent, State, Slot, Member, End}
+use Rattle.transcript_rows.specs.declared.row.Row.TheVariants.{Dead, Submit, Accept, Busy, Read, Answer, Sent, State, Slot, Member, End}
 use Rattle.transcript_text.specs.LineText.{after_space}
 use Rattle.transcript_text.specs.Transcript.{actor_text, dest_text, hex_text, kind_text, phase_text, up_text}
 
@@ -106,6 +106,27 @@ fields_width (Accept client id result) e typed =
     let w = (pair_width client id result q.0 typed.0 (omega arith)).within in record { within = omega arith }
 fields_width (Busy client) e typed =
     one_more (actor_text (actors.Client client)) [] 21 0 1400 (name_short (actors.Client client) e) no_field (omega arith)
+fields_width (Read client id observer key) e typed =
+    let p = read_parts client id observer e in
+    let short = hex_within key MAX_KEY_BYTES (omega arith) typed.most in
+    one_more (actor_text (actors.Client client)) (decimal id ∷ actor_text (actors.Observer observer) ∷ hex_text key ∷ []) 21 172 1400
+    (name_short (actors.Client client) p.named)
+    (one_more (decimal id) (actor_text (actors.Observer observer) ∷ hex_text key ∷ []) 20 151 172 (decimal_short id typed.id_fits)
+    (one_more (actor_text (actors.Observer observer)) (hex_text key ∷ []) 21 129 151 (name_short (actors.Observer observer) p.there)
+    (one_more (hex_text key) [] 128 0 129 short no_field (omega arith)) (omega arith)) (omega arith)) (omega arith)
+fields_width (Answer client id observer position result) e typed =
+    let p = answer_parts client id observer result e in
+    let low = typed.position_fits in
+    let short = hex_within result MAX_RESULT_BYTES (omega arith) p.short in
+    one_more (actor_text (actors.Client client))
+    (decimal id ∷ actor_text (actors.Observer observer) ∷ decimal position ∷ hex_text result ∷ []) 21 579 1400
+    (name_short (actors.Client client) p.named)
+    (one_more (decimal id) (actor_text (actors.Observer observer) ∷ decimal position ∷ hex_text result ∷ []) 20 558 579
+    (decimal_short id typed.id_fits)
+    (one_more (actor_text (actors.Observer observer)) (decimal position ∷ hex_text result ∷ []) 21 536 558
+    (name_short (actors.Observer observer) p.there)
+    (one_more (decimal position) (hex_text result ∷ []) 20 515 536 (decimal_short position (omega arith))
+    (one_more (hex_text result) [] 514 0 515 short no_field (omega arith)) (omega arith)) (omega arith)) (omega arith)) (omega arith)
 fields_width (Sent index from dest kind len) e typed =
     let p = sent_parts from dest kind len e in
     let short = p.len_fits in

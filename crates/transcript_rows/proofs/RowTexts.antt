@@ -12,7 +12,7 @@ use Rattle.line_fields.proofs.FieldTexts.{is_mark, decimal_marked, number_again,
 use Rattle.line_fields.proofs.FieldTexts.{hex_marked, hex_within, AllMarked, line_fields, actor_marked}
 use Rattle.line_fields.proofs.FieldTexts.{starts_with_digit}
 use Rattle.nop_types.specs.declared.limits.TheConstants.{MAX_CLIENTS, MAX_CONTROLLERS, MAX_OP_BYTES, MAX_REPLICAS, MAX_RESULT_BYTES}
-use Rattle.nop_types.specs.declared.limits.TheConstants.{MAX_SEQUENCERS}
+use Rattle.nop_types.specs.declared.limits.TheConstants.{MAX_SEQUENCERS, MAX_KEY_BYTES, MAX_OBSERVERS}
 use Rattle.nop_types.specs.declared.output.Actor.{Actor}
 use Rattle.nop_types.specs.declared.output.Actor.TheVariants as actors
 use Rattle.nop_types.specs.declared.output.Dest.{Dest}
@@ -23,10 +23,10 @@ use Rattle.nop_types.specs.declared.request.Entry.TheVariants.{NoOp, Req}
 use Rattle.nop_types.specs.declared.replica_state.Phase.{Phase}
 use Rattle.nop_types.specs.declared.replica_state.Phase.TheVariants.{Normal, Change}
 use Rattle.transcript_rows.specs.declared.row.Row.{Row}
-use Rattle.transcript_rows.specs.declared.row.Row.TheVariants.{Dead, Submit, Accept, Busy, Sent, State, Slot, Member, End}
+use Rattle.transcript_rows.specs.declared.row.Row.TheVariants.{Dead, Submit, Accept, Busy, Read, Answer, Sent, State, Slot, Member, End}
 use Rattle.transcript_rows.specs.declared.row.TheConstants.{MAX_SENT_BYTES}
-use Rattle.transcript_rows.specs.Reading.{limits, client_of, replica_of, replica_number, word_of, to_one, dest_of, kind_of, crashed_of}
-use Rattle.transcript_rows.specs.Reading.{status_of, op_of, request_of, row_of_fields, controllers_of, header_with, header_of_fields}
+use Rattle.transcript_rows.specs.Reading.{limits, client_of, replica_of, replica_number, observer_of, observer_number, word_of, to_one, dest_of, kind_of, crashed_of}
+use Rattle.transcript_rows.specs.Reading.{status_of, op_of, as_key, key_of, request_of, row_of_fields, controllers_of, header_with, header_of_fields}
 use Rattle.transcript_rows.specs.Reading.{IsRowOf, IsHeaderOf, ◌>>=◌}
 use Rattle.transcript_rows.specs.Rows.{row_word, row_fields, row_text, row_fits, actor_fits, dest_fits, pair_fits, request_fits}
 use Rattle.transcript_rows.specs.Rows.{entry_fits, request_fields, entry_fields, IsTypedRequest, IsTypedEntry, IsTyped, RowFits}
@@ -41,13 +41,14 @@ use Rattle.line_fields.proofs.FieldTexts.{small_counts}
 -- ---- actors
 
 pub small : Small limits
-small = record { replicas = omega arith; sequencers = omega arith; clients = omega arith; controllers = omega arith }
+small = record { replicas = omega arith; sequencers = omega arith; clients = omega arith; controllers = omega arith; observers = omega arith }
 
 pub actor_there : (a : Actor) → actor_fits a ≡ true → IsActorOf limits a
 actor_there (actors.Replica i) e = ltb-true i MAX_REPLICAS e
 actor_there (actors.Sequencer i) e = ltb-true i MAX_SEQUENCERS e
 actor_there (actors.Client i) e = ltb-true i MAX_CLIENTS e
 actor_there (actors.Controller i) e = ltb-true i MAX_CONTROLLERS e
+actor_there (actors.Observer i) e = ltb-true i MAX_OBSERVERS e
 
 actor_read : (a : Actor) → actor_fits a ≡ true → actor_of limits (actor_text a) ≡ Some a
 actor_read a e = actor_again limits small a (actor_there a e)
@@ -57,6 +58,9 @@ client_read i e = ap client_number (actor_read (actors.Client i) e)
 
 replica_read : (i : ℕ) → nat_lt i MAX_REPLICAS ≡ true → replica_of (actor_text (actors.Replica i)) ≡ Some i
 replica_read i e = ap replica_number (actor_read (actors.Replica i) e)
+
+observer_read : (i : ℕ) → nat_lt i MAX_OBSERVERS ≡ true → observer_of (actor_text (actors.Observer i)) ≡ Some i
+observer_read i e = ap observer_number (actor_read (actors.Observer i) e)
 
 name_marked : (a : Actor) → actor_fits a ≡ true → list_all is_mark (actor_text a) ≡ true
 name_marked a e = actor_marked limits small a (actor_there a e)
@@ -76,6 +80,7 @@ one_read (actors.Sequencer i) e =
     rw (no_star i (let low = ltb-true i MAX_SEQUENCERS e in omega arith)) (ap to_one (actor_read (actors.Sequencer i) e))
 one_read (actors.Client i) e = ap to_one (actor_read (actors.Client i) e)
 one_read (actors.Controller i) e = ap to_one (actor_read (actors.Controller i) e)
+one_read (actors.Observer i) e = ap to_one (actor_read (actors.Observer i) e)
 
 dest_read : (d : Dest) → dest_fits d ≡ true → dest_of (dest_text d) ≡ Some d
 unfolding dest_of
@@ -95,7 +100,7 @@ pub record IsKindRead (k : ℕ) : Type 0 where
   pub marked : list_all is_mark (kind_text k) ≡ true
   pub short : length (kind_text k) ≤ 9
 
-pub kind_read : (k : ℕ) → 1 ≤ k → k ≤ 8 → IsKindRead k
+pub kind_read : (k : ℕ) → 1 ≤ k → k ≤ 10 → IsKindRead k
 unfolding kind_of kind_text
 kind_read zero low high = absurd (omega arith)
 kind_read (suc zero) low high = record { read = refl; marked = refl; short = omega arith }
@@ -106,7 +111,9 @@ kind_read (suc (suc (suc (suc (suc zero))))) low high = record { read = refl; ma
 kind_read (suc (suc (suc (suc (suc (suc zero)))))) low high = record { read = refl; marked = refl; short = omega arith }
 kind_read (suc (suc (suc (suc (suc (suc (suc zero))))))) low high = record { read = refl; marked = refl; short = omega arith }
 kind_read (suc (suc (suc (suc (suc (suc (suc (suc zero)))))))) low high = record { read = refl; marked = refl; short = omega arith }
-kind_read (suc (suc (suc (suc (suc (suc (suc (suc (suc k))))))))) low high = absurd (omega arith)
+kind_read (suc (suc (suc (suc (suc (suc (suc (suc (suc zero))))))))) low high = record { read = refl; marked = refl; short = omega arith }
+kind_read (suc (suc (suc (suc (suc (suc (suc (suc (suc (suc zero)))))))))) low high = record { read = refl; marked = refl; short = omega arith }
+kind_read (suc (suc (suc (suc (suc (suc (suc (suc (suc (suc (suc k))))))))))) low high = absurd (omega arith)
 
 -- ---- words and numbers
 
@@ -146,6 +153,41 @@ request_marked r e typed =
     let p = and_parts (nat_lt r.client MAX_CLIENTS) (nat_le 1 r.id) e in
     (name_marked (actors.Client r.client) p.0, (decimal_marked r.id typed.id, (hex_marked r.op typed.bytes, tt)))
 
+-- ---- reads and answers
+
+key_read : (key : List ℕ) → 1 ≤ length key → length key ≤ MAX_KEY_BYTES → IsBytes key → key_of (hex_text key) ≡ Some key
+key_read key some most bytes =
+    ap (λ (o : Option (List ℕ)). o >>= as_key) (bytes_again key bytes)
+    ∙ rw (le-leb 1 (length key) some, le-leb (length key) MAX_KEY_BYTES most) refl
+
+-- what the ranges of a read's line are, one by one
+pub record ReadParts (client observer : ℕ) : Type 0 where
+  pub named : nat_lt client MAX_CLIENTS ≡ true
+  pub there : nat_lt observer MAX_OBSERVERS ≡ true
+
+pub read_parts : (client id observer : ℕ) → (pair_fits client id && nat_lt observer MAX_OBSERVERS) ≡ true → ReadParts client observer
+read_parts client id observer e =
+    let p = and_parts (pair_fits client id) (nat_lt observer MAX_OBSERVERS) e in
+    record { named = (and_parts (nat_lt client MAX_CLIENTS) (nat_le 1 id) p.0).0; there = p.1 }
+
+-- and those of an answer's line
+pub record AnswerParts (client observer : ℕ) (result : List ℕ) : Type 0 where
+  pub named : nat_lt client MAX_CLIENTS ≡ true
+  pub there : nat_lt observer MAX_OBSERVERS ≡ true
+  pub short : length result ≤ MAX_RESULT_BYTES
+
+pub answer_parts : (client id observer : ℕ) (result : List ℕ)
+    → (pair_fits client id && (nat_lt observer MAX_OBSERVERS && nat_le (length result) MAX_RESULT_BYTES)) ≡ true
+    → AnswerParts client observer result
+answer_parts client id observer result e =
+    let p = and_parts (pair_fits client id) (nat_lt observer MAX_OBSERVERS && nat_le (length result) MAX_RESULT_BYTES) e in
+    let q = and_parts (nat_lt observer MAX_OBSERVERS) (nat_le (length result) MAX_RESULT_BYTES) p.1 in
+    record {
+      named = (and_parts (nat_lt client MAX_CLIENTS) (nat_le 1 id) p.0).0;
+      there = q.0;
+      short = leb-true (length result) MAX_RESULT_BYTES q.1;
+    }
+
 -- ---- rows
 
 pub word_marked : (row : Row) → list_all is_mark (row_word row) ≡ true
@@ -157,22 +199,22 @@ pub record SentParts (from : Actor) (dest : Dest) (kind len : ℕ) : Type 0 wher
   pub from_fits : actor_fits from ≡ true
   pub to_fits : dest_fits dest ≡ true
   pub low : 1 ≤ kind
-  pub high : kind ≤ 8
+  pub high : kind ≤ 10
   pub len_fits : len ≤ 1417
 
 pub sent_parts : (from : Actor) (dest : Dest) (kind len : ℕ)
-    → (actor_fits from && (dest_fits dest && (nat_le 1 kind && (nat_le kind 8 && nat_le len MAX_SENT_BYTES)))) ≡ true
+    → (actor_fits from && (dest_fits dest && (nat_le 1 kind && (nat_le kind 10 && nat_le len MAX_SENT_BYTES)))) ≡ true
     → SentParts from dest kind len
 sent_parts from dest kind len e =
-    let a = and_parts (actor_fits from) (dest_fits dest && (nat_le 1 kind && (nat_le kind 8 && nat_le len MAX_SENT_BYTES))) e in
-    let b = and_parts (dest_fits dest) (nat_le 1 kind && (nat_le kind 8 && nat_le len MAX_SENT_BYTES)) a.1 in
-    let d = and_parts (nat_le 1 kind) (nat_le kind 8 && nat_le len MAX_SENT_BYTES) b.1 in
-    let g = and_parts (nat_le kind 8) (nat_le len MAX_SENT_BYTES) d.1 in
+    let a = and_parts (actor_fits from) (dest_fits dest && (nat_le 1 kind && (nat_le kind 10 && nat_le len MAX_SENT_BYTES))) e in
+    let b = and_parts (dest_fits dest) (nat_le 1 kind && (nat_le kind 10 && nat_le len MAX_SENT_BYTES)) a.1 in
+    let d = and_parts (nat_le 1 kind) (nat_le kind 10 && nat_le len MAX_SENT_BYTES) b.1 in
+    let g = and_parts (nat_le kind 10) (nat_le len MAX_SENT_BYTES) d.1 in
     record {
       from_fits = a.0;
       to_fits = b.0;
       low = leb-true 1 kind d.0;
-      high = leb-true kind 8 g.0;
+      high = leb-true kind 10 g.0;
       len_fits = leb-true len MAX_SENT_BYTES g.1;
     }
 
@@ -207,6 +249,14 @@ row_read (Accept client id result) e typed =
     let q = and_parts (nat_lt client MAX_CLIENTS) (nat_le 1 id) p.0 in
     rw (client_read client q.0) (rw (number_again id typed.0) (rw (bytes_again result typed.1) refl))
 row_read (Busy client) e typed = rw (client_read client e) refl
+row_read (Read client id observer key) e typed =
+    let p = read_parts client id observer e in
+    rw (client_read client p.named, number_again id typed.id_fits, observer_read observer p.there)
+    (rw (key_read key typed.some typed.most typed.bytes) refl)
+row_read (Answer client id observer position result) e typed =
+    let p = answer_parts client id observer result e in
+    rw (client_read client p.named, number_again id typed.id_fits, observer_read observer p.there)
+    (rw (word_read position typed.position_fits) (rw (bytes_again result typed.bytes) refl))
 row_read (Sent index from dest kind len) e typed =
     let p = sent_parts from dest kind len e in
     let short = p.len_fits in
@@ -237,6 +287,23 @@ fields_marked (Accept client id result) e typed =
     let q = and_parts (nat_lt client MAX_CLIENTS) (nat_le 1 id) p.0 in
     (name_marked (actors.Client client) q.0, (decimal_marked id typed.0, (hex_marked result typed.1, tt)))
 fields_marked (Busy client) e typed = (name_marked (actors.Client client) e, tt)
+fields_marked (Read client id observer key) e typed =
+    let p = read_parts client id observer e in (
+      name_marked (actors.Client client) p.named,
+      (decimal_marked id typed.id_fits, (name_marked (actors.Observer observer) p.there, (hex_marked key typed.bytes, tt))),
+    )
+fields_marked (Answer client id observer position result) e typed =
+    let p = answer_parts client id observer result e in
+    let low = typed.position_fits in (
+      name_marked (actors.Client client) p.named,
+      (
+        decimal_marked id typed.id_fits,
+        (
+          name_marked (actors.Observer observer) p.there,
+          (decimal_marked position (omega arith), (hex_marked result typed.bytes, tt)),
+        ),
+      ),
+    )
 fields_marked (Sent index from dest kind len) e typed =
     let p = sent_parts from dest kind len e in
     let short = p.len_fits in (
@@ -324,9 +391,15 @@ spelled_header h = codes "transcript" ++ flat_map after_space (header_fields h)
 abbrev pub Forms : Header → Type 0
 Forms h = (h.form ≡ 2) ⊎ ((h.form ≡ 1) × (h.config.controllers ≡ 1))
 
-pub forms : (h : Header) → is_header h ≡ true → Forms h
-forms h e = by_tests (h.form == 2) (h.form == 1) (h.config.controllers == 1) refl refl refl
+-- the tests of a form: no observers, and these counts
+pub forms_pass : (h : Header) → is_header h ≡ true
+    → (h.config.observers == 0 ≡ true) × (((h.form == 2) || ((h.form == 1) && (h.config.controllers == 1))) ≡ true)
+forms_pass h e =
+    and_parts (h.config.observers == 0) ((h.form == 2) || ((h.form == 1) && (h.config.controllers == 1)))
     (and_parts (gives h.form h.config) (is_configuration h.config) e).0
+
+pub forms : (h : Header) → is_header h ≡ true → Forms h
+forms h e = by_tests (h.form == 2) (h.form == 1) (h.config.controllers == 1) refl refl refl (forms_pass h e).1
   where
     by_tests : (a b d : Bool) → h.form == 2 ≡ a → h.form == 1 ≡ b → h.config.controllers == 1 ≡ d → (a || (b && d)) ≡ true → Forms h
     by_tests true b d p q r e = inl (eqb-true h.form 2 p)
@@ -346,29 +419,48 @@ whole_header h e = by_form h.form h.config (forms h e)
     by_form form c (inl two) = rw two (sym (second_form 2 c (λ same. omega (arith, same))))
     by_form form c (inr one) = rw one.0 (sym (first_form c))
 
-made_again : (form : ℕ) (c : Configuration) → is_configuration c ≡ true
+found_again : (form : ℕ) (made c : Configuration) → made ≡ c → is_configuration c ≡ true
+    → (if◌then◌else◌ {A = Option Header} (is_configuration made) (Some (record { form = form; config = made })) None)
+    ≡ Some (record { form = form; config = c })
+found_again form made c same e = rw same (rw e refl)
+
+-- no header has observers
+made_with : (form : ℕ) (c : Configuration) → c.observers ≡ 0 → is_configuration c ≡ true
+    → header_with (Some c.replicas) (Some c.sequencers) (Some c.clients) (Some (form, c.controllers)) ≡ Some (record { form = form; config = c })
+made_with form c none e =
+    let made : ℕ → Configuration = λ o. record {
+      replicas = c.replicas;
+      sequencers = c.sequencers;
+      clients = c.clients;
+      controllers = c.controllers;
+      observers = o;
+    } in
+    found_again form (made 0) c (ap made (sym none)) e
+
+made_again : (form : ℕ) (c : Configuration) → c.observers ≡ 0 → is_configuration c ≡ true
     → header_with (number_below 256 (decimal c.replicas)) (number_below 256 (decimal c.sequencers)) (number_below 256 (decimal c.clients))
     (Some (form, c.controllers)) ≡ Some (record { form = form; config = c })
-made_again form c e =
+made_again form c none e =
     let s = small_counts c e in
     let replicas = s.replicas in
     let sequencers = s.sequencers in
     let clients = s.clients in
     rw (small_again 256 c.replicas (omega arith) (omega arith))
-    (rw (small_again 256 c.sequencers (omega arith) (omega arith)) (rw (small_again 256 c.clients (omega arith) (omega arith)) (rw e refl)))
+    (rw (small_again 256 c.sequencers (omega arith) (omega arith))
+    (rw (small_again 256 c.clients (omega arith) (omega arith)) (made_with form c none e)))
 
 header_read : (h : Header) → is_header h ≡ true → header_of_fields (codes "transcript" ∷ header_fields h) ≡ Some h
 unfolding header_of_fields header_fields
-header_read h e = by_form h.form h.config (counted h e) (forms h e)
+header_read h e = by_form h.form h.config (eqb-true h.config.observers 0 (forms_pass h e).0) (counted h e) (forms h e)
   where
-    by_form : (form : ℕ) (c : Configuration) → is_configuration c ≡ true → Forms (record { form = form; config = c })
+    by_form : (form : ℕ) (c : Configuration) → c.observers ≡ 0 → is_configuration c ≡ true → Forms (record { form = form; config = c })
         → let h : Header = record { form = form; config = c } in header_of_fields (codes "transcript" ∷ header_fields h) ≡ Some h
-    by_form form c e (inl two) =
+    by_form form c none e (inl two) =
         let controllers = (small_counts c e).controllers in
-        rw two (rw (small_again 256 c.controllers (omega arith) (omega arith)) (made_again 2 c e))
-    by_form form c e (inr one) =
+        rw two (rw (small_again 256 c.controllers (omega arith) (omega arith)) (made_again 2 c none e))
+    by_form form c none e (inr one) =
         rw one.0 (ap (λ (k : ℕ). header_with (number_below 256 (decimal c.replicas)) (number_below 256 (decimal c.sequencers))
-        (number_below 256 (decimal c.clients)) (Some (1, k))) (sym one.1) ∙ made_again 1 c e)
+        (number_below 256 (decimal c.clients)) (Some (1, k))) (sym one.1) ∙ made_again 1 c none e)
 
 pub small_form : (h : Header) → is_header h ≡ true → h.form ≤ 2
 small_form h e = elim (forms h e) [ inl two ↦ omega (arith, two) | inr one ↦ omega (arith, one.0) ]
@@ -427,10 +519,10 @@ made_fits made h true is gives e = let same : made ≡ h = cc in subst (λ (x : 
 made_fits made h false is gives e = absurd cc
 
 with_fits : (n s c : Option ℕ) (k : Option (ℕ × ℕ)) (h : Header)
-    → ((n s c form j : ℕ) → k ≡ Some (form, j) → gives form (record { replicas = n; sequencers = s; clients = c; controllers = j }) ≡ true)
+    → ((n s c form j : ℕ) → k ≡ Some (form, j) → gives form (record { replicas = n; sequencers = s; clients = c; controllers = j; observers = 0 }) ≡ true)
     → header_with n s c k ≡ Some h → is_header h ≡ true
 with_fits (Some n) (Some s) (Some c) (Some k) h can e =
-    let config : Configuration = record { replicas = n; sequencers = s; clients = c; controllers = k.1 } in
+    let config : Configuration = record { replicas = n; sequencers = s; clients = c; controllers = k.1; observers = 0 } in
     made_fits (record { form = k.0; config = config }) h (is_configuration config) refl (can n s c k.0 k.1 refl) e
 with_fits None s c k h can e = absurd cc
 with_fits (Some n) None c k h can e = absurd cc
@@ -441,23 +533,23 @@ abbrev second : ℕ → Option (ℕ × ℕ)
 second count = Some (2, count)
 
 controllers_fit : (more : List (List ℕ)) (n s c form j : ℕ) → controllers_of more ≡ Some (form, j)
-    → gives form (record { replicas = n; sequencers = s; clients = c; controllers = j }) ≡ true
+    → gives form (record { replicas = n; sequencers = s; clients = c; controllers = j; observers = 0 }) ≡ true
 controllers_fit more n s c form j e = by_more more e
   where
     can_be : (p : ℕ × ℕ) → Some p ≡ Some (form, j)
-        → gives p.0 (record { replicas = n; sequencers = s; clients = c; controllers = p.1 }) ≡ true
-        → gives form (record { replicas = n; sequencers = s; clients = c; controllers = j }) ≡ true
+        → gives p.0 (record { replicas = n; sequencers = s; clients = c; controllers = p.1; observers = 0 }) ≡ true
+        → gives form (record { replicas = n; sequencers = s; clients = c; controllers = j; observers = 0 }) ≡ true
     can_be p e h =
         let same : p ≡ (form, j) = cc in
-        subst (λ (p : ℕ × ℕ). gives p.0 (record { replicas = n; sequencers = s; clients = c; controllers = p.1 }) ≡ true) same h
+        subst (λ (p : ℕ × ℕ). gives p.0 (record { replicas = n; sequencers = s; clients = c; controllers = p.1; observers = 0 }) ≡ true) same h
 
     by_count : (o : Option ℕ) → (o >>= second) ≡ Some (form, j)
-        → gives form (record { replicas = n; sequencers = s; clients = c; controllers = j }) ≡ true
+        → gives form (record { replicas = n; sequencers = s; clients = c; controllers = j; observers = 0 }) ≡ true
     by_count None e = absurd cc
     by_count (Some count) e = can_be (2, count) e refl
 
     by_more : (more : List (List ℕ)) → controllers_of more ≡ Some (form, j)
-        → gives form (record { replicas = n; sequencers = s; clients = c; controllers = j }) ≡ true
+        → gives form (record { replicas = n; sequencers = s; clients = c; controllers = j; observers = 0 }) ≡ true
     by_more [] e = can_be (1, 1) e refl
     by_more (x ∷ []) e = absurd cc
     by_more (x ∷ k ∷ more) e = by_count (number_below 256 k) e

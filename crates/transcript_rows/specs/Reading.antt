@@ -1,11 +1,11 @@
 -- The row that the fields of a line give. It asks nothing that the text of that row tells: a line is that row where it is its text.
-use Rattle.std.specs.Prelude.{◌≡◌, ℕ, ◌^◌, List, [], ◌∷◌, ◌++◌, length, codes, Bool, true, nat_le, Option, Some, None, if◌then◌else◌}
+use Rattle.std.specs.Prelude.{◌≡◌, ℕ, ◌^◌, List, [], ◌∷◌, ◌++◌, length, codes, Bool, true, ◌&&◌, nat_le, Option, Some, None, if◌then◌else◌}
 use Rattle.line_fields.specs.Fields.{actor_of, bytes_of, client_number, is_text, number_below, number_of}
 use Rattle.nop_types.specs.Configuration.{Configuration, is_configuration}
 use Rattle.nop_types.specs.Headers.{is_header}
 use Rattle.nop_types.specs.declared.header.Header.{Header}
 use Rattle.nop_types.specs.declared.kinds.TheConstants as kinds
-use Rattle.nop_types.specs.declared.limits.TheConstants.{MAX_CLIENTS, MAX_CONTROLLERS, MAX_REPLICAS, MAX_SEQUENCERS}
+use Rattle.nop_types.specs.declared.limits.TheConstants.{MAX_CLIENTS, MAX_CONTROLLERS, MAX_KEY_BYTES, MAX_OBSERVERS, MAX_REPLICAS, MAX_SEQUENCERS}
 use Rattle.nop_types.specs.declared.output.Actor.{Actor}
 use Rattle.nop_types.specs.declared.output.Actor.TheVariants as actors
 use Rattle.nop_types.specs.declared.output.Dest.{Dest}
@@ -15,7 +15,7 @@ use Rattle.nop_types.specs.declared.request.Entry.TheVariants.{NoOp, Req}
 use Rattle.nop_types.specs.declared.replica_state.Phase.{Phase}
 use Rattle.nop_types.specs.declared.replica_state.Phase.TheVariants.{Normal, Change}
 use Rattle.transcript_rows.specs.declared.row.Row.{Row}
-use Rattle.transcript_rows.specs.declared.row.Row.TheVariants.{Dead, Submit, Accept, Busy, Sent, State, Slot, Member, End}
+use Rattle.transcript_rows.specs.declared.row.Row.TheVariants.{Dead, Submit, Accept, Busy, Read, Answer, Sent, State, Slot, Member, End}
 use Rattle.transcript_rows.specs.Rows.{RowFits, row_text}
 use Rattle.transcript_text.specs.Transcript.{transcript_line}
 
@@ -28,17 +28,30 @@ Some x >>= f = f x
 
 -- as many actors as there may be
 abbrev pub limits : Configuration
-limits = record { replicas = MAX_REPLICAS; sequencers = MAX_SEQUENCERS; clients = MAX_CLIENTS; controllers = MAX_CONTROLLERS }
+limits = record {
+  replicas = MAX_REPLICAS;
+  sequencers = MAX_SEQUENCERS;
+  clients = MAX_CLIENTS;
+  controllers = MAX_CONTROLLERS;
+  observers = MAX_OBSERVERS;
+}
 
 abbrev pub replica_number : Option Actor → Option ℕ
 replica_number (Some (actors.Replica i)) = Some i
 replica_number _ = None
+
+abbrev pub observer_number : Option Actor → Option ℕ
+observer_number (Some (actors.Observer i)) = Some i
+observer_number _ = None
 
 abbrev pub client_of : List ℕ → Option ℕ
 client_of field = client_number (actor_of limits field)
 
 abbrev pub replica_of : List ℕ → Option ℕ
 replica_of field = replica_number (actor_of limits field)
+
+abbrev pub observer_of : List ℕ → Option ℕ
+observer_of field = observer_number (actor_of limits field)
 
 abbrev pub word_of : List ℕ → Option ℕ
 word_of field = number_below (2 ^ 32) field
@@ -63,6 +76,8 @@ kind_of field =
     else if is_text (codes "ping") field then Some kinds.PING
     else if is_text (codes "pong") field then Some kinds.PONG
     else if is_text (codes "fragment") field then Some kinds.FRAGMENT
+    else if is_text (codes "read") field then Some kinds.READ
+    else if is_text (codes "answer") field then Some kinds.ANSWER
     else None
 
 abbrev pub crashed_of : List ℕ → Bool
@@ -74,6 +89,13 @@ status_of field = if is_text (codes "normal") field then Normal else Change
 -- an op of at most 640 bytes
 abbrev pub op_of : List ℕ → Option (List ℕ)
 op_of text = if nat_le (length text) 1280 then bytes_of text else None
+
+-- a key has 1 to 64 bytes
+abbrev pub as_key : List ℕ → Option (List ℕ)
+as_key bytes = if nat_le 1 (length bytes) && nat_le (length bytes) MAX_KEY_BYTES then Some bytes else None
+
+abbrev pub key_of : List ℕ → Option (List ℕ)
+key_of text = bytes_of text >>= as_key
 
 -- ---- the fields behind the word
 
@@ -90,6 +112,24 @@ submit_of rest = request_of rest >>= λ r. Some (Submit r)
 
 abbrev pub accept_of : List (List ℕ) → Option Row
 accept_of rest = pair_of rest >>= λ p. bytes_of p.2 >>= λ bytes. Some (Accept p.0 p.1 bytes)
+
+-- a client, an id, an observer and a key that is not read yet
+abbrev pub asked_of : List (List ℕ) → Option (ℕ × ℕ × ℕ × List ℕ)
+asked_of (client ∷ id ∷ observer ∷ key ∷ more) =
+    client_of client >>= λ c. number_of id >>= λ n. observer_of observer >>= λ o. Some (c, n, o, key)
+asked_of _ = None
+
+abbrev pub read_of : List (List ℕ) → Option Row
+read_of rest = asked_of rest >>= λ p. key_of p.3 >>= λ key. Some (Read p.0 p.1 p.2 key)
+
+-- a client, an id, an observer, a position and bytes that are not read yet
+abbrev pub answered_of : List (List ℕ) → Option (ℕ × ℕ × ℕ × ℕ × List ℕ)
+answered_of (client ∷ id ∷ observer ∷ position ∷ bytes ∷ more) =
+    client_of client >>= λ c. number_of id >>= λ n. observer_of observer >>= λ o. word_of position >>= λ k. Some (c, n, o, k, bytes)
+answered_of _ = None
+
+abbrev pub answer_of : List (List ℕ) → Option Row
+answer_of rest = answered_of rest >>= λ p. bytes_of p.4 >>= λ result. Some (Answer p.0 p.1 p.2 p.3 result)
 
 abbrev pub member_of : List (List ℕ) → Option Row
 member_of (place ∷ rest) = word_of place >>= λ n. request_of rest >>= λ r. Some (Member n r)
@@ -153,11 +193,13 @@ row_of_fields (word ∷ rest) =
     else if is_text (codes "accept") word then accept_of rest
     else if is_text (codes "entry") word then slot_of rest
     else if is_text (codes "history") word then member_of rest
+    else if is_text (codes "read") word then read_of rest
+    else if is_text (codes "answer") word then answer_of rest
     else short_row_of word rest
 
 -- ---- the first line
 
--- the form, and how many controllers there are: form 1 has no count of them, and means one
+-- the form, and how many controllers there are: form 1 has no count of them, and means one; no form has observers
 abbrev pub controllers_of : List (List ℕ) → Option (ℕ × ℕ)
 controllers_of [] = Some (1, 1)
 controllers_of (controllers ∷ k ∷ more) = number_below 256 k >>= λ count. Some (2, count)
@@ -165,7 +207,7 @@ controllers_of _ = None
 
 abbrev pub header_with : Option ℕ → Option ℕ → Option ℕ → Option (ℕ × ℕ) → Option Header
 header_with (Some n) (Some s) (Some c) (Some k) =
-    let made : Configuration = record { replicas = n; sequencers = s; clients = c; controllers = k.1 } in
+    let made : Configuration = record { replicas = n; sequencers = s; clients = c; controllers = k.1; observers = 0 } in
     if is_configuration made then Some (record { form = k.0; config = made }) else None
 header_with _ _ _ _ = None
 

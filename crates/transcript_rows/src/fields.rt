@@ -2,13 +2,14 @@
 
 ghost use Rattle.std.specs.Prelude.{◌≡◌, ◌^◌, IfOk};
 ghost use Rattle.line_fields.specs.Fields.{actor_of};
-ghost use Rattle.transcript_rows.specs.Reading.{limits, client_of, replica_of, word_of, dest_of};
-ghost use Rattle.transcript_rows.specs.Reading.{kind_of, crashed_of, status_of, op_of};
+ghost use Rattle.transcript_rows.specs.Reading.{limits, client_of, replica_of, observer_of};
+ghost use Rattle.transcript_rows.specs.Reading.{word_of, dest_of, kind_of, crashed_of, status_of};
+ghost use Rattle.transcript_rows.specs.Reading.{op_of, as_key, key_of};
 
 use line_fields::{is_word, number};
 use nop_types::{
-    Actor, Config, Dest, MAX_CLIENTS, MAX_CONTROLLERS, MAX_OP_BYTES, MAX_REPLICAS, MAX_SEQUENCERS,
-    NoMemory, Op, Phase, kinds,
+    Actor, Bytes, Config, Dest, Key, MAX_CLIENTS, MAX_CONTROLLERS, MAX_KEY_BYTES, MAX_OBSERVERS,
+    MAX_OP_BYTES, MAX_REPLICAS, MAX_SEQUENCERS, NoMemory, Op, Phase, kinds,
 };
 use std::alloc::Global;
 
@@ -19,7 +20,13 @@ const MAX_OP_TEXT: usize = 2 * MAX_OP_BYTES;
 fn limits() -> Config
     ensures { result ≡ limits }
 {
-    match Config::new(MAX_REPLICAS, MAX_SEQUENCERS, MAX_CLIENTS, MAX_CONTROLLERS) {
+    match Config::new(
+        MAX_REPLICAS,
+        MAX_SEQUENCERS,
+        MAX_CLIENTS,
+        MAX_CONTROLLERS,
+        MAX_OBSERVERS,
+    ) {
         Some(limits) => limits,
         None => unreachable!(),
     }
@@ -45,6 +52,15 @@ pub(crate) fn replica(field: &[u8]) -> Option<u8>
 {
     match actor(field) {
         Some(Actor::Replica(number)) => Some(number),
+        _ => None,
+    }
+}
+
+pub(crate) fn observer(field: &[u8]) -> Option<u8>
+    ensures { result ≡ observer_of field.now }
+{
+    match actor(field) {
+        Some(Actor::Observer(number)) => Some(number),
         _ => None,
     }
 }
@@ -106,6 +122,12 @@ pub(crate) fn kind(field: &[u8]) -> Option<u8>
     if is_word(field, "fragment") {
         return Some(kinds::FRAGMENT);
     }
+    if is_word(field, "read") {
+        return Some(kinds::READ);
+    }
+    if is_word(field, "answer") {
+        return Some(kinds::ANSWER);
+    }
     None
 }
 
@@ -133,4 +155,25 @@ pub(crate) fn op(alloc: Global, field: &[u8]) -> Result<Option<Op>, NoMemory>
         return Ok(None);
     }
     line_fields::op(alloc, field)
+}
+
+fn as_key(bytes: Bytes) -> Option<Key>
+    ensures { result ≡ as_key bytes }
+{
+    let len = bytes.as_slice().len();
+    if 1 <= len && len <= MAX_KEY_BYTES {
+        Some(Key::from_vec(bytes.into_vec()))
+    } else {
+        None
+    }
+}
+
+/// A key in hexadecimal, of 1 to `MAX_KEY_BYTES` bytes.
+pub(crate) fn key(alloc: Global, field: &[u8]) -> Result<Option<Key>, NoMemory>
+    ensures { IfOk result (λ key. key ≡ key_of field.now) }
+{
+    match line_fields::bytes(alloc, field)? {
+        Some(bytes) => Ok(as_key(bytes)),
+        None => Ok(None),
+    }
 }

@@ -7,10 +7,11 @@ ghost use Rattle.line_fields.specs.Split.{other_fields};
 ghost use Rattle.transcript_rows.specs.Reading.{pair_of, request_of, submit_of, accept_of};
 ghost use Rattle.transcript_rows.specs.Reading.{member_of, slot_of, dead_of, busy_of, sent_row};
 ghost use Rattle.transcript_rows.specs.Reading.{sent_of, state_row, state_of, short_row_of};
+ghost use Rattle.transcript_rows.specs.Reading.{asked_of, read_of, answered_of, answer_of};
 ghost use Rattle.transcript_rows.specs.Reading.{row_of_fields, no_op_row, slot_row};
 ghost use Rattle.transcript_rows.specs.Reading.{replica_of, word_of};
 
-use crate::fields::{actor, client, crashed, dest, kind, op, replica, status, word};
+use crate::fields::{actor, client, crashed, dest, key, kind, observer, op, replica, status, word};
 use crate::row::Row;
 use line_fields::{bytes, cut, is_word, next_field, number};
 use nop_types::{Entry, NoMemory, Request, View};
@@ -58,6 +59,78 @@ fn accept(alloc: Global, rest: Option<&[u8]>) -> Result<Option<Row>, NoMemory>
     };
     match bytes(alloc, text)? {
         Some(result) => Ok(Some(Row::Accept { client, id, result })),
+        None => Ok(None),
+    }
+}
+
+/// A client, an id, an observer, and a field that is not read yet.
+fn asked(rest: Option<&[u8]>) -> Option<(u32, u64, u8, &[u8])>
+    ensures { let read = asked_of (other_fields (option_copied rest.entry)) in
+        MatchOption result (read ≡ None) (λ p. read ≡ Some (p.0, p.1, p.2, p.3.now)) }
+{
+    let (name, rest) = next_field(rest)?;
+    let (id, rest) = next_field(rest)?;
+    let (by, rest) = next_field(rest)?;
+    let (text, _) = next_field(rest)?;
+    Some((client(name)?, number(id)?, observer(by)?, text))
+}
+
+/// `read C ID oI HEX`
+fn read(alloc: Global, rest: Option<&[u8]>) -> Result<Option<Row>, NoMemory>
+    ensures { IfOk result (λ row. row ≡ read_of (other_fields (option_copied rest.entry))) }
+{
+    let Some((client, id, observer, text)) = asked(rest) else {
+        return Ok(None);
+    };
+    match key(alloc, text)? {
+        Some(key) => {
+            Ok(Some(Row::Read {
+                client,
+                id,
+                observer,
+                key,
+            }))
+        }
+        None => Ok(None),
+    }
+}
+
+/// A client, an id, an observer, a position, and a field that is not read yet.
+fn answered(rest: Option<&[u8]>) -> Option<(u32, u64, u8, u32, &[u8])>
+    ensures { let read = answered_of (other_fields (option_copied rest.entry)) in
+        MatchOption result (read ≡ None) (λ p. read ≡ Some (p.0, p.1, p.2, p.3, p.4.now)) }
+{
+    let (name, rest) = next_field(rest)?;
+    let (id, rest) = next_field(rest)?;
+    let (by, rest) = next_field(rest)?;
+    let (position, rest) = next_field(rest)?;
+    let (text, _) = next_field(rest)?;
+    Some((
+        client(name)?,
+        number(id)?,
+        observer(by)?,
+        word(position)?,
+        text,
+    ))
+}
+
+/// `answer C ID oI POSITION HEX`
+fn answer(alloc: Global, rest: Option<&[u8]>) -> Result<Option<Row>, NoMemory>
+    ensures { IfOk result (λ row. row ≡ answer_of (other_fields (option_copied rest.entry))) }
+{
+    let Some((client, id, observer, position, text)) = answered(rest) else {
+        return Ok(None);
+    };
+    match bytes(alloc, text)? {
+        Some(result) => {
+            Ok(Some(Row::Answer {
+                client,
+                id,
+                observer,
+                position,
+                result,
+            }))
+        }
         None => Ok(None),
     }
 }
@@ -247,6 +320,12 @@ pub(crate) fn row_of_line(alloc: Global, line: &[u8]) -> Result<Option<Row>, NoM
     }
     if is_word(first, "history") {
         return member(alloc, rest);
+    }
+    if is_word(first, "read") {
+        return read(alloc, rest);
+    }
+    if is_word(first, "answer") {
+        return answer(alloc, rest);
     }
     Ok(short_row(first, rest))
 }

@@ -4,12 +4,12 @@ ghost use Rattle.std.specs.Prelude.{◌≡◌, ◌<◌, ◌^◌};
 ghost use Rattle.hex.specs.Hex.{IsBytes};
 ghost use Rattle.transcript_rows.specs.Rows.{actor_fits, dest_fits, pair_fits, request_fits};
 ghost use Rattle.transcript_rows.specs.Rows.{entry_fits, row_fits, IsTypedRequest, IsTypedEntry};
-ghost use Rattle.transcript_rows.specs.Rows.{IsTyped};
+ghost use Rattle.transcript_rows.specs.Rows.{IsTypedRead, IsTypedAnswer, IsTyped};
 
 use crate::row::{MAX_SENT_BYTES, Row};
 use nop_types::{
-    Actor, Dest, Entry, MAX_CLIENTS, MAX_CONTROLLERS, MAX_REPLICAS, MAX_RESULT_BYTES,
-    MAX_SEQUENCERS, Request, View, kinds,
+    Actor, Bytes, Dest, Entry, Key, MAX_CLIENTS, MAX_CONTROLLERS, MAX_OBSERVERS, MAX_REPLICAS,
+    MAX_RESULT_BYTES, MAX_SEQUENCERS, Request, View, kinds,
 };
 
 fn actor_fits(actor: Actor) -> bool
@@ -20,6 +20,7 @@ fn actor_fits(actor: Actor) -> bool
         Actor::Sequencer(i) => i < MAX_SEQUENCERS,
         Actor::Client(i) => i < u32::from(MAX_CLIENTS),
         Actor::Controller(i) => i < MAX_CONTROLLERS,
+        Actor::Observer(i) => i < MAX_OBSERVERS,
     }
 }
 
@@ -63,6 +64,23 @@ pub(crate) fn row_fits(row: &Row) -> bool
             pair_fits(*client, *id) && result.as_slice().len() <= MAX_RESULT_BYTES
         }
         Row::Busy(client) => *client < u32::from(MAX_CLIENTS),
+        Row::Read {
+            client,
+            id,
+            observer,
+            ..
+        } => pair_fits(*client, *id) && *observer < MAX_OBSERVERS,
+        Row::Answer {
+            client,
+            id,
+            observer,
+            result,
+            ..
+        } => {
+            pair_fits(*client, *id)
+                && *observer < MAX_OBSERVERS
+                && result.as_slice().len() <= MAX_RESULT_BYTES
+        }
         Row::Sent {
             from,
             dest,
@@ -73,7 +91,7 @@ pub(crate) fn row_fits(row: &Row) -> bool
             actor_fits(*from)
                 && dest_fits(*dest)
                 && kinds::REQUEST <= *kind
-                && *kind <= kinds::FRAGMENT
+                && *kind <= kinds::ANSWER
                 && *len <= MAX_SENT_BYTES
         }
         Row::State { replica, view, .. } => *replica < MAX_REPLICAS && 1 <= view.session,
@@ -115,6 +133,18 @@ fn typed_view(view: View)
     let _session = view.session;
 }
 
+fn typed_read(id: u64, key: &Key)
+    ensures { IsTypedRead id key.now }
+{
+    are_bytes(key.as_slice());
+}
+
+fn typed_answer(id: u64, position: u32, answer: &Bytes)
+    ensures { IsTypedAnswer id position answer.now }
+{
+    are_bytes(answer.as_slice());
+}
+
 /// What the types of a row keep.
 pub(crate) fn typed(row: &Row)
     ensures { IsTyped row.now }
@@ -125,6 +155,13 @@ pub(crate) fn typed(row: &Row)
             let _id = *id;
             are_bytes(result.as_slice());
         }
+        Row::Read { id, key, .. } => typed_read(*id, key),
+        Row::Answer {
+            id,
+            position,
+            result,
+            ..
+        } => typed_answer(*id, *position, result),
         Row::Sent { index, .. } => {
             let _index = *index;
         }

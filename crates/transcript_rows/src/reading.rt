@@ -87,7 +87,7 @@ fn header_with(n: &[u8], s: &[u8], c: &[u8], k: Option<(u8, u8)>) -> Option<Head
         k,
     ) {
         (Some(n), Some(s), Some(c), Some((form, k))) => {
-            let config = Config::new(n, s, c, k)?;
+            let config = Config::new(n, s, c, k, 0)?;
             Some(Header { form, config })
         }
         _ => None,

@@ -1,4 +1,4 @@
-use nop_types::{Actor, Bytes, Dest, Entry, Phase, Request, View};
+use nop_types::{Actor, Bytes, Dest, Entry, Key, Phase, Request, View};
 
 /// A line of a transcript behind the first one.
 #[derive(Debug, Drop)]
@@ -15,6 +15,21 @@ pub enum Row {
     },
     /// A client could not take an op.
     Busy(u32),
+    /// A client asked an observer for a key.
+    Read {
+        client: u32,
+        id: u64,
+        observer: u8,
+        key: Key,
+    },
+    /// A client took the answer to a read.
+    Answer {
+        client: u32,
+        id: u64,
+        observer: u8,
+        position: u32,
+        result: Bytes,
+    },
     /// A datagram was sent: its place among all that were sent, its kind, as its fourth byte has it, and its length.
     Sent {
         index: u64,

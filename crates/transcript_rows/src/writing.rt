@@ -3,10 +3,10 @@ ghost use Rattle.transcript_rows.specs.Rows.{row_text};
 ghost use Rattle.transcript_rows.specs.declared.row.Row.TheVariants as rows;
 
 use crate::row::Row;
-use nop_types::{Actor, Dest, Entry, NoMemory, Phase, View};
+use nop_types::{Actor, Bytes, Dest, Entry, NoMemory, Phase, View};
 use transcript_text::{
-    Field, accept_line, busy_line, dead_line, end_line, entry_line, history_line, submit_line,
-    write_line,
+    Field, accept_line, busy_line, dead_line, end_line, entry_line, history_line, read_line,
+    submit_line, write_line,
 };
 
 /// The line of a datagram that was sent, of which its kind and its length are known.
@@ -31,6 +31,30 @@ fn put_sent(
         Field::Number(u64::from(len)),
     ];
     write_line("send", &fields, to)
+}
+
+/// The answer to a read.
+#[tactic(auto, unfolding(crate::specs::Rows::row_text))]
+fn put_answer(
+    client: u32,
+    id: u64,
+    observer: u8,
+    position: u32,
+    answer: &Bytes,
+    to: &mut Vec<u8>,
+) -> Result<(), NoMemory>
+    ensures ok { OnOk result (to.new.items
+        ≡ to.old.items ++ row_text (rows.Answer client id observer position answer.now)) }
+    ensures err { OnErr result (to.new.items ≡ to.old.items) }
+{
+    let fields = [
+        Field::Name(Actor::Client(client)),
+        Field::Number(id),
+        Field::Name(Actor::Observer(observer)),
+        Field::Number(u64::from(position)),
+        Field::Hex(answer.as_slice()),
+    ];
+    write_line("answer", &fields, to)
 }
 
 /// How a replica stands at the end.
@@ -74,7 +98,7 @@ fn put_slot(replica: u8, slot: u32, entry: &Entry, to: &mut Vec<u8>) -> Result<(
 }
 
 /// Appends the line of a row, by the writers of transcripts.
-#[tactic(auto, unfolding(crate::specs::Rows::row_text, transcript_text::specs::Transcript::dead_line, transcript_text::specs::Transcript::submit_line, transcript_text::specs::Transcript::accept_line, transcript_text::specs::Transcript::busy_line, transcript_text::specs::Transcript::history_line, transcript_text::specs::Transcript::end_line))]
+#[tactic(auto, unfolding(crate::specs::Rows::row_text, transcript_text::specs::Transcript::dead_line, transcript_text::specs::Transcript::submit_line, transcript_text::specs::Transcript::accept_line, transcript_text::specs::Transcript::busy_line, transcript_text::specs::Transcript::read_line, transcript_text::specs::Transcript::history_line, transcript_text::specs::Transcript::end_line))]
 pub fn write_row(row: &Row, to: &mut Vec<u8>) -> Result<(), NoMemory>
     ensures ok { OnOk result (to.new.items ≡ to.old.items ++ row_text row.now) }
     ensures err { OnErr result (to.new.items ≡ to.old.items) }
@@ -84,6 +108,19 @@ pub fn write_row(row: &Row, to: &mut Vec<u8>) -> Result<(), NoMemory>
         Row::Submit(request) => submit_line(request, to),
         Row::Accept { client, id, result } => accept_line(*client, *id, result, to),
         Row::Busy(client) => busy_line(*client, to),
+        Row::Read {
+            client,
+            id,
+            observer,
+            key,
+        } => read_line(*client, *id, *observer, key, to),
+        Row::Answer {
+            client,
+            id,
+            observer,
+            position,
+            result,
+        } => put_answer(*client, *id, *observer, *position, result, to),
         Row::Sent {
             index,
             from,

@@ -8,7 +8,7 @@ use Rattle.nop_types.specs.declared.output.Dest.{Dest}
 use Rattle.nop_types.specs.declared.replica_state.Phase.{Phase}
 use Rattle.nop_types.specs.declared.view.View.{View}
 use Rattle.transcript_text.specs.LineText.{line_of}
-use Rattle.transcript_text.specs.Transcript.{actor_text, dest_text, kind_text, phase_text, up_text, send_line, replica_line}
+use Rattle.transcript_text.specs.Transcript.{actor_text, dest_text, hex_text, kind_text, phase_text, up_text, send_line, answer_line, replica_line}
 use Rattle.transcript_text.specs.Transcript.{controllers_text, line_end, transcript_line}
 
 pub first_form : (c : Configuration) →
@@ -42,6 +42,12 @@ pub send_fields : (index : ℕ) (from : Actor) (dest : Dest) (datagram : List �
     (length datagram) ∷ []) ≡ send_line index from dest datagram
 unfolding send_line
 send_fields index from dest datagram = simp append_assoc
+
+pub answer_fields : (client id observer position : ℕ) (result : List ℕ) →
+    line_of (codes "answer") (actor_text (actors.Client client) ∷ decimal id ∷ actor_text (actors.Observer observer) ∷ decimal
+    position ∷ hex_text result ∷ []) ≡ answer_line client id observer position result
+unfolding answer_line
+answer_fields client id observer position result = simp append_assoc
 
 pub replica_fields : (number : ℕ) (crashed : Bool) (status : Phase) (view : View) (len sync_point : ℕ) →
     line_of (codes "replica") (actor_text (actors.Replica number) ∷ up_text crashed ∷ phase_text status ∷ decimal view.leader ∷ decimal

@@ -5,7 +5,7 @@ use Rattle.std.specs.List.{flat_map}
 use Rattle.hex.specs.Hex.{encode_lower}
 use Rattle.nop_types.specs.declared.kinds.TheConstants as kinds
 use Rattle.nop_types.specs.Configuration.{Configuration}
-use Rattle.nop_types.specs.Lines.{Line, Dead, Submit, Accept, Busy, Send}
+use Rattle.nop_types.specs.Lines.{Line, Dead, Submit, Accept, Busy, Read, Answer, Send}
 use Rattle.nop_types.specs.declared.output.Actor.{Actor}
 use Rattle.nop_types.specs.declared.output.Actor.TheVariants as actors
 use Rattle.nop_types.specs.declared.output.Dest.{Dest}
@@ -28,6 +28,7 @@ actor_text (actors.Replica i) = 114 ∷ decimal i
 actor_text (actors.Sequencer i) = 115 ∷ decimal i
 actor_text (actors.Client i) = 99 ∷ decimal i
 actor_text (actors.Controller k) = codes "ctl" ++ number_after k
+actor_text (actors.Observer i) = 111 ∷ decimal i
 
 abbrev pub dest_text : Dest → List ℕ
 dest_text Replicas = codes "r*"
@@ -49,6 +50,8 @@ kind_text kind =
     else if kind == kinds.INSTALLED then codes "installed"
     else if kind == kinds.PING then codes "ping"
     else if kind == kinds.PONG then codes "pong"
+    else if kind == kinds.READ then codes "read"
+    else if kind == kinds.ANSWER then codes "answer"
     else codes "fragment"
 
 abbrev pub phase_text : Phase → List ℕ
@@ -67,6 +70,9 @@ line_end = 10 ∷ []
 
 abbrev pub client_text : ℕ → List ℕ
 client_text client = actor_text (actors.Client client)
+
+abbrev pub observer_text : ℕ → List ℕ
+observer_text observer = actor_text (actors.Observer observer)
 
 -- a client, an id and bytes
 abbrev pub pair_text : ℕ → ℕ → List ℕ → List ℕ
@@ -89,6 +95,17 @@ accept_line client id result = codes "accept " ++ pair_text client id result ++ 
 unfoldable pub busy_line : ℕ → List ℕ
 busy_line client = codes "busy " ++ client_text client ++ line_end
 
+-- a read: its client and id, the observer and the key
+unfoldable pub read_line : ℕ → ℕ → ℕ → List ℕ → List ℕ
+read_line client id observer key =
+    codes "read " ++ client_text client ++ space ++ decimal id ++ space ++ observer_text observer ++ space ++ hex_text key ++ line_end
+
+-- its answer, from the state after so many slots
+unfoldable pub answer_line : ℕ → ℕ → ℕ → ℕ → List ℕ → List ℕ
+answer_line client id observer position result =
+    codes "answer " ++ client_text client ++ space ++ decimal id ++ space ++ observer_text observer ++ space ++ decimal position ++ space
+    ++ hex_text result ++ line_end
+
 -- the kind is the fourth byte
 unfoldable pub send_line : ℕ → Actor → Dest → List ℕ → List ℕ
 send_line index from dest datagram =
@@ -100,6 +117,8 @@ line_text (Dead actor) = dead_line actor
 line_text (Submit r) = submit_line r
 line_text (Accept client id result) = accept_line client id result
 line_text (Busy client) = busy_line client
+line_text (Read client id observer key) = read_line client id observer key
+line_text (Answer client id observer position result) = answer_line client id observer position result
 line_text (Send index from dest datagram) = send_line index from dest datagram
 
 abbrev pub lines_text : List Line → List ℕ

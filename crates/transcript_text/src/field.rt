@@ -34,6 +34,8 @@ fn kind_word(kind: u8) -> &'static str
         kinds::INSTALLED => "installed",
         kinds::PING => "ping",
         kinds::PONG => "pong",
+        kinds::READ => "read",
+        kinds::ANSWER => "answer",
         _ => "fragment",
     }
 }
@@ -111,6 +113,7 @@ fn put_actor(actor: Actor, to: &mut Vec<u8>) -> Result<(), NoMemory>
         Actor::Sequencer(i) => put_numbered(b's', u64::from(i), to),
         Actor::Client(i) => put_numbered(b'c', u64::from(i), to),
         Actor::Controller(i) => put_controller(i, to),
+        Actor::Observer(i) => put_numbered(b'o', u64::from(i), to),
     }
 }
 

@@ -5,7 +5,7 @@ ghost use Rattle.nop_types.specs.Headers.{gives};
 ghost use Rattle.transcript_text.specs.Transcript as texts;
 
 use crate::field::{Field, write_line};
-use nop_types::{Actor, Bytes, Config, Dest, Entry, NoMemory, Phase, Request, View};
+use nop_types::{Actor, Bytes, Config, Dest, Entry, Key, NoMemory, Phase, Request, View};
 
 /// The first line of a transcript, in the form of its schedule's header.
 #[tactic(auto, using(crate::proofs::LineLemmas::first_form))]
@@ -77,6 +77,52 @@ pub fn busy_line(client: u32, to: &mut Vec<u8>) -> Result<(), NoMemory>
     ensures err { OnErr result (to.new.items ≡ to.old.items) }
 {
     write_line("busy", &[Field::Name(Actor::Client(client))], to)
+}
+
+/// A client asked an observer for a key.
+#[tactic(auto, unfolding(crate::specs::Transcript::read_line))]
+pub fn read_line(
+    client: u32,
+    id: u64,
+    observer: u8,
+    key: &Key,
+    to: &mut Vec<u8>,
+) -> Result<(), NoMemory>
+    ensures ok { OnOk result (to.new.items ≡ to.old.items
+        ++ texts.read_line client id observer key.now) }
+    ensures err { OnErr result (to.new.items ≡ to.old.items) }
+{
+    let fields = [
+        Field::Name(Actor::Client(client)),
+        Field::Number(id),
+        Field::Name(Actor::Observer(observer)),
+        Field::Hex(key.as_slice()),
+    ];
+    write_line("read", &fields, to)
+}
+
+/// A client took the answer to a read, from the state after the first `position` slots.
+#[tactic(auto, using(crate::proofs::LineLemmas::answer_fields))]
+pub fn answer_line(
+    client: u32,
+    id: u64,
+    observer: u8,
+    position: u32,
+    answer: &Bytes,
+    to: &mut Vec<u8>,
+) -> Result<(), NoMemory>
+    ensures ok { OnOk result (to.new.items ≡ to.old.items
+        ++ texts.answer_line client id observer position answer.now) }
+    ensures err { OnErr result (to.new.items ≡ to.old.items) }
+{
+    let fields = [
+        Field::Name(Actor::Client(client)),
+        Field::Number(id),
+        Field::Name(Actor::Observer(observer)),
+        Field::Number(u64::from(position)),
+        Field::Hex(answer.as_slice()),
+    ];
+    write_line("answer", &fields, to)
 }
 
 /// The kind of a datagram is its fourth byte.

@@ -38,7 +38,7 @@ abbrev pub stamp : ℕ → Request → Stamped
 stamp n q = record { session = 1; number = n; request = q }
 
 abbrev pub three : Configuration
-three = record { replicas = 3; sequencers = 1; clients = 1; controllers = 1 }
+three = record { replicas = 3; sequencers = 1; clients = 1; controllers = 1; observers = 0 }
 
 abbrev pub sync_of : ℕ → ℕ → Option Round → Synchronisation
 sync_of n p x = record { f = 1; sync_point = n; prepared = p; syncing = x }

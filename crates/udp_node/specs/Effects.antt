@@ -10,7 +10,7 @@ use Rattle.outside.specs.declared.errors.DeviceError.{DeviceError}
 use Rattle.outside.specs.declared.errors.DeviceError.TheVariants.{Failed, NoMemory}
 use Rattle.outside.specs.declared.link.LinkCall.{LinkCall}
 use Rattle.outside.specs.declared.link.LinkCall.TheVariants.{Polled}
-use Rattle.transcript_text.specs.Transcript.{submit_line, accept_line}
+use Rattle.transcript_text.specs.Transcript.{submit_line, accept_line, read_line, answer_line}
 use Rattle.udp_node.specs.declared.address.Address.{Address}
 use Rattle.udp_node.specs.Ports.{datagrams_to}
 use Rattle.udp_node.specs.Sends.{LinkSide, Sends}
@@ -39,6 +39,8 @@ abbrev pub effects_of : Address → Out → List Effect
 effects_of at (outs.Send dest bytes) = map Call (datagrams_to at dest bytes)
 effects_of at (outs.Submitted r) = Line (submit_line r) ∷ []
 effects_of at (outs.Accepted client id result) = Line (accept_line client id result) ∷ []
+effects_of at (outs.Reading client id observer key) = Line (read_line client id observer key) ∷ []
+effects_of at (outs.Answered client id observer position result) = Line (answer_line client id observer position result) ∷ []
 effects_of at _ = []
 
 abbrev pub effects : Address → List Out → List Effect

@@ -8,10 +8,10 @@ ghost use Rattle.udp_node.specs.Nodes.{Does, Takes};
 
 use crate::node::Node;
 use crate::sending::send_to;
-use nop_types::{Bytes, Core, Input, NoMemory, Out, Outbox, Request};
+use nop_types::{Bytes, Core, Input, Key, NoMemory, Out, Outbox, Request};
 use outside::{Link, Sink, WriteError, write_all};
 use std::alloc::Global;
-use transcript_text::{accept_line, submit_line};
+use transcript_text::{accept_line, answer_line, read_line, submit_line};
 
 fn write_submit<W: Sink>(alloc: Global, request: &Request, sink: &mut W) -> Result<(), WriteError>
     ensures line { Writes (texts.submit_line request.now) result (W.held sink.old)
@@ -41,6 +41,43 @@ fn write_accept<W: Sink>(
     write_all(sink, &line)
 }
 
+fn write_read<W: Sink>(
+    alloc: Global,
+    client: u32,
+    id: u64,
+    observer: u8,
+    key: &Key,
+    sink: &mut W,
+) -> Result<(), WriteError>
+    ensures line { Writes (texts.read_line client id observer key.now) result (W.held sink.old)
+        (W.held sink.new) }
+    ensures count { CountsFor (W.fault_count sink.old) (W.fault_count sink.new)
+        devices.Failed result }
+{
+    let mut line = Vec::new(alloc);
+    read_line(client, id, observer, key, &mut line)?;
+    write_all(sink, &line)
+}
+
+fn write_answer<W: Sink>(
+    alloc: Global,
+    client: u32,
+    id: u64,
+    observer: u8,
+    position: u32,
+    answer: &Bytes,
+    sink: &mut W,
+) -> Result<(), WriteError>
+    ensures line { Writes (texts.answer_line client id observer position answer.now) result
+        (W.held sink.old) (W.held sink.new) }
+    ensures count { CountsFor (W.fault_count sink.old) (W.fault_count sink.new)
+        devices.Failed result }
+{
+    let mut line = Vec::new(alloc);
+    answer_line(client, id, observer, position, answer, &mut line)?;
+    write_all(sink, &line)
+}
+
 impl<C: Core, L: Link, W: Sink> Node<'_, '_, '_, C, L, W> {
     /// Carries out one output: a datagram goes to each port of its destination, a line to the sink.
     #[tactic(auto, using(crate::proofs::EffectLemmas::posted, crate::proofs::EffectLemmas::posted_prefix, crate::proofs::EffectLemmas::wrote_line))]
@@ -58,6 +95,21 @@ impl<C: Core, L: Link, W: Sink> Node<'_, '_, '_, C, L, W> {
             Out::Accepted { client, id, result } => {
                 write_accept(self.alloc, *client, *id, result, self.sink)
             }
+            Out::Reading {
+                client,
+                id,
+                observer,
+                key,
+            } => write_read(self.alloc, *client, *id, *observer, key, self.sink),
+            Out::Answered {
+                client,
+                id,
+                observer,
+                position,
+                result,
+            } => write_answer(
+                self.alloc, *client, *id, *observer, *position, result, self.sink,
+            ),
             _ => Ok(()),
         }
     }

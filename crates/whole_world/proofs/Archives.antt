@@ -460,6 +460,7 @@ module _ (archive : List Entry) (w : WholeWorld) (h : IsArchive archive w) where
         → IsArchive (archive_of m archive w x b) (step_of m w x b)
     event_archive (AReplica i) b holds = replica_archive i b (slice_get w.replicas i) refl holds
     event_archive (Another k i) b holds = other_archive k i b (slice_get (seats k w.others) i)
+    event_archive _ b holds = h
 
 -- ---- after any events
 

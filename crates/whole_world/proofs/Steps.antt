@@ -83,6 +83,7 @@ module _ {S : Type 0} (m : Meaning S) (f : ℕ) (config : Configuration) (short 
   step_goes : (x : Who) (b : Brings) → BringsFits b → GoesTo (step_of m w x b)
   step_goes (AReplica i) b fits = replica_step i (slice_get w.replicas i) refl b
   step_goes (Another k i) b fits = other_step k i (slice_get (seats k w.others) i) refl b fits
+  step_goes _ b fits = nothing_goes m f config p c inv at
 
 -- each event leads on
 pub steps_lead : {S : Type 0} (m : Meaning S) (f : ℕ) (config : Configuration) → ResultsShort m → StepsLead m f config

@@ -12,7 +12,7 @@ use Rattle.replica_state.specs.declared.sending.Sending.{Sending}
 use Rattle.replica_state.specs.declared.sending.Sending.TheVariants.{Trims}
 use Rattle.replica_rows.specs.Within.{ResultsShort}
 use Rattle.world.specs.Archive.{with_entries}
-use Rattle.world.specs.Others.{Who, AReplica, Another, who}
+use Rattle.world.specs.Others.{Who, AReplica, who}
 use Rattle.world.specs.Seats.{Seated}
 use Rattle.whole_world.specs.Whole.{WholeReplica, WholeWorld, Letter, Brings, is_crash, effect_of, arrival_of, whole_step}
 use Rattle.whole_world.specs.Passed.{passed}
@@ -36,7 +36,7 @@ module _ {S : Type 0} (m : Meaning S) where
   -- only replicas have logs
   abbrev pub archive_of : List Entry → WholeWorld → Who → Brings → List Entry
   archive_of archive w (AReplica i) b = with_sends archive (row_sends w (slice_get w.replicas i) b)
-  archive_of archive w (Another k i) b = archive
+  archive_of archive w _ b = archive
 
   abbrev pub archive_after : List Entry → WholeWorld → Actor → Brings → List Entry
   archive_after archive w actor b = archive_of archive w (who actor) b

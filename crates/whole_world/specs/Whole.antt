@@ -110,10 +110,9 @@ arrival_read (Ok (datagrams.Stamped p)) = Some (messages.Packet p)
 arrival_read _ = None
 
 abbrev pub arrival_given : Option Given → Option messages.Arrival
-arrival_given None = None
 arrival_given (Some (Packet bytes)) = arrival_read (reading bytes)
 arrival_given (Some (Ticked tick)) = Some (messages.Ticked tick)
-arrival_given (Some (Submit op)) = None
+arrival_given _ = None
 
 -- what arrives at a replica
 abbrev pub arrival_of : WholeWorld → Brings → Option messages.Arrival
@@ -210,9 +209,11 @@ module _ {S : Type 0} (m : Meaning S) where
   step_replica w i None b = w
   step_replica w i (Some p) b = at_replica w i p p.crashed b
 
+  -- no observer is there
   abbrev pub step_of : WholeWorld → Who → Brings → WholeWorld
   step_of w (AReplica i) b = step_replica w i (slice_get w.replicas i) b
   step_of w (Another k i) b = step_other k w i (slice_get (seats k w.others) i) b
+  step_of w _ b = w
 
   -- what an event delivers to its actor
   abbrev pub whole_step : WholeWorld → Actor → Brings → WholeWorld

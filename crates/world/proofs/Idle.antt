@@ -87,6 +87,7 @@ crashed_rests m w (AReplica i) what h c e =
 crashed_rests m w (Another k i) what h c e =
     let r = rests (next k) (at_other k w i) (slice_get (seats k w.others) i) what h c e in
     dead w _ (actor_at (Another k i)) h r.is (other_idles w Nothing nothing_is_silent k i r.seat r.found)
+crashed_rests m w _ what h c e = absurd cc
 
 pub crashed_takes_no_step : {S : Type 0} (m : Meaning S) (w : WorldState) (e : Event) (h : Happened) → has_crashed w (actor_of e) ≡ true
     → step m w e ≡ Ok h → h ≡ record { world = w; lines = Dead (actor_of e) ∷ [] }
@@ -148,6 +149,7 @@ junk_stays m w (AReplica i) bytes h e =
 junk_stays m w (Another k i) bytes h e =
     let r = ignores (next k) (at_other k w i) (slice_get (seats k w.others) i) bytes (reading bytes) h (other_ignores k bytes) e in
     world_stays w h _ r.2.is (other_idles w r.0 r.1 k i r.2.seat r.2.found)
+junk_stays m w _ bytes h e = absurd cc
 
 pub junk_changes_nothing : {S : Type 0} (m : Meaning S) (w : WorldState) (actor : Actor) (bytes : List ℕ) (h : Happened)
     → step m w (Junk actor bytes) ≡ Ok h → h.world ≡ w

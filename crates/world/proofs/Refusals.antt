@@ -58,6 +58,7 @@ actor_refusal m w (AReplica i) what h =
     then_refusal (at_replica w i) _ ∙ at_refusal (replica.next m) w.replicas i w.config.replicas what h.replicas
 actor_refusal m w (Another k i) what h =
     then_refusal (at_other k w i) _ ∙ at_refusal (next k) (seats k w.others) i (count k w.config) what (h.others k)
+actor_refusal m w _ what h = refl
 
 -- ---- what the event delivers
 
@@ -138,6 +139,7 @@ step_of_has_actors m w (Another k i) what h has e = then_has_actors (at_other k 
       others = others_become (λ j ps. length ps ≡ count j w.config) w.others k (slice_set (seats k w.others) i p.0)
           (length-set (seats k w.others) i p.0 ∙ has.others k) has.others;
     }) e
+step_of_has_actors m w _ what h has e = absurd cc
 
 pub step_has_actors : {S : Type 0} (m : Meaning S) (w : WorldState) (e : Event) (h : Happened) → HasActors w → step m w e ≡ Ok h
     → HasActors h.world

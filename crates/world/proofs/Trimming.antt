@@ -22,6 +22,10 @@ lines_from-untrimmed from n (outs.Submitted r ∷ os) = ap (λ (l : List Line). 
 lines_from-untrimmed from n (outs.Accepted client id result ∷ os) =
     ap (λ (l : List Line). lines.Accept client id result ∷ l) (lines_from-untrimmed from n os)
 lines_from-untrimmed from n (outs.Busy client ∷ os) = ap (λ (l : List Line). lines.Busy client ∷ l) (lines_from-untrimmed from n os)
+lines_from-untrimmed from n (outs.Reading client id observer key ∷ os) =
+    ap (λ (l : List Line). lines.Read client id observer key ∷ l) (lines_from-untrimmed from n os)
+lines_from-untrimmed from n (outs.Answered client id observer position result ∷ os) =
+    ap (λ (l : List Line). lines.Answer client id observer position result ∷ l) (lines_from-untrimmed from n os)
 lines_from-untrimmed from n (outs.Trimmed first entries ∷ os) = lines_from-untrimmed from n os
 
 pub lines_by-untrimmed : (from : Actor) (n : ℕ) (did : Option (List Out))

@@ -17,6 +17,7 @@ timers_if (Some p) timers = timers
 abbrev pub timers_by : WorldState → Who → List (Tick × ℕ)
 timers_by w (AReplica i) = timers_if (slice_get w.replicas i) replica.timers
 timers_by w (Another k i) = timers_if (slice_get (seats k w.others) i) (timers k)
+timers_by w _ = []
 
 -- the timers of an actor in order, with their periods in milliseconds
 abbrev pub timers_of : WorldState → Actor → List (Tick × ℕ)

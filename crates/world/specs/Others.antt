@@ -70,15 +70,18 @@ with_seat k o i p = with_seats k o (slice_set (seats k o) i p)
 pub data Who : Type 0 where
   AReplica : ℕ → Who
   Another : Kind → ℕ → Who
+  AnObserver : ℕ → Who
 
 abbrev pub who : Actor → Who
 who (actors.Replica i) = AReplica i
 who (actors.Sequencer i) = Another Sequencers i
 who (actors.Client i) = Another Clients i
 who (actors.Controller i) = Another Controllers i
+who (actors.Observer i) = AnObserver i
 
 abbrev pub actor_at : Who → Actor
 actor_at (AReplica i) = actors.Replica i
 actor_at (Another Sequencers i) = actors.Sequencer i
 actor_at (Another Clients i) = actors.Client i
 actor_at (Another Controllers i) = actors.Controller i
+actor_at (AnObserver i) = actors.Observer i

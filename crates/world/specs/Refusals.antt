@@ -1,5 +1,5 @@
 -- When an event is refused: the first cause that holds, in the order of the causes.
-use Rattle.std.specs.Prelude.{◌≡◌, Bool, true, ◌&&◌, if◌then◌else◌, length, nat_lt, Option, Some, None, Result, Ok, Err}
+use Rattle.std.specs.Prelude.{◌≡◌, Bool, true, false, ◌&&◌, if◌then◌else◌, length, nat_lt, Option, Some, None, Result, Ok, Err}
 use Rattle.nop_types.specs.Configuration.{Configuration}
 use Rattle.nop_types.specs.declared.datagram.Datagram.{Datagram}
 use Rattle.nop_types.specs.declared.output.Actor.{Actor}
@@ -19,6 +19,7 @@ pub record HasActors (w : WorldState) : Type 0 where
 abbrev pub is_one_of : Configuration → Who → Bool
 is_one_of c (AReplica i) = nat_lt i c.replicas
 is_one_of c (Another k i) = nat_lt i (count k c)
+is_one_of c _ = false
 
 abbrev pub is_actor : Configuration → Actor → Bool
 is_actor c actor = is_one_of c (who actor)

@@ -115,10 +115,11 @@ step_at next (Some p) what = step_with next p what
 -- ---- events
 
 module _ {S : Type 0} (m : Meaning S) where
-  -- the step of an actor
+  -- the step of an actor; no observer is there
   abbrev pub step_of : WorldState → Who → Result Stimulus Refusal → Result Happened Refusal
   step_of w (AReplica i) what = then_at (at_replica w i) (step_at (replica.next m) (slice_get w.replicas i) what)
   step_of w (Another k i) what = then_at (at_other k w i) (step_at (next k) (slice_get (seats k w.others) i) what)
+  step_of w _ what = Err NoSuchActor
 
   -- one event is one step of one actor, unless it is refused
   unfoldable pub step : WorldState → Event → Result Happened Refusal
@@ -204,6 +205,7 @@ crashed_in (Some p) = p.crashed
 abbrev pub crashed_by : WorldState → Who → Bool
 crashed_by w (AReplica i) = crashed_in (slice_get w.replicas i)
 crashed_by w (Another k i) = crashed_in (slice_get (seats k w.others) i)
+crashed_by w _ = false
 
 -- whether an actor crashed, false for an actor that is not of the configuration
 abbrev pub has_crashed : WorldState → Actor → Bool

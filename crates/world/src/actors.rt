@@ -164,6 +164,7 @@ impl<H: Host> Actors<H> {
                     event,
                 )
             }
+            Actor::Observer(_) => Err(StepError::NoSuchActor),
         }
     }
 
@@ -235,6 +236,7 @@ impl<H: Host> Actors<H> {
             Actor::Sequencer(i) => is_crashed(&self.sequencers, i as usize),
             Actor::Client(i) => is_crashed(&self.clients, i as usize),
             Actor::Controller(i) => is_crashed(&self.controllers, i as usize),
+            Actor::Observer(_) => false,
         }
     }
 }

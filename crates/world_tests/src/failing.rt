@@ -35,7 +35,7 @@ fn fails_for_good<H: Host>(rt: &impl Abort, world: &mut World<H>) -> bool {
 }
 
 fn opened<H: Host>(alloc: Global) -> Option<World<H>> {
-    let config = Config::new(3, 1, 1, 1)?;
+    let config = Config::new(3, 1, 1, 1, 0)?;
     World::new(alloc, config).ok()
 }
 

@@ -6,7 +6,7 @@ use replay::replay;
 use std::alloc::Global;
 use std::process::Abort;
 
-/// A schedule, and its transcript: no events, two crashes of one replica, a refused event, an actor that is not there. In the last one a
+/// A schedule, and its transcript: no events, two crashes of one replica, a refused event, actors that are not there. In the last one a
 /// put is synchronised by replicas 0 and 2 while replica 1 has nothing. That one asks for the slot, is told the checkpoint, and leads the
 /// next view, in which a get finds the value; at the end the put is in its log too.
 const REPLAYS: &str = "\
@@ -38,6 +38,12 @@ error line 4 rule 8 index 1 sent 1
 ----
 nopaxos 1 replicas 1 sequencers 1 clients 1
 deliver 0 r1
+|
+transcript 1 replicas 1 sequencers 1 clients 1
+error line 2 rule 7
+----
+nopaxos 1 replicas 1 sequencers 1 clients 1
+crash o0
 |
 transcript 1 replicas 1 sequencers 1 clients 1
 error line 2 rule 7

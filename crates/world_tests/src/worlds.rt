@@ -1,5 +1,5 @@
 use kv_host::KvHost;
-use nop_types::{Actor, Config, Dest, Entry, Host, Out, Outbox};
+use nop_types::{Actor, Config, Dest, Entry, Host, Out, Outbox, Tick};
 use outside::ReadMem;
 use safety::run_events;
 use schedule_text::{Event, Reader};
@@ -147,7 +147,7 @@ fn check_events<H: Host>(rt: &impl Abort, alloc: Global, config: Config, events:
 
 #[test]
 fn a_put_over_three_replicas(rt: HostRuntime) {
-    let config = Config::new(3, 1, 1, 1).expect(&rt, "a group");
+    let config = Config::new(3, 1, 1, 1, 0).expect(&rt, "a group");
     let events = events_of(&rt, rt.alloc(), ONE_PUT);
     check_events::<KvHost>(&rt, rt.alloc(), config, &events);
 }
@@ -169,7 +169,7 @@ fn given_by<H: Host>(rt: &impl Abort, world: &mut World<H>, event: &Event) -> Op
 
 #[test]
 fn outputs_as_values(rt: HostRuntime) {
-    let config = Config::new(3, 1, 1, 1).expect(&rt, "a group");
+    let config = Config::new(3, 1, 1, 1, 0).expect(&rt, "a group");
     let events = events_of(&rt, rt.alloc(), ONE_PUT);
     let world = World::new(rt.alloc(), config);
     let mut world: World<KvHost> = world.ok().expect(&rt, "memory");
@@ -212,11 +212,28 @@ const SENT_BY_THEM: &str = "\
 
 #[test]
 fn two_controllers(rt: HostRuntime) {
-    let config = Config::new(3, 2, 1, 2).expect(&rt, "a group");
+    let config = Config::new(3, 2, 1, 2, 0).expect(&rt, "a group");
     let events = events_of(&rt, rt.alloc(), TWO_CONTROLLERS);
     let world: Result<World<KvHost>, StepError> = run_events(rt.alloc(), config, &events);
     let world = world.ok().expect(&rt, "refused");
     check_all_sent(&rt, rt.alloc(), &world, SENT_BY_THEM);
     assert!(rt; world.sent_to(2) == Some(Dest::One(Actor::Controller(1))));
     assert!(rt; world.sent_to(3) == Some(Dest::One(Actor::Controller(0))));
+}
+
+fn check_refused<H: Host>(rt: &impl Abort, world: &mut World<H>, event: &Event) {
+    let refused = world.step(event).err();
+    assert!(rt; refused == Some(StepError::NoSuchActor));
+}
+
+#[test]
+fn no_observers(rt: HostRuntime) {
+    let config = Config::new(3, 1, 1, 1, 0).expect(&rt, "a group");
+    let world = World::new(rt.alloc(), config);
+    let mut world: World<KvHost> = world.ok().expect(&rt, "memory");
+    let observer = Actor::Observer(0);
+    check_refused(&rt, &mut world, &Event::Deliver(0, observer));
+    check_refused(&rt, &mut world, &Event::Tick(observer, Tick::Resend));
+    check_refused(&rt, &mut world, &Event::Crash(observer));
+    assert!(rt; !world.crashed(observer) && world.timer(observer, 0).is_none());
 }

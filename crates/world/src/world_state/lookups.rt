@@ -27,6 +27,7 @@ impl<H: Host> World<H> {
             Actor::Sequencer(number) => timer_at(&self.actors.sequencers, number as usize, i),
             Actor::Client(number) => timer_at(&self.actors.clients, number as usize, i),
             Actor::Controller(number) => timer_at(&self.actors.controllers, number as usize, i),
+            Actor::Observer(_) => None,
         }
     }
 

@@ -1,4 +1,4 @@
-use Rattle.sequencer.proofs.Ignoring.{ignores_packet, ignores_tick, ignores_op}
+use Rattle.sequencer.proofs.Ignoring.{ignores_packet, ignores_tick, ignores_op, ignores_read}
 use Rattle.sequencer.proofs.laws.ignores_what_is_for_others.Goals as goal
 
 pub returns-clause-packets : goal.returns-clause-packets
@@ -9,3 +9,6 @@ returns-clause-ticks c = ignores_tick
 
 pub returns-clause-ops : goal.returns-clause-ops
 returns-clause-ops c = ignores_op
+
+pub returns-clause-reads : goal.returns-clause-reads
+returns-clause-reads c = ignores_read
