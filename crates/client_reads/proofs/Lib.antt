@@ -1,0 +1,5 @@
+pub mod Counts
+pub mod Ignoring
+pub mod Ranges
+pub mod RowLemmas
+pub mod Turns

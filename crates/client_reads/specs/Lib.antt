@@ -1,0 +1,4 @@
+pub mod Ignoring
+pub mod ReadSteps
+pub mod Rows
+pub mod Runs
