@@ -1,17 +1,23 @@
 -- What comes to an observer of a run was said in the last configuration; so what it reads is right there.
 use Rattle.std.proofs.Common.{◌≡◌, ℕ, Bool, true, false, List, [], ◌∷◌, Option, Some, None, refl, sym, ap, subst, ◌∙◌, inl, inr}
-use Rattle.std.specs.Prelude.{◌/◌, ◌==◌, Result, Ok, nat_lt}
+use Rattle.std.specs.Prelude.{◌/◌, ◌==◌, ◌⊎◌, Result, Ok, nat_lt}
 use Rattle.nop_types.specs.Checkpoints.{KeepsTo}
 use Rattle.nop_types.specs.Configuration.{Configuration}
-use Rattle.nop_types.specs.Given.{Packet}
+use Rattle.nop_types.specs.Given.{Given, Packet}
 use Rattle.nop_types.specs.Lists.{Has}
 use Rattle.nop_types.specs.Logs.{Whole, Trimmed}
 use Rattle.nop_types.specs.Meaning.{Meaning}
 use Rattle.nop_types.specs.Ranges.{BodyIsIn}
+use Rattle.nop_types.specs.declared.datagram.Answer.{Answer}
 use Rattle.nop_types.specs.declared.datagram.Datagram.{Datagram}
 use Rattle.nop_types.specs.declared.datagram.Datagram.TheVariants as datagrams
 use Rattle.nop_types.specs.declared.datagram.Fragment.{Fragment}
+use Rattle.nop_types.specs.declared.datagram.Read.{Read}
 use Rattle.nop_types.specs.declared.output.Actor.{Actor}
+use Rattle.nop_types.specs.declared.output.Actor.TheVariants.{Client}
+use Rattle.nop_types.specs.declared.output.Dest.TheVariants.{One}
+use Rattle.nop_types.specs.declared.output.Out.{Out}
+use Rattle.nop_types.specs.declared.output.Out.TheVariants.{Send}
 use Rattle.nop_types.specs.declared.peer.Body.{Body}
 use Rattle.nop_types.specs.declared.peer.Body.TheVariants as bodies
 use Rattle.nop_types.specs.declared.peer.Peer.{Peer}
@@ -19,6 +25,7 @@ use Rattle.nop_types.specs.declared.request.Entry.{Entry}
 use Rattle.lemmas.proofs.Members.{Has-first, Has-rest}
 use Rattle.oum_codec.specs.declared.bad.Bad.{Bad}
 use Rattle.oum_codec.specs.Reading.{reading}
+use Rattle.oum_codec.specs.Spelling.{spelling}
 use Rattle.peer_codec.specs.Reading as peers
 use Rattle.fragments.specs.Joining.{Waiting, taken}
 use Rattle.fragments.specs.Runs.{AllCame}
@@ -45,14 +52,15 @@ use Rattle.whole_world.proofs.Mapped.{Has-map}
 use Rattle.safety.specs.Following.{all_brought, bytes_of, FollowsWhole, JoinsTrimmed}
 use Rattle.safety.specs.Safe.{SafelyPassed}
 use Rattle.safety.proofs.Whole.{runs_are_safe}
-use Rattle.observer.specs.Hearing.{Observer, of_sender_if, read, joined, fragment_if, on_datagram, after, opening as unread}
+use Rattle.observer.specs.Hearing.{Hearing, of_sender_if, read, joined, fragment_if, fragment}
+use Rattle.observer.specs.ObserverSteps.{Observer, answered, on_datagram, next, after, get_of, opening as unread}
 use Rattle.observer.specs.Observing.{Observing, position, told, answer}
 use Rattle.observer.specs.Observing as observing
 use Rattle.observer_laws.specs.Trimmed.{TellsPlain, trimmed_observing}
 use Rattle.observer_laws.specs.Watching.{Watched, ReadsMain}
 use Rattle.observer_laws.proofs.Trims.{told_trims, answer_trims}
 use Rattle.observer_laws.proofs.Watched.{opens_watched, rows_are_watched, watched_read_main}
-use Rattle.observed_runs.specs.Observers.{ReadsHistory, ObserversReadTheHistory}
+use Rattle.observed_runs.specs.Observers.{ReadsHistory, AnswersHistory, IsRead, ObserversReadTheHistory}
 
 -- a whole message tells a log that is kept whole
 plain_body : (b : Body) → BodyIsIn Whole b → TellsPlain b
@@ -68,14 +76,14 @@ module _ {S : Type 0} (m : Meaning S) (IsSound : S → Type 0) (keeps : KeepsTo 
   net = fragments_among (bytes_of t.sent)
 
   -- it is a watched one, trimmed; and what it keeps of messages came in fragments
-  record Stands (s : Observer) : Type 0 where
+  record Stands (s : Hearing) : Type 0 where
     whole : Observing
     is : s.state ≡ trimmed_observing m whole
     watched : Watched f c whole
     came : AllCame net s.reassembly
 
   -- a message that was sent
-  told_stands : (s : Observer) (p : Peer) → Stands s → Has (peers_of w.letters) p → (b : Bool)
+  told_stands : (s : Hearing) (p : Peer) → Stands s → Has (peers_of w.letters) p → (b : Bool)
       → Stands (of_sender_if m n b s (trimmed_peer m p))
   told_stands s p h has false = h
   told_stands s p h has true =
@@ -88,7 +96,7 @@ module _ {S : Type 0} (m : Meaning S) (IsSound : S → Type 0) (keeps : KeepsTo 
         came = h.came;
       }
 
-  joined_stands : (s : Observer) (q : Fragment) (bytes : List ℕ) → Stands s → JoinsTrimmed m w q bytes
+  joined_stands : (s : Hearing) (q : Fragment) (bytes : List ℕ) → Stands s → JoinsTrimmed m w q bytes
       → Stands (read m n s q.replica (peers.reading bytes))
   joined_stands s q bytes h j =
       let x : IsLetter w.letters q.replica q.message j.peer = letter_found w.letters q.replica q.message j.peer j.letter in
@@ -97,11 +105,11 @@ module _ {S : Type 0} (m : Meaning S) (IsSound : S → Type 0) (keeps : KeepsTo 
       subst (λ (r : Result Peer _). Stands (read m n s q.replica r)) (sym j.read)
       (told_stands s j.peer h has ((trimmed_peer m j.peer).sender == q.replica))
 
-  fragment_stands : (s : Observer) (bytes : List ℕ) (q : Fragment) → Stands s → Has (bytes_of t.sent) bytes
+  fragment_stands : (s : Hearing) (bytes : List ℕ) (q : Fragment) → Stands s → Has (bytes_of t.sent) bytes
       → reading bytes ≡ Ok (datagrams.Fragment q) → Stands (fragment_if m n true s q)
   fragment_stands s bytes q h has is = by (taken s.reassembly q).1 refl
     where
-      then : Observer
+      then : Hearing
       then = record s { reassembly = (taken s.reassembly q).0 }
 
       kept : Stands (record s { reassembly = (taken s.reassembly q).0 })
@@ -119,44 +127,61 @@ module _ {S : Type 0} (m : Meaning S) (IsSound : S → Type 0) (keeps : KeepsTo 
           joined_stands (record s { reassembly = (taken s.reassembly q).0 }) q whole kept
           (joins s.reassembly q whole h.came (among_has (bytes_of t.sent) bytes q has is) e)
 
-  if_stands : (s : Observer) (bytes : List ℕ) (q : Fragment) → Stands s → Has (bytes_of t.sent) bytes
+  if_stands : (s : Hearing) (bytes : List ℕ) (q : Fragment) → Stands s → Has (bytes_of t.sent) bytes
       → reading bytes ≡ Ok (datagrams.Fragment q) → (b : Bool) → Stands (fragment_if m n b s q)
   if_stands s bytes q h has is true = fragment_stands s bytes q h has is
   if_stands s bytes q h has is false = h
 
-  datagram_stands : (s : Observer) (bytes : List ℕ) → Stands s → Has (bytes_of t.sent) bytes → (r : Result Datagram Bad) → reading bytes ≡ r
-      → Stands (on_datagram m n s r)
-  datagram_stands s bytes h has (Ok (datagrams.Fragment q)) is = if_stands s bytes q h has is (nat_lt q.replica n)
-  datagram_stands s bytes h has r is = h
+  -- and it keeps its numbers
+  record StandsAs (i : ℕ) (s : Observer) : Type 0 where
+    replicas : s.config.replicas ≡ n
+    number : s.number ≡ i
+    heard : Stands s.heard
 
-  one_stands : (s : Observer) (bytes : List ℕ) → Stands s → MayCome (bytes_of t.sent) (Packet bytes)
-      → Stands (on_datagram m n s (reading bytes))
-  one_stands s bytes h may = elim may [
-    | inl has ↦ datagram_stands s bytes h has (reading bytes) refl
-    | inr none ↦ subst (λ (r : Result Datagram Bad). Stands (on_datagram m n s r)) (sym none.refused) h
-  ]
+  datagram_stands : (i : ℕ) (s : Observer) (bytes : List ℕ) → StandsAs i s → Has (bytes_of t.sent) bytes → (r : Result Datagram Bad)
+      → reading bytes ≡ r → StandsAs i (on_datagram m s r).0
+  datagram_stands i s bytes h has (Ok (datagrams.Fragment q)) is =
+      record {
+        replicas = h.replicas;
+        number = h.number;
+        heard = subst (λ (k : ℕ). Stands (fragment m k s.heard q)) (sym h.replicas)
+            (if_stands s.heard bytes q h.heard has is (nat_lt q.replica n));
+      }
+  datagram_stands i s bytes h has r is = h
 
-  all_stand : (came : List (List ℕ)) (s : Observer) → Stands s → ((bytes : List ℕ) → Has came bytes → MayCome (bytes_of t.sent) (Packet bytes))
-      → Stands (after m n s came)
-  all_stand [] s h may = h
-  all_stand (bytes ∷ rest) s h may =
-      all_stand rest (on_datagram m n s (reading bytes)) (one_stands s bytes h (may bytes (Has-first bytes bytes rest refl)))
-      (λ b i. may b (Has-rest b bytes rest i))
+  packet_stands : (i : ℕ) (s : Observer) (bytes : List ℕ) → StandsAs i s → MayCome (bytes_of t.sent) (Packet bytes) ⊎ IsRead (Packet bytes)
+      → StandsAs i (on_datagram m s (reading bytes)).0
+  packet_stands i s bytes h (inl (inl has)) = datagram_stands i s bytes h has (reading bytes) refl
+  packet_stands i s bytes h (inl (inr none)) = subst (λ (r : Result Datagram Bad). StandsAs i (on_datagram m s r).0) (sym none.refused) h
+  packet_stands i s bytes h (inr r) = subst (λ (x : Result Datagram Bad). StandsAs i (on_datagram m s x).0) (sym r.1) h
 
-  unread_stands : Stands (unread n)
-  unread_stands = record {
-    whole = observing.opening;
-    is = refl;
-    watched = opens_watched f c;
-    came = opening_came net n;
+  one_stands : (i : ℕ) (s : Observer) (x : Given) → StandsAs i s → MayCome (bytes_of t.sent) x ⊎ IsRead x → StandsAs i (next m s x).0
+  unfolding next
+  one_stands i s (Packet bytes) h may = packet_stands i s bytes h may
+  one_stands i s x h may = h
+
+  all_stand : (i : ℕ) (came : List Given) (s : Observer) → StandsAs i s
+      → ((x : Given) → Has came x → MayCome (bytes_of t.sent) x ⊎ IsRead x) → StandsAs i (after m s came)
+  all_stand i [] s h may = h
+  all_stand i (x ∷ rest) s h may =
+      all_stand i rest (next m s x).0 (one_stands i s x h (may x (Has-first x x rest refl))) (λ y has. may y (Has-rest y x rest has))
+
+  opening_stands : (config : Configuration) (i : ℕ) → config.replicas ≡ n → StandsAs i (unread config i)
+  opening_stands config i is = record {
+    replicas = is;
+    number = refl;
+    heard = record {
+      whole = observing.opening;
+      is = refl;
+      watched = opens_watched f c;
+      came = opening_came net config.replicas;
+    };
   }
 
   -- so a read is right
-  pub reads_right : (main : List Entry) → ((s : Observing) → Watched f c s → ReadsMain m main s) → main_log t ≡ main
-      → (came : List (List ℕ)) → ((bytes : List ℕ) → Has came bytes → MayCome (bytes_of t.sent) (Packet bytes))
-      → ReadsHistory m t (after m n (unread n) came).state
-  reads_right main right same came may =
-      let x : Stands (after m n (unread n) came) = all_stand came (unread n) unread_stands may in
+  reads_right : (main : List Entry) → ((s : Observing) → Watched f c s → ReadsMain m main s) → main_log t ≡ main
+      → (s : Hearing) → Stands s → ReadsHistory m t s.state
+  reads_right main right same s x =
       let r : ReadsMain m (main_log t) x.whole = subst (λ (log : List Entry). ReadsMain m log x.whole) (sym same) (right x.whole x.watched) in
       subst (ReadsHistory m t) (sym x.is)
       (record {
@@ -164,6 +189,47 @@ module _ {S : Type 0} (m : Meaning S) (IsSound : S → Type 0) (keeps : KeepsTo 
         members = r.members;
         answers = λ op. answer_trims m IsSound keeps x.whole op ∙ r.answers op;
       })
+
+  answer_is : (i : ℕ) (s : Observer) (bytes : List ℕ) (q : Read) → reading bytes ≡ Ok (datagrams.Read q)
+      → next m s (Packet bytes) ≡ (s, answered m s q ∷ [])
+  unfolding next
+  answer_is i s bytes q is = ap (on_datagram m s) is
+
+  pub answers_right : (main : List Entry) → ((s : Observing) → Watched f c s → ReadsMain m main s) → main_log t ≡ main
+      → (config : Configuration) (i : ℕ) → config.replicas ≡ n → (came : List Given)
+      → ((x : Given) → Has came x → MayCome (bytes_of t.sent) x ⊎ IsRead x)
+      → AnswersHistory m t i (after m (unread config i) came)
+  answers_right main right same config i is came may =
+      let s : Observer = after m (unread config i) came in
+      let x : StandsAs i s = all_stand i came (unread config i) (opening_stands config i is) may in
+      let reads : ReadsHistory m t s.heard.state = reads_right main right same s.heard x.heard in
+      record {
+        reads = reads;
+        answers = λ bytes q e. answer_is i s bytes q e
+            ∙ ap (λ (k : ℕ). (
+              s,
+              to_client q (record {
+                observer = k;
+                position = position s.heard.state;
+                client = q.client;
+                id = q.id;
+                result = answer m Trimmed s.heard.state (get_of q.key);
+              }) ∷ [],
+            )) x.number
+            ∙ ap (λ (result : List ℕ). (
+              s,
+              to_client q (record {
+                observer = i;
+                position = position s.heard.state;
+                client = q.client;
+                id = q.id;
+                result = result;
+              }) ∷ [],
+            )) (reads.answers (get_of q.key));
+      }
+    where
+      to_client : Read → Answer → Out
+      to_client q a = Send (One (Client q.client)) (spelling (datagrams.Answer a))
 
 -- ---- at the end of each run
 
@@ -188,14 +254,14 @@ module _ {S : Type 0} (m : Meaning S) (IsSound : S → Type 0) (keeps : KeepsTo 
   is_main : IsMainLog (config.replicas / 2) safe.conf (whole.main_view w) (whole.main_log w)
   is_main = is_main_log m (config.replicas / 2) w safe.conf safe.inv safe.shows.actors
 
-  pub at_last : (came : List (List ℕ)) → ((bytes : List ℕ) → Has came bytes → MayCome (bytes_of h.world.sent) (Packet bytes))
-      → ReadsHistory m h.world (after m config.replicas (unread config.replicas) came).state
-  at_last came may =
-      reads_right m IsSound keeps (config.replicas / 2) safe.conf safe.inv safe.sync w safe.shows.tells h.world follows.joins
+  pub at_last : (i : ℕ) (came : List Given) → ((x : Given) → Has came x → MayCome (bytes_of h.world.sent) x ⊎ IsRead x)
+      → AnswersHistory m h.world i (after m (unread config i) came)
+  at_last i came may =
+      answers_right m IsSound keeps (config.replicas / 2) safe.conf safe.inv safe.sync w safe.shows.tells h.world follows.joins
       config.replicas (whole.main_log w)
       (λ s x. watched_read_main m (config.replicas / 2) safe.conf safe.inv safe.sync (whole.main_view w) (whole.main_log w) is_main s x)
-      follows.main came may
+      follows.main config i refl came may
 
 pub observers_read_the_history : {S : Type 0} (m : Meaning S) (IsSound : S → Type 0) → KeepsTo m IsSound → ObserversReadTheHistory m
-observers_read_the_history m IsSound keeps config es h is fit e came may =
-    at_last m IsSound keeps config es h (runs_are_safe m IsSound keeps config es h is fit e) came may
+observers_read_the_history m IsSound keeps config es h is fit e i came may =
+    at_last m IsSound keeps config es h (runs_are_safe m IsSound keeps config es h is fit e) i came may

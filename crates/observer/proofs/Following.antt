@@ -1,95 +1,110 @@
--- A host and a table go on as a trimmed log does.
-use Rattle.std.proofs.Common.{◌≡◌, ℕ, ◌-◌, ◌+◌, ◌≤◌, ◌<◌, Bool, true, List, [], ◌++◌, length, take, drop, Option, Some, refl, sym, ap, subst, ◌∙◌, arith}
-use Rattle.std.specs.Prelude.{slice_range, nat_le, nat_lt}
+-- A host and a table go on as the trimmed log that they were left by.
+use Rattle.std.proofs.Common.{◌≡◌, ℕ, ◌-◌, ◌+◌, ◌≤◌, ◌<◌, Bool, true, false, cond, List, [], length, take, drop, Option, Some, None}
+use Rattle.std.proofs.Common.{refl, sym, ap, subst, ◌∙◌, arith}
+use Rattle.std.specs.Prelude.{slice_range, nat_le, nat_lt, is_some, IfSome}
 use Rattle.std.specs.Option.{option_map, unwrap_or}
+use Rattle.std.specs.FinMap as finite
+use Rattle.std.proofs.lemmas.Bool.{and_parts}
 use Rattle.std.proofs.lemmas.Bool.Decides.{nat_tests}
 use Rattle.std.proofs.lemmas.List.{take_all, drop_all, length-take}
+use Rattle.std.proofs.lemmas.Option.{same_Some}
 use Rattle.nop_types.specs.declared.request.Entry.{Entry}
 use Rattle.nop_types.specs.declared.view.View.{View}
-use Rattle.nop_types.specs.Checkpoints.{KeepsTo, checkpoint_of}
+use Rattle.nop_types.specs.Checkpoints.{Checkpoint, CheckpointFits, KeepsTo, checkpoint_of, loaded_of, are_saved}
 use Rattle.nop_types.specs.CheckpointedLogs.{beginning, executed}
 use Rattle.nop_types.specs.Execution.{Executed, opening, exec_kept}
-use Rattle.nop_types.specs.Logs.{Log, Trimmed, above}
+use Rattle.nop_types.specs.Logs.{Log, Trimmed, first}
 use Rattle.nop_types.specs.Meaning.{Meaning}
+use Rattle.nop_types.specs.Ranges.{LogFits}
 use Rattle.nop_types.specs.Views.{is_view}
 use Rattle.execution_laws.proofs.Saving.{checkpoint_loads}
-use Rattle.observer.specs.Observing.{Observing, Candidate, followed, may_follow, commit, commit_by, commit_if}
-use Rattle.observer.specs.declared.told.Told.{Told}
-use Rattle.observer.specs.declared.synced.SyncedHost.{SyncedHost}
-use Rattle.observer.specs.Known.{candidate_of, execution_in, Stands, ToldFits}
+use Rattle.observer.specs.Observing.{Observing, Candidate, known_with, followed, may_follow, commit, commit_by, commit_if}
+use Rattle.observer.specs.Known.{log_of}
+use Rattle.observer.proofs.Saved.{entries_of_saved}
 
 module _ {S : Type 0} (m : Meaning S) (IsSound : S → Type 0) (keeps : KeepsTo m IsSound) where
-  -- the entries of a log between two slots
-  abbrev more : Log → ℕ → ℕ → List Entry
-  more l p n = take (n - p) (drop (p - l.sync_point) l.entries)
-
-  abbrev wider : Log → Log → ℕ → Log
-  wider known l n = record known { entries = known.entries ++ more l known.sync_point n }
-
-  more_fits : (l : Log) (p n : ℕ) → length (more l p n) ≤ n - p
-  more_fits l p n = omega (arith, length-take (n - p) (drop (p - l.sync_point) l.entries))
-
-  wider_ends : (known l : Log) (n : ℕ) → known.entries ≡ [] → above Trimmed (wider known l n) n ≡ []
-  wider_ends known l n none =
-      ap (λ (es : List Entry). drop (n - known.sync_point) (es ++ more l known.sync_point n)) none
-      ∙ drop_all (n - known.sync_point) (more l known.sync_point n) (more_fits l known.sync_point n)
-
-  wider_executed : (known l : Log) (n : ℕ) → known.entries ≡ [] → l.sync_point ≤ known.sync_point → known.sync_point < n
-      → executed m Trimmed (wider known l n) n ≡ exec_kept m (beginning m known.checkpoint)
-      (slice_range l.entries (known.sync_point - l.sync_point) (n - l.sync_point))
-  wider_executed known l n none low up =
-      let p : ℕ = known.sync_point in
-      let count : n - p ≡ (n - l.sync_point) - (p - l.sync_point) = omega (arith, low, up) in
-      ap (λ (es : List Entry). exec_kept m (beginning m known.checkpoint) (take (n - p) (es ++ more l p n))) none
-      ∙ ap (exec_kept m (beginning m known.checkpoint)) (take_all (n - p) (more l p n) (more_fits l p n))
-      ∙ ap (λ (k : ℕ). exec_kept m (beginning m known.checkpoint) (take k (drop (p - l.sync_point) l.entries))) count
-
-  commit_is : (s : Observing) (c : Candidate) (w : View) (n : ℕ) → s.candidate ≡ Some c → may_follow Trimmed s c w n ≡ true
-      → commit m Trimmed s w n ≡ record s { known = followed m Trimmed s.known c.log n }
-  commit_is s c w n has may =
-      ap (λ (o : Option Candidate). commit_by m Trimmed o s w n) has ∙ ap (λ (b : Bool). commit_if m Trimmed b s c.log n) may
+  -- ---- what an execution left
 
   begins_saved : (x : Executed S) → IsSound x.host → beginning m (Some (checkpoint_of m x)) ≡ x
   begins_saved x sound = ap (λ (o : Option (Executed S)). unwrap_or o (opening m)) (checkpoint_loads m IsSound keeps x sound)
 
-  module _ {H U : Type 0} (state : H → S) where
-    pub commit_stands : (w v : SyncedHost H U) (s : Observing) (t : Told) (view : View) (n : ℕ) → Stands state m w s → w.candidate ≡ Some t
-        → ToldFits w.position t → is_view t.view view ≡ true → n ≤ t.log.sync_point + length t.log.entries → w.position < n
-        → execution_in state v ≡ exec_kept m (execution_in state w)
-        (slice_range t.log.entries (w.position - t.log.sync_point) (n - t.log.sync_point))
-        → IsSound (state v.host) → v.position ≡ n → v.candidate ≡ w.candidate → Stands state m v (commit m Trimmed s view n)
-    commit_stands w v s t view n h is fits same within up run sound at kept =
-        subst (Stands state m v) (sym (commit_is s c view n has may)) (record {
-          position = at;
-          execution = sym (begins_saved x by_sound) ∙ ap (λ (y : Executed S). beginning m (Some (checkpoint_of m y))) (sym gone);
-          above = wider_ends s.known t.log n h.above;
-          candidate = ap (option_map candidate_of) kept ∙ h.candidate;
-        })
-      where
-        c : Candidate
-        c = candidate_of t
+  begins_by : (b : Bool) (x : Executed S) → IsSound x.host → (b ≡ false → x ≡ opening m)
+      → beginning m (cond b (Some (checkpoint_of m x)) None) ≡ x
+  begins_by true x sound opens = begins_saved x sound
+  begins_by false x sound opens = sym (opens refl)
 
-        has : s.candidate ≡ Some (candidate_of t)
-        has = sym h.candidate ∙ ap (option_map candidate_of) is
+  -- the execution goes on from the log that it left
+  begins : (n : ℕ) (x : Executed S) → IsSound x.host → (n ≡ 0 → x ≡ opening m) → beginning m (log_of m n x).checkpoint ≡ x
+  begins n x sound opens = begins_by (nat_lt 0 n) x sound (λ e. opens (let z = e in grind (arith, nat_tests, z)))
 
-        le : nat_le n (t.log.sync_point + length t.log.entries) ≡ true
-        le = grind (arith, nat_tests, within)
+  -- which ends there
+  pub executed_is : (n : ℕ) (x : Executed S) → IsSound x.host → (n ≡ 0 → x ≡ opening m) → executed m Trimmed (log_of m n x) n ≡ x
+  executed_is n x sound opens =
+      ap (exec_kept m (beginning m (log_of m n x).checkpoint)) (take_all (n - n) [] (omega arith)) ∙ begins n x sound opens
 
-        lt : nat_lt s.known.sync_point n ≡ true
-        lt = let p = h.position in grind (arith, nat_tests, up, p)
+  -- ---- a checkpoint is taken
 
-        may : may_follow Trimmed s (candidate_of t) view n ≡ true
-        may = rw (same, le, lt) refl
+  clients_saved : (c : Checkpoint) → CheckpointFits c → are_saved 0 c.clients ≡ true
+  clients_saved c fits = (and_parts _ (are_saved 0 c.clients) (and_parts _ _ fits.limits).1).1
 
-        x : Executed S
-        x = execution_in state v
+  saved_by : (c : Checkpoint) (x : Executed S) → CheckpointFits c → (o : Option S) → m.loaded c.host ≡ o
+      → option_map (λ host. record { host = host; table = finite.from_entries c.clients }) o ≡ Some x → checkpoint_of m x ≡ c
+  saved_by c x fits None is e = absurd cc
+  saved_by c x fits (Some host) is e =
+      subst (λ (y : Executed S). checkpoint_of m y ≡ c) (same_Some _ x e)
+      (rw ((keeps.only c.host host is).1, entries_of_saved 0 c.clients (clients_saved c fits)) refl)
 
-        by_sound : IsSound (state v.host)
-        by_sound = sound
+  -- what a checkpoint loads is saved as that checkpoint
+  saved_again : (c : Checkpoint) (x : Executed S) → CheckpointFits c → loaded_of m c ≡ Some x → checkpoint_of m x ≡ c
+  saved_again c x fits e = saved_by c x fits (m.loaded c.host) refl e
 
-        gone : executed m Trimmed (wider s.known t.log n) n ≡ execution_in state v
-        gone = wider_executed s.known t.log n h.above (let f = fits.low in let p = h.position in omega (arith, f, p))
-            (let p = h.position in omega (arith, up, p))
-            ∙ ap (λ (p : ℕ). exec_kept m (beginning m s.known.checkpoint) (slice_range t.log.entries (p - t.log.sync_point) (n - t.log.sync_point))) (sym h.position)
-            ∙ ap (λ (y : Executed S). exec_kept m y (slice_range t.log.entries (w.position - t.log.sync_point) (n - t.log.sync_point))) (sym h.execution)
-            ∙ sym run
+  first_is : (l : Log) (c : Checkpoint) (x : Executed S) → LogFits l → l.checkpoint ≡ Some c → loaded_of m c ≡ Some x
+      → first Trimmed l l.sync_point ≡ log_of m l.sync_point x
+  first_is l c x fits has loads =
+      let some : nat_lt 0 l.sync_point ≡ true = sym fits.checkpoint.0 ∙ ap is_some has in
+      let inside : CheckpointFits c = subst (λ (o : Option Checkpoint). IfSome o CheckpointFits) has fits.checkpoint.1 in
+      let none : take (l.sync_point - l.sync_point) l.entries ≡ [] = rw (le_zero l.sync_point) refl in
+      rw (none, has, some, saved_again c x inside loads) refl
+    where
+      le_zero : (n : ℕ) → n - n ≡ 0
+      le_zero n = omega arith
+
+  -- the sync point of a log is further
+  pub takes_is : (l : Log) (c : Checkpoint) (p : ℕ) (x y : Executed S) → LogFits l → l.checkpoint ≡ Some c → loaded_of m c ≡ Some y
+      → p < l.sync_point → known_with Trimmed l (log_of m p x) ≡ log_of m l.sync_point y
+  takes_is l c p x y fits has loads up =
+      let is : nat_lt p l.sync_point ≡ true = grind (arith, nat_tests, up) in
+      ap (λ (b : Bool). cond b (first Trimmed l l.sync_point) (log_of m p x)) is ∙ first_is l c y fits has loads
+
+  -- ---- a length is committed
+
+  -- the entries of a log between two slots
+  abbrev more : Log → ℕ → ℕ → List Entry
+  more l p n = take (n - p) (drop (p - l.sync_point) l.entries)
+
+  more_fits : (l : Log) (p n : ℕ) → length (more l p n) ≤ n - p
+  more_fits l p n = omega (arith, length-take (n - p) (drop (p - l.sync_point) l.entries))
+
+  followed_is : (l : Log) (p n : ℕ) (x : Executed S) → IsSound x.host → (p ≡ 0 → x ≡ opening m) → l.sync_point ≤ p → p < n
+      → followed m Trimmed (log_of m p x) l n ≡ log_of m n (exec_kept m x (slice_range l.entries (p - l.sync_point) (n - l.sync_point)))
+  followed_is l p n x sound opens low up =
+      let count : n - p ≡ (n - l.sync_point) - (p - l.sync_point) = omega (arith, low, up) in
+      let some : nat_lt 0 n ≡ true = grind (arith, nat_tests, up) in
+      let gone : drop (n - p) (more l p n) ≡ [] = drop_all (n - p) (more l p n) (more_fits l p n) in
+      let kept : take (n - p) (more l p n) ≡ take ((n - l.sync_point) - (p - l.sync_point)) (drop (p - l.sync_point) l.entries) =
+      take_all (n - p) (more l p n) (more_fits l p n) ∙ ap (λ (k : ℕ). take k (drop (p - l.sync_point) l.entries)) count in
+      rw (gone, kept, begins p x sound opens, some) refl
+
+  pub commit_is : (s : Observing) (c : Candidate) (p : ℕ) (x : Executed S) (w : View) (n : ℕ) → s.known ≡ log_of m p x
+      → s.candidate ≡ Some c → IsSound x.host → (p ≡ 0 → x ≡ opening m) → c.log.sync_point ≤ p → is_view c.view w ≡ true
+      → n ≤ c.log.sync_point + length c.log.entries → p < n
+      → commit m Trimmed s w n
+      ≡ record s { known = log_of m n (exec_kept m x (slice_range c.log.entries (p - c.log.sync_point) (n - c.log.sync_point))) }
+  commit_is s c p x w n is has sound opens low same within up =
+      let le : nat_le n (c.log.sync_point + length c.log.entries) ≡ true = grind (arith, nat_tests, within) in
+      let lt : nat_lt s.known.sync_point n ≡ true = rw is (grind (arith, nat_tests, up)) in
+      let may : may_follow Trimmed s c w n ≡ true = rw (same, le, lt) refl in
+      ap (λ (o : Option Candidate). commit_by m Trimmed o s w n) has
+      ∙ ap (λ (b : Bool). commit_if m Trimmed b s c.log n) may
+      ∙ ap (λ (l : Log). record s { known = followed m Trimmed l c.log n }) is
+      ∙ ap (λ (l : Log). record s { known = l }) (followed_is c.log p n x sound opens low up)

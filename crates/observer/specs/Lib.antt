@@ -1,3 +1,4 @@
 pub mod Hearing
 pub mod Known
+pub mod ObserverSteps
 pub mod Observing

@@ -1,23 +1,30 @@
-//! What an observer keeps of a service, and how it reads it: the service as far as it is synchronised.
+//! The observer core, over any host: a service as far as it is synchronised, and read.
 //!
-//! An observer hears what leaders tell at synchronisation. A SyncPrepare brings a log, which becomes the
-//! candidate where it is better than the one before: of a greater view, or of the same and longer. A
-//! checkpoint in it is taken where it is further than the position. A SyncCommit of the candidate's view
-//! has the slots up to its length executed, and the position rise to there. A read answers an op by the
-//! state at the position, and leaves it as it is. Nothing is ever undone.
+//! An observer hears what leaders tell at synchronisation, in fragments. A SyncPrepare brings a log,
+//! which becomes the candidate where it is better than the one before: of a greater view, or of the same
+//! and longer. A checkpoint in it is taken where it is further than the position. A SyncCommit of the
+//! candidate's view has the slots up to its length executed, and the position rise to there. A Read is
+//! answered by the state at the position, to the client that it names, and changes nothing. Nothing is
+//! ever undone, and nothing else is sent.
 //!
 //! The rows are `specs/Observing`, over whole and trimmed logs: the state is a log that ends with its
 //! sync point, which is the position, and a candidate. The code keeps a host and a client table in place
-//! of that log. Proved of `SyncedHost`, over any host: each call takes every state that it stands for to
-//! one that the row gives (`specs/Known`, `Stands`), and a read's answer is the row's. A log whose
-//! checkpoint doesn't load changes nothing. No position falls, whatever comes, forged messages too
-//! (`positions_rise`). After an error of a call nothing is known of it.
+//! of that log; the log that they stand for is that of the checkpoint which they are saved as
+//! (`specs/Known`, `observing_of`). `Observer` meets `Core` with the step table `next`, from `opening`
+//! on, whatever comes, forged datagrams too. A log whose checkpoint doesn't load changes nothing. No
+//! position falls (`positions_rise`).
 //!
-//! What the messages mean, and that the answers are those of the one history, is in `observer_laws`.
+//! What the messages mean, and that the answers are those of the one history, is in `observer_laws` and
+//! `observed_runs`.
 //!
-//! Files: `told`, `entering` (entries and checkpoints executed), `synced`, `laws`.
+//! Calls: `Observer::new`, `step` by the trait, `position`.
+//!
+//! Files: `told`, `entering` (entries and checkpoints executed), `synced`, `asking` (the op for a key),
+//! `observer`, `laws`. Definitions: `specs/ObserverSteps` (`next`, `get_of`), `Hearing`, `Observing`,
+//! `Known`.
 #![tactic(auto)]
 
+mod asking;
 mod entering;
 mod laws;
 mod observer;
@@ -26,5 +33,3 @@ mod told;
 
 pub use laws::positions_rise;
 pub use observer::Observer;
-pub use synced::SyncedHost;
-pub use told::Told;

@@ -1,58 +1,99 @@
-ghost use Rattle.std.specs.Prelude.{◌≡◌, ◌<◌, ◌≤◌, List, ℕ, IfOk, OnOk};
-ghost use Rattle.nop_types.specs.Ranges.{PeerFits};
-ghost use Rattle.observer.specs.Hearing as hearing;
-ghost use Rattle.observer.specs.Hearing.{heard, opening, read};
-ghost use Rattle.observer.specs.Known.{IsHearing, StandsFor};
-ghost use Rattle.observer.specs.Observing.{answer, position, told};
-ghost use Rattle.peer_codec.specs.Reading as peers;
+ghost use Rattle.std.specs.Prelude.{◌≡◌, ◌<◌, ◌++◌, [], ◌∷◌, OnOk, OnErr, IfOk, false};
+ghost use Rattle.nop_types.specs.Given.{given};
+ghost use Rattle.nop_types.specs.Ranges.{PeerFits, ReadFits};
 ghost use Rattle.nop_types.specs.Logs.{Trimmed};
+ghost use Rattle.nop_types.specs.declared.limits.TheConstants.{MAX_OBSERVERS};
+ghost use Rattle.peer_codec.specs.Reading as peers;
+ghost use Rattle.observer.specs.Hearing as hearing;
+ghost use Rattle.observer.specs.Known.{IsHearing, hearing_of, observer_of, observing_of};
+ghost use Rattle.observer.specs.ObserverSteps.{answered, next, opening};
+ghost use Rattle.observer.specs.Observing.{position, told};
 
+use crate::asking::get_of;
 use crate::synced::SyncedHost;
 use fragments::Reassembly;
-use nop_types::{Body, Bytes, Datagram, Fragment, Host, NoMemory, Peer, leader_of};
-use oum_codec::read_datagram;
+use nop_types::{
+    Actor, Answer, Body, Bytes, Config, Core, Datagram, Dest, Fragment, Host, Input, NoMemory,
+    Outbox, Peer, Read, Tick, leader_of,
+};
+use oum_codec::{read_datagram, send_datagram};
 use peer_codec::{BadPeer, decode_peer};
 use std::alloc::Global;
+use std::marker::Model;
 
-/// An observer of a service: what it knows of it, and the fragments of messages that are not complete.
+/// What an observer knows, and the fragments of messages that are not complete, while it has not failed.
 #[derive(Drop)]
-pub struct Observer<H: Host> {
+struct ObserverParts<H: Host> {
     alloc: Global,
-    pub(crate) replicas: u8,
-    pub(crate) synced: SyncedHost<H>,
-    pub(crate) reassembly: Reassembly,
+    config: Config,
+    number: u8,
+    synced: SyncedHost<H>,
+    reassembly: Reassembly,
 }
 
-impl<H: Host> Observer<H> {
-    /// An observer of so many replicas, that knows nothing yet.
-    pub fn new(alloc: Global, replicas: u8) -> Result<Observer<H>, NoMemory>
-        requires { 1 ≤ replicas }
-        ensures ready { IfOk result (λ o. IsHearing H.state H.is_sound o) }
-        ensures replicas { IfOk result (λ o. o.replicas ≡ replicas) }
-        ensures state { IfOk result (λ o. StandsFor H.state H.meaning o (opening replicas)) }
+/// An observer of a service. It follows what leaders synchronise, and answers reads from there.
+pub struct Observer<H: Host> {
+    failed: bool,
+    node: ObserverParts<H>,
+}
+
+// By hand, so that a crate with an observer proves nothing on how its parts are dropped.
+impl<H: Host> Drop for Observer<H> {
+    fn drop(self) {
+        let Observer {
+            failed: _failed,
+            node: _node,
+        } = self;
+    }
+}
+
+impl<H: Host> Model for Observer<H> {
+    ghost use Rattle.std.specs.Prelude.{◌≡◌, false};
+    ghost use Rattle.nop_types.specs.Machine.{Machine};
+    ghost use Rattle.observer.specs.ObserverSteps as steps;
+
+    ghost Value = { Machine steps.Observer };
+
+    ghost use Rattle.observer.specs.Known.{IsHearing, observer_of};
+
+    ghost view = { λ o. record { failed = o.failed; state = observer_of H.Host o.node } };
+
+    ghost invariant = { λ o. o.failed ≡ false → IsHearing H.Host o.node };
+}
+
+impl<H: Host> ObserverParts<H> {
+    /// An observer that knows nothing yet.
+    fn new(alloc: Global, config: Config, number: u8) -> Result<ObserverParts<H>, NoMemory>
+        requires { number < MAX_OBSERVERS }
+        ensures ready { IfOk result (λ n. IsHearing H.Host n) }
+        ensures state { IfOk result (λ n. observer_of H.Host n ≡ opening config number) }
     {
-        Ok(Observer {
+        let synced = SyncedHost::new(alloc)?;
+        let reassembly = Reassembly::new(alloc, config.replicas())?;
+        Ok(ObserverParts {
             alloc,
-            replicas,
-            synced: SyncedHost::new(alloc)?,
-            reassembly: Reassembly::new(alloc, replicas)?,
+            config,
+            number,
+            synced,
+            reassembly,
         })
     }
 
     /// A message comes: of the leader of its view, it is its row; else nothing.
     fn tell(&mut self, message: Peer) -> Result<(), NoMemory>
-        requires ready { IsHearing H.state H.is_sound self.old }
+        requires ready { IsHearing H.Host self.old }
         requires fits { PeerFits message }
-        ensures ready { OnOk result (IsHearing H.state H.is_sound self.new) }
-        ensures replicas { self.new.replicas ≡ self.old.replicas }
-        ensures state { OnOk result ((s : hearing.Observer)
-            → StandsFor H.state H.meaning self.old s
-            → StandsFor H.state H.meaning self.new (record s {
-              state = told H.meaning Trimmed self.old.replicas s.state message;
-            })) }
+        ensures ready { OnOk result (IsHearing H.Host self.new) }
+        ensures config { self.new.config ≡ self.old.config }
+        ensures number { self.new.number ≡ self.old.number }
+        ensures state { OnOk result (hearing_of H.Host self.new
+            ≡ record (hearing_of H.Host self.old) {
+              state = told H.meaning Trimmed self.old.config.replicas
+                  (observing_of H.Host self.old.synced) message;
+            }) }
     {
         let Peer { sender, view, body } = message;
-        if sender != leader_of(view, self.replicas) {
+        if sender != leader_of(view, self.config.replicas()) {
             return Ok(());
         }
         match body {
@@ -64,13 +105,13 @@ impl<H: Host> Observer<H> {
 
     /// Bytes that were joined of the fragments of a replica.
     fn joined(&mut self, replica: u8, bytes: &Bytes) -> Result<(), NoMemory>
-        requires ready { IsHearing H.state H.is_sound self.old }
-        ensures ready { OnOk result (IsHearing H.state H.is_sound self.new) }
-        ensures replicas { self.new.replicas ≡ self.old.replicas }
-        ensures state { OnOk result ((s : hearing.Observer)
-            → StandsFor H.state H.meaning self.old s
-            → StandsFor H.state H.meaning self.new
-            (read H.meaning self.old.replicas s replica (peers.reading bytes.now))) }
+        requires ready { IsHearing H.Host self.old }
+        ensures ready { OnOk result (IsHearing H.Host self.new) }
+        ensures config { self.new.config ≡ self.old.config }
+        ensures number { self.new.number ≡ self.old.number }
+        ensures state { OnOk result (hearing_of H.Host self.new
+            ≡ hearing.read H.meaning self.old.config.replicas (hearing_of H.Host self.old)
+            replica (peers.reading bytes.now)) }
     {
         match decode_peer(self.alloc, bytes.as_slice()) {
             Ok(message) => {
@@ -86,15 +127,15 @@ impl<H: Host> Observer<H> {
 
     /// A fragment comes, of a replica or else for nobody.
     fn fragment(&mut self, fragment: &Fragment) -> Result<(), NoMemory>
-        requires ready { IsHearing H.state H.is_sound self.old }
-        ensures ready { OnOk result (IsHearing H.state H.is_sound self.new) }
-        ensures replicas { self.new.replicas ≡ self.old.replicas }
-        ensures state { OnOk result ((s : hearing.Observer)
-            → StandsFor H.state H.meaning self.old s
-            → StandsFor H.state H.meaning self.new
-            (hearing.fragment H.meaning self.old.replicas s fragment.now)) }
+        requires ready { IsHearing H.Host self.old }
+        ensures ready { OnOk result (IsHearing H.Host self.new) }
+        ensures config { self.new.config ≡ self.old.config }
+        ensures number { self.new.number ≡ self.old.number }
+        ensures state { OnOk result (hearing_of H.Host self.new
+            ≡ hearing.fragment H.meaning self.old.config.replicas
+            (hearing_of H.Host self.old) fragment.now) }
     {
-        if fragment.replica >= self.replicas {
+        if fragment.replica >= self.config.replicas() {
             return Ok(());
         }
         match self.reassembly.take(fragment)? {
@@ -103,41 +144,104 @@ impl<H: Host> Observer<H> {
         }
     }
 
-    /// Bytes come. Fragments are kept until their message is complete; all but fragments is for others.
-    pub fn hear(&mut self, bytes: &[u8]) -> Result<(), NoMemory>
-        requires ready { IsHearing H.state H.is_sound self.old }
-        ensures ready { OnOk result (IsHearing H.state H.is_sound self.new) }
-        ensures replicas { self.new.replicas ≡ self.old.replicas }
-        ensures state { OnOk result ((s : hearing.Observer)
-            → StandsFor H.state H.meaning self.old s
-            → StandsFor H.state H.meaning self.new
-            (heard H.meaning self.old.replicas s bytes.now)) }
+    /// A read is answered from the position; what is executed stays as it is.
+    fn answer(&mut self, read: &Read, out: &mut Outbox) -> Result<(), NoMemory>
+        requires ready { IsHearing H.Host self.old }
+        requires fits { ReadFits read.now }
+        ensures ready { OnOk result (IsHearing H.Host self.new) }
+        ensures state { OnOk result (observer_of H.Host self.new ≡ observer_of H.Host self.old) }
+        ensures out { OnOk result (out.new
+            ≡ out.old ++ answered H.meaning (observer_of H.Host self.old) read.now ∷ []) }
+        ensures err { OnErr result (out.new ≡ out.old) }
     {
+        let op = get_of(self.alloc, &read.key)?;
+        let answer = Answer {
+            observer: self.number,
+            position: self.synced.position(),
+            client: read.client,
+            id: read.id,
+            result: self.synced.read(&op)?,
+        };
+        let dest = Dest::One(Actor::Client(read.client));
+        send_datagram(self.alloc, dest, &Datagram::Answer(answer), out)
+    }
+
+    /// One step, which may leave anything where memory runs out.
+    #[tactic(auto, unfolding(crate::specs::ObserverSteps::next))]
+    fn act(&mut self, input: Input<'_>, out: &mut Outbox) -> Result<(), NoMemory>
+        requires { IsHearing H.Host self.old }
+        ensures ready { OnOk result (IsHearing H.Host self.new) }
+        ensures state { OnOk result (observer_of H.Host self.new
+            ≡ (next H.meaning (observer_of H.Host self.old) (given input.entry)).0) }
+        ensures out { OnOk result (out.new ≡ out.old
+            ++ (next H.meaning (observer_of H.Host self.old) (given input.entry)).1) }
+        ensures err { OnErr result (out.new ≡ out.old) }
+    {
+        let Input::Packet(bytes) = input else {
+            return Ok(());
+        };
         match read_datagram(self.alloc, bytes)? {
             Some(Datagram::Fragment(fragment)) => self.fragment(&fragment),
+            Some(Datagram::Read(read)) => self.answer(&read, out),
             _ => Ok(()),
         }
+    }
+}
+
+impl<H: Host> Observer<H> {
+    pub fn new(alloc: Global, config: Config, number: u8) -> Result<Observer<H>, NoMemory>
+        requires { number < MAX_OBSERVERS }
+        ensures { IfOk result (λ o. o
+            ≡ record { failed = false; state = opening config number }) }
+    {
+        let node = ObserverParts::new(alloc, config, number)?;
+        Ok(Observer {
+            failed: false,
+            node,
+        })
     }
 
     /// Up to this slot the service is executed.
     pub fn position(&self) -> u32
-        ensures { (s : hearing.Observer) → StandsFor H.state H.meaning self.now s
-            → result ≡ position s.state }
+        ensures { result ≡ position self.now.state.heard.state }
     {
-        self.synced.position()
+        self.node.synced.position()
+    }
+}
+
+impl<H: Host> Core for Observer<H> {
+    ghost use Rattle.std.specs.Prelude.{[], false};
+    ghost use Rattle.observer.specs.ObserverSteps as steps;
+    ghost use Rattle.observer.specs.ObserverSteps.{next};
+
+    ghost State = { steps.Observer };
+
+    ghost state = { λ o. o.state };
+
+    ghost has_failed = { λ o. o.failed };
+
+    ghost next = { next H.meaning };
+
+    ghost timers = { [] };
+
+    ghost is_done = { λ _. false };
+
+    fn step(&mut self, input: Input<'_>, out: &mut Outbox) -> Result<(), NoMemory> {
+        if self.failed {
+            return Err(NoMemory);
+        }
+        let acted = self.node.act(input, out);
+        if acted.is_err() {
+            self.failed = true;
+        }
+        acted
     }
 
-    /// What the service answers to an op at the position; its state stays.
-    pub fn read(&mut self, op: &[u8]) -> Result<Bytes, NoMemory>
-        requires ready { IsHearing H.state H.is_sound self.old }
-        ensures ready { IsHearing H.state H.is_sound self.new }
-        ensures replicas { self.new.replicas ≡ self.old.replicas }
-        ensures state { (s : hearing.Observer) → StandsFor H.state H.meaning self.old s
-            → StandsFor H.state H.meaning self.new s }
-        ensures answer { IfOk result (λ a. (s : hearing.Observer)
-            → StandsFor H.state H.meaning self.old s
-            → a ≡ answer H.meaning Trimmed s.state op.now) }
-    {
-        self.synced.read(op)
+    fn timer(&self, _i: u8) -> Option<(Tick, u64)> {
+        None
+    }
+
+    fn done(&self) -> bool {
+        false
     }
 }

@@ -1,12 +1,11 @@
-ghost use Rattle.std.specs.Prelude.{◌≡◌, true, nat_lt, nat_le, OnOk, OnErr, IfOk, IfSome, Some};
-ghost use Rattle.std.specs.Option.{option_copied, option_map};
-ghost use Rattle.nop_types.specs.Checkpoints.{loaded_of};
-ghost use Rattle.nop_types.specs.Execution.{enter_kept, exec_kept};
+ghost use Rattle.std.specs.Prelude.{◌≡◌, ◌≤◌, length, cond, IsTrue, OnOk, IfOk};
+ghost use Rattle.std.specs.Option.{option_map};
+ghost use Rattle.nop_types.specs.CheckpointedLogs.{loads};
 ghost use Rattle.nop_types.specs.Logs.{Trimmed};
 ghost use Rattle.nop_types.specs.Ranges.{LogFits};
-ghost use Rattle.executor.specs.Running.{execution};
-ghost use Rattle.observer.specs.Observing.{Observing, opening, is_better, prepare, commit, answer};
-ghost use Rattle.observer.specs.Known.{candidate_of, IsReady, Stands};
+ghost use Rattle.nop_types.specs.declared.limits.TheConstants.{MAX_RESULT_BYTES};
+ghost use Rattle.observer.specs.Observing.{opening, is_better, known_with, prepare, commit, answer};
+ghost use Rattle.observer.specs.Known.{candidate_of, observing_of, IsReady};
 
 use crate::entering::{follow, loaded};
 use crate::told::Told;
@@ -27,8 +26,8 @@ pub struct SyncedHost<H: Host> {
 impl<H: Host> SyncedHost<H> {
     /// Nothing is executed yet.
     pub fn new(alloc: Global) -> Result<SyncedHost<H>, NoMemory>
-        ensures ready { IfOk result (λ w. IsReady H.state H.is_sound w) }
-        ensures state { IfOk result (λ w. Stands H.state H.meaning w opening) }
+        ensures ready { IfOk result (λ w. IsReady H.Host w) }
+        ensures state { IfOk result (λ w. observing_of H.Host w ≡ opening) }
     {
         Ok(SyncedHost {
             alloc,
@@ -52,37 +51,54 @@ impl<H: Host> SyncedHost<H> {
         }
     }
 
+    /// Takes the checkpoint of a log, where that is further; false where it doesn't load.
+    fn take_checkpoint(&mut self, log: &Log) -> Result<bool, NoMemory>
+        requires ready { IsReady H.Host self.old }
+        requires fits { LogFits log.now }
+        ensures ready { OnOk result (IsReady H.Host self.new) }
+        ensures loads { IfOk result (λ taken. taken ≡ loads H.meaning log.now) }
+        ensures low { IfOk result (λ taken. IsTrue taken
+            → log.now.sync_point ≤ self.new.position) }
+        ensures known { IfOk result (λ taken. (observing_of H.Host self.new).known ≡ cond taken
+            (known_with Trimmed log.now (observing_of H.Host self.old).known)
+            (observing_of H.Host self.old).known) }
+        ensures candidate { self.new.candidate ≡ self.old.candidate }
+    {
+        let Some(checkpoint) = log.checkpoint() else {
+            return Ok(true);
+        };
+        let Some((host, table)) = loaded::<H>(self.alloc, checkpoint)? else {
+            return Ok(false);
+        };
+        if log.sync_point() <= self.position {
+            return Ok(true);
+        }
+        self.host = host;
+        self.table = table;
+        self.position = log.sync_point();
+        Ok(true)
+    }
+
     /// A leader tells its log.
     pub fn prepare(&mut self, view: View, log: Log) -> Result<(), NoMemory>
-        requires ready { IsReady H.state H.is_sound self.old }
+        requires ready { IsReady H.Host self.old }
         requires fits { LogFits log }
-        ensures ready { OnOk result (IsReady H.state H.is_sound self.new) }
-        ensures state { OnOk result ((s : Observing) → Stands H.state H.meaning self.old s
-            → Stands H.state H.meaning self.new (prepare H.meaning Trimmed s view log)) }
+        ensures ready { OnOk result (IsReady H.Host self.new) }
+        ensures state { OnOk result (observing_of H.Host self.new
+            ≡ prepare H.meaning Trimmed (observing_of H.Host self.old) view log) }
     {
-        if !self.is_better(view, &log) {
-            return Ok(());
+        if self.is_better(view, &log) && self.take_checkpoint(&log)? {
+            self.candidate = Some(Told { view, log });
         }
-        if let Some(checkpoint) = log.checkpoint() {
-            let Some((host, table)) = loaded::<H>(self.alloc, checkpoint)? else {
-                return Ok(());
-            };
-            if self.position < log.sync_point() {
-                self.host = host;
-                self.table = table;
-                self.position = log.sync_point();
-            }
-        }
-        self.candidate = Some(Told { view, log });
         Ok(())
     }
 
     /// A leader commits a length.
     pub fn commit(&mut self, view: View, len: u32) -> Result<(), NoMemory>
-        requires ready { IsReady H.state H.is_sound self.old }
-        ensures ready { OnOk result (IsReady H.state H.is_sound self.new) }
-        ensures state { OnOk result ((s : Observing) → Stands H.state H.meaning self.old s
-            → Stands H.state H.meaning self.new (commit H.meaning Trimmed s view len)) }
+        requires ready { IsReady H.Host self.old }
+        ensures ready { OnOk result (IsReady H.Host self.new) }
+        ensures state { OnOk result (observing_of H.Host self.new
+            ≡ commit H.meaning Trimmed (observing_of H.Host self.old) view len) }
     {
         let Some(told) = &self.candidate else {
             return Ok(());
@@ -110,12 +126,12 @@ impl<H: Host> SyncedHost<H> {
 
     /// What the service answers to an op there; its state stays.
     pub fn read(&mut self, op: &[u8]) -> Result<Bytes, NoMemory>
-        requires ready { IsReady H.state H.is_sound self.old }
-        ensures ready { IsReady H.state H.is_sound self.new }
-        ensures state { (s : Observing) → Stands H.state H.meaning self.old s
-            → Stands H.state H.meaning self.new s }
-        ensures answer { IfOk result (λ a. (s : Observing) → Stands H.state H.meaning self.old s
-            → a ≡ answer H.meaning Trimmed s op.now) }
+        requires ready { IsReady H.Host self.old }
+        ensures ready { IsReady H.Host self.new }
+        ensures state { observing_of H.Host self.new ≡ observing_of H.Host self.old }
+        ensures answer { IfOk result (λ a. a
+            ≡ answer H.meaning Trimmed (observing_of H.Host self.old) op.now) }
+        ensures short { IfOk result (λ a. length a ≤ MAX_RESULT_BYTES) }
     {
         let (answer, undo) = self.host.apply(op)?;
         self.host.undo(undo);
