@@ -83,6 +83,26 @@ fn a_silent_port_has_to_wait(rt: HostRuntime) {
     panic!(rt; "the others do not come");
 }
 
+/// A port that acknowledges nothing holds up no other, also none that is 16 or 32 below it.
+#[test]
+fn a_silent_port_holds_up_no_other(rt: HostRuntime) {
+    let mut ports = UdpPorts::new(&rt, rt.alloc());
+    let mut link = ports.attach(PORTS + 10).expect(&rt, "a link");
+    let silent = new_peer(&rt, PORTS + 43).expect(&rt, "a socket");
+    for _ in 0..8usize {
+        link.send(PORTS + 43, &[8u8; 1417]).expect(&rt, "a send");
+    }
+    assert!(rt; drained(&silent) == 6);
+    for port in [PORTS + 11, PORTS + 27] {
+        let peer = new_peer(&rt, port).expect(&rt, "a socket");
+        for _ in 0..6usize {
+            link.send(port, &[8u8; 1417]).expect(&rt, "a send");
+        }
+        assert!(rt; drained(&peer) == 6);
+    }
+    assert!(rt; link.losses() == 0);
+}
+
 /// A link acknowledges six parts at once, and those that are left when nothing comes any more.
 #[test]
 fn parts_are_acknowledged(rt: HostRuntime) {

@@ -1,9 +1,9 @@
 ghost use Rattle.std.specs.Prelude.{◌≡◌, ◌%◌};
 
 /// Ports are told apart by their remainders: ports of one remainder share what may be in flight to each.
-pub(crate) const LANES: usize = 16;
+pub(crate) const LANES: usize = 64;
 
-const _: () = prove!(LANES == 16);
+const _: () = prove!(LANES == 64);
 
 /// The place of a port among these.
 pub(crate) fn lane_of(port: u16) -> usize

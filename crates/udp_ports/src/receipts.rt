@@ -97,11 +97,11 @@ impl Receipts {
         ensures ack { result ≡ ack_for lane self.old }
         ensures settled { self.new ≡ with_ack lane self.old }
     {
-        let window = self.window();
         let parts = self.lanes[lane].owed;
         if parts == 0 {
             return None;
         }
+        let window = self.window();
         self.lanes[lane].owed = 0;
         Some(Ack { parts, window })
     }
