@@ -1,4 +1,4 @@
--- Fronts that have the same members and leave the same state go on alike.
+-- A front goes on where one does that leaves the same state and has more that is never accepted.
 use Rattle.std.proofs.Common.{◌≡◌, ℕ, ◌+◌, ◌<◌, List, ◌++◌, length, Some, refl, sym, ap, ◌∙◌, arith, inl, inr}
 use Rattle.std.specs.Prelude.{slice_get}
 use Rattle.std.proofs.lemmas.Option.{slice_get_within}
@@ -17,7 +17,7 @@ use Rattle.fronts.specs.Fronts.{AreApart, after_all, GoesOn, AreOrdered, IsFront
 use Rattle.fronts.proofs.Following.{answers_behind}
 
 module _ {S : Type 0} (m : Meaning S) (lines : List Line) (once : SubmittedOnce lines) (k : ℕ) (f g rest : List Request)
-    (front : IsFront m lines k g) (alike : IsAlike m f g) (legal : Legal m lines (f ++ rest)) where
+    (front : IsFront m lines k g) (alike : IsAlike m lines f g) (legal : Legal m lines (f ++ rest)) where
   -- in f ++ rest, where a member of g stands
   in_f : (r : Request) → Has g r → (i : ℕ) × (i < length f) × (slice_get (f ++ rest) i ≡ Some r)
   in_f r h =
@@ -62,9 +62,10 @@ module _ {S : Type 0} (m : Meaning S) (lines : List Line) (once : SubmittedOnce 
       let a = legal.answered j client id result line in
       elim (slice_get-append_cases f rest a.place a.request a.member) [
         | inl near ↦
-            let h = alike.back a.request (a.place, near.1) in
             let e : Accept client id result ≡ Accept a.request.client a.request.id result =
             ap (λ (t : ℕ). Accept t id result) (sym a.same.same_client) ∙ ap (λ (t : ℕ). Accept a.request.client t result) (sym a.same.same_id) in
+            let accepts : Has lines (Accept a.request.client a.request.id result) = (j, line ∙ ap (λ (t : Line). Some t) e) in
+            let h = alike.accepted a.request result (a.place, near.1) accepts in
             record {
               place = h.0;
               request = a.request;
@@ -72,7 +73,7 @@ module _ {S : Type 0} (m : Meaning S) (lines : List Line) (once : SubmittedOnce 
               same = a.same;
               answer =
                   answer_needs_prefix m g (g ++ rest) h.0 (rest, refl) (slice_get_within g h.0 a.request h.1)
-                  ∙ front.answered h.0 a.request result h.1 (j, line ∙ ap (λ (t : Line). Some t) e);
+                  ∙ front.answered h.0 a.request result h.1 accepts;
             }
         | inr far ↦
             let there : answer_from m (after_all m m.opening f) rest far.0 ≡ Some result =
@@ -121,6 +122,6 @@ module _ {S : Type 0} (m : Meaning S) (lines : List Line) (once : SubmittedOnce 
 
 -- what goes on behind f goes on behind g
 pub goes_on_alike : {S : Type 0} (m : Meaning S) (lines : List Line) (k : ℕ) (f g : List Request) → SubmittedOnce lines → IsFront m lines k g
-    → IsAlike m f g → GoesOn m lines f → GoesOn m lines g
+    → IsAlike m lines f g → GoesOn m lines f → GoesOn m lines g
 goes_on_alike m lines k f g once front alike h =
     record { rest = h.rest; legal = alike_legal m lines once k f g h.rest front alike h.legal }

@@ -75,8 +75,8 @@ pub record IsFront {S : Type 0} (m : Meaning S) (lines : List Line) (k : ℕ) (f
       → answer_at m front i ≡ Some result
   pub ordered : AreOrdered lines front
 
--- the same members, and the same state after them
-pub record IsAlike {S : Type 0} (m : Meaning S) (f g : List Request) : Type 0 where
+-- g has the members of f, but for some that no line accepts, and no others; the same state is after both
+pub record IsAlike {S : Type 0} (m : Meaning S) (lines : List Line) (f g : List Request) : Type 0 where
   pub members : (r : Request) → Has g r → Has f r
-  pub back : (r : Request) → Has f r → Has g r
+  pub accepted : (r : Request) (result : List ℕ) → Has f r → Has lines (Accept r.client r.id result) → Has g r
   pub state : after_all m m.opening f ≡ after_all m m.opening g

@@ -1,6 +1,6 @@
 ghost use Rattle.std.specs.Prelude.{◌≡◌, ◌++◌, ◌∷◌, [], ◌+◌, ℕ, ◌≤◌, List, Some, length, slice_get};
 ghost use Rattle.execution_laws.specs.Legality.{IsNoMember, SubmittedOnce};
-ghost use Rattle.fronts.specs.Configurations.{AreLeft, IsFailed};
+ghost use Rattle.fronts.specs.Configurations.{AreLeft, HasUnaccepted, IsFailed};
 ghost use Rattle.fronts.specs.Fronts.{
   after_all,
   AcceptedLater,
@@ -56,10 +56,10 @@ pub fn the_next_member<S>()
         → (r : Request) × MayFollow m lines k front r × GoesOn m lines (front ++ r ∷ []) }
 {}
 
-/// Two fronts with the same members that leave the same state go on alike.
+/// Where a front goes on, so does one that leaves the same state and lacks nothing but members that no line accepts.
 pub fn fronts_go_on_alike<S>()
     ensures { (m : Meaning S) (lines : List Line) (k : ℕ) (f g : List Request)
-        → SubmittedOnce lines → IsFront m lines k g → IsAlike m f g
+        → SubmittedOnce lines → IsFront m lines k g → IsAlike m lines f g
         → GoesOn m lines f → GoesOn m lines g }
 {}
 
@@ -71,12 +71,13 @@ pub fn reads_may_come_first<S>()
         → GoesOn m lines front → GoesOn m lines (front ++ r ∷ []) }
 {}
 
-/// A front whose configuration failed goes nowhere: saved states tell states apart.
+/// Where a configuration failed, a front with the same line and saved state goes nowhere, if of what was left there only requests
+/// that no line accepts are placed now: saved states tell states apart.
 pub fn failed_configurations_fail_again<H: Host>()
-    ensures { (lines : List Line) (k : ℕ) (places saved : List ℕ) (front : List Request)
+    ensures { (lines : List Line) (k : ℕ) (places left saved : List ℕ) (front : List Request)
         → SubmittedOnce lines
-        → IsFailed H.meaning lines k places saved → IsFront H.meaning lines k front
-        → AreLeft lines k front places
+        → IsFailed H.meaning lines k places saved → HasUnaccepted lines left places
+        → IsFront H.meaning lines k front → AreLeft lines k front left
         → H.meaning.saved (after_all H.meaning H.meaning.opening front) ≡ saved
         → GoesOn H.meaning lines front → ⊥ }
 {}

@@ -8,9 +8,10 @@
 //!   an order where there is one. A front stays right (`front_opens`, `front_passes`, `front_places`), and
 //!   behind the last line it is a legal history (`fronts_behind_all_lines_are_legal`). Where the empty
 //!   front goes nowhere, no history is legal (`all_histories_begin_empty`).
-//! - What may be kept: two fronts with the same members that leave the same state go on alike
-//!   (`fronts_go_on_alike`). So over any `Host` a front goes nowhere where one with the same line, the same
-//!   requests left and the same saved state went nowhere (`failed_configurations_fail_again`).
+//! - What may be kept: where a front goes on, so does one that leaves the same state and has the same members,
+//!   but for some that no line accepts (`fronts_go_on_alike`). So over any `Host` a front goes nowhere where one
+//!   with the same line and the same saved state went nowhere, and the same requests were left there, or more
+//!   that no line accepts (`failed_configurations_fail_again`).
 //! - What need not be tried: where a front goes on, it goes on with any request that may follow and whose
 //!   op changes nothing (`reads_may_come_first`). `Parted` says which ops are known to (`only_reads`).
 //! - Parts: how a service is `Parted`, so that ops of one part do not rest on those of others. A legal history of

@@ -7,8 +7,9 @@ use Rattle.std.specs.List.{list_any}
 use Rattle.std.specs.List.Sorted.{IsPermutation}
 use Rattle.std.proofs.lemmas.List.Elements.{All-nil, All-cons, All-head, All-tail}
 use Rattle.std.proofs.lemmas.List.Sorted.{All-permutation}
-use Rattle.fronts.specs.Configurations.{IsFailed}
+use Rattle.fronts.specs.Configurations.{HasUnaccepted, IsFailed}
 use Rattle.nop_types.specs.Lines.{Line}
+use Rattle.nop_types.specs.Lists.{is_in}
 use Rattle.nop_types.specs.Meaning.{Meaning}
 use Rattle.order_search.specs.Failing.{AllFailed, IsKnown, Keeps}
 use Rattle.order_search.specs.declared.failed.Configuration.{Configuration}
@@ -66,6 +67,13 @@ module _ {S : Type 0} (m : Meaning S) (lines : List Line) where
   failed_here c k places saved e f g h =
       subst (λ (t : ℕ). IsFailed m lines t places saved) e
       (subst (λ (t : List ℕ). IsFailed m lines c.line t saved) f (subst (λ (t : List ℕ). IsFailed m lines c.line c.waiting.items t) g h))
+
+-- what was left there is left
+pub none_placed : (lines : List Line) (places : List ℕ) → HasUnaccepted lines places places
+none_placed lines places = record {
+  within = λ i e. e;
+  besides = λ i e f. absurd (let x : true ≡ false = sym e ∙ f in cc);
+}
 
 -- ---- what the set tells
 

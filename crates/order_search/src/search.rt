@@ -195,7 +195,7 @@ impl<H: Host> Search<H> {
     }
 
     /// Applies the op of the request that waits at `at`, and places it where its answer agrees with what claims accept; else the op is
-    /// undone. So many as `tried` lead to no legal history where it leads to none.
+    /// undone. Where it leads to no legal history, none of the first `tried` that wait does.
     fn try_at(
         &mut self,
         claims: &[&Claim],
@@ -275,7 +275,7 @@ impl<H: Host> Search<H> {
     }
 
     /// Places the request that waits at `at`, where it is a read and its answer agrees. Where the front goes on, it goes on with it: so
-    /// where it leads to no legal history, none that waits leads to one.
+    /// where it leads to no legal history, none that waits does.
     fn place_read(
         &mut self,
         claims: &[&Claim],
@@ -566,8 +566,8 @@ pub fn find_order<P: Parted>(
         (said_by claims.now) (submits_of placed))) }
     ensures timed { IfOk result (λ o. IfFound o (λ placed. AreTimed (said_by claims.now)
         (history_at (said_by claims.now) (submits_of placed)) (time_of placed))) }
-    ensures within { IfOk result (λ o. IfFound o (λ placed. All (λ p. (p.submit < length claims.now)
-        × (p.line < length claims.now)) placed)) }
+    ensures within { IfOk result (λ o. IfFound o (λ placed. All (λ p.
+        (p.submit < length claims.now) × (p.line < length claims.now)) placed)) }
     ensures none { IfOk result (λ o. IfNothing o (λ k. HasOrder P.Service.meaning
         (said_by claims.now) → ⊥)) }
     ensures furthest { IfOk result (λ o. IfNothing o (λ k. k < length claims.now)) }

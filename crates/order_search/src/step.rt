@@ -9,7 +9,7 @@ pub(crate) struct Step<U> {
     pub(crate) at: usize,
     /// How many others waited.
     pub(crate) others: usize,
-    /// Where it leads to no legal history, so many of those that waited lead to none.
+    /// Where it leads to no legal history, none of the first so many that waited does.
     pub(crate) tried: usize,
     pub(crate) undo: U,
 }
