@@ -4,15 +4,14 @@
 //!
 //!     lock_linearize [--most STEPS] < HISTORY
 //!
-//! It is one call of `linearize::run`, with the service as one part, since its tokens count the grants of
-//! all locks; what is proved is said there.
+//! It is one call of `linearize::run`, with the service as one part (`lock_parts`); what is proved is said
+//! there.
 //! Proved of `main` is only that it is safe and ends. That the status becomes the exit status is seen
 //! on real processes by `checks/linearize.sh`.
 #![tactic(auto)]
 
-use fronts::OnePart;
 use linearize::{Status, run};
-use lock_host::LockHost;
+use lock_parts::AllLocks;
 use standard_io::{StandardIn, StandardOut};
 use std::io::ErrorKind;
 use std::process::ExitCode;
@@ -32,12 +31,6 @@ fn main(rt: HostRuntime) -> ExitCode {
     let words: Vec<String> = words;
     let mut source = StandardIn::new(rt.reader());
     let mut sink = StandardOut::new(std::io::writer(&rt));
-    let status = run::<OnePart<LockHost>, _, _>(
-        rt.alloc(),
-        USAGE_LINE,
-        &words,
-        &mut source,
-        &mut sink,
-    );
+    let status = run::<AllLocks, _, _>(rt.alloc(), USAGE_LINE, &words, &mut source, &mut sink);
     ExitCode::from(status as u8)
 }
