@@ -26,6 +26,7 @@ nop_types MAX_DATAGRAM_BYTES 1500
 nop_types MAX_REPLICAS 7
 nop_types MAX_SEQUENCERS 4
 nop_types MAX_CONTROLLERS 4
+nop_types MAX_OBSERVERS 4
 nop_types MAX_CLIENTS 16
 nop_types MAX_LINE_BYTES 4096
 nop_types MAX_LINES 1_000_000
@@ -40,6 +41,8 @@ nop_types INSTALLED 5
 nop_types PING 6
 nop_types PONG 7
 nop_types FRAGMENT 8
+nop_types READ 9
+nop_types ANSWER 10
 nop_types KIND_PLACE 3
 nop_types COUNT_PLACE 15
 nop_types FRAGMENT_HEADER_BYTES 17
@@ -82,7 +85,7 @@ udp_ports MOST_WAITING 8192
 udp_ports TIMEOUT_MICROS 100_000
 udp_ports SILENT_TIMEOUT_MICROS 500
 udp_ports MOST_AT_ONCE 6
-udp_ports LANES 16
+udp_ports LANES 64
 udp_ports ACK_EVERY 6
 udp_ports RECENT_PARTS 72
 udp_ports WAIT_MILLIS 1
@@ -101,6 +104,7 @@ peer_codec LEAST_CLIENT
 fragments PARTS_AHEAD
 fronts MAX_PARTS
 kv_parts MAX_PARTS
+lock_parts MAX_PARTS
 linearize MOST
 network SHARED_LEN
 network LOOKBACK
