@@ -28,7 +28,7 @@ folder=$(mktemp -d)
 trap 'rm -rf "$folder"' EXIT
 
 for crate in nop_types lemmas execution_laws gap_agree client_table kv_host log_merge oum_codec fragments oum_receiver replica_log \
-    peer_codec executor slot_lookup sync_points view_change client_quorum replica_state replica_rows \
+    peer_codec executor slot_lookup sync_points view_change client_reads client_quorum replica_state replica_rows \
     replica_core; do
     mkdir -p "$folder/crates/$crate"
     for part in src specs proofs; do

@@ -2,19 +2,21 @@
 use Rattle.std.proofs.Common.{◌≡◌, ℕ, false, Option, Some, None, refl, sym, ap, subst, ◌∙◌, List, [], ◌∷◌, ◌++◌, append-nil}
 use Rattle.std.specs.Prelude.{Result, Ok, Err, option_map}
 use Rattle.std.specs.Io.KnownBytes.{Appends}
-use Rattle.nop_types.specs.Given.{Given}
+use Rattle.nop_types.specs.Given.{Given, Packet, Ticked}
 use Rattle.nop_types.specs.declared.output.Accept.{Accept}
+use Rattle.nop_types.specs.declared.output.Out.{Out}
 use Rattle.outside.specs.Ports.{next_link, GivesNext}
 use Rattle.outside.specs.declared.link.LinkCall.{LinkCall}
 use Rattle.outside.specs.declared.link.PollAnswer.{PollAnswer}
 use Rattle.transcript_text.specs.Transcript.{submit_line, accept_line}
 use Rattle.client_quorum.specs.ClientSteps.{is_done}
 use Rattle.client_quorum.specs.Core as client
-use Rattle.client_quorum.specs.Core.{Client}
+use Rattle.client_quorum.specs.Core.{Client, HasNoRead}
 use Rattle.client_quorum.specs.Runs.{after, gave}
 use Rattle.client_quorum.specs.declared.state.ClientState.{ClientState}
+use Rattle.client_quorum.proofs.Alone.{state_alone, outs_alone, is_done_alone}
 use Rattle.udp_node.specs.Effects.{Effect, effects, effects_by, calls, lines, Stopped}
-use Rattle.udp_node.specs.Folding.{folded, TookSome}
+use Rattle.udp_node.specs.Folding.{folded, AllOutside, TookSome}
 use Rattle.udp_node.specs.NodeRun.{NodeRun, ServedRun, ServesAfter}
 use Rattle.udp_node.specs.Sends.{LinkSide, Sends, side}
 use Rattle.udp_node.specs.declared.address.Address.{Address}
@@ -28,13 +30,16 @@ use Rattle.client_call.specs.declared.errors.CallError.{CallError}
 use Rattle.client_call.specs.declared.errors.CallError.TheVariants.{PortFault, LinkFault, Unanswered, NoMemory}
 use Rattle.client_call.proofs.Accepting.{stands_ended, is_accepted, is_written, is_open}
 
-state_is : (s : Client) (xs : List Given) → (folded client.next s xs).0.requests ≡ after s.requests xs
-state_is s [] = refl
-state_is s (x ∷ xs) = state_is (client.next s x).0 xs
+-- what comes from outside asks for no key
+no_reads : (xs : List Given) → AllOutside xs → HasNoRead xs
+no_reads [] out = tt
+no_reads (Packet bytes ∷ xs) out = (tt, no_reads xs out)
+no_reads (Ticked tick ∷ xs) out = (tt, no_reads xs out)
+no_reads _ out = absurd out
 
-outs_are : (s : Client) (xs : List Given) → (folded client.next s xs).1 ≡ gave s.requests xs
-outs_are s [] = refl
-outs_are s (x ∷ xs) = ap (λ os. (client.next s x).1 ++ os) (outs_are (client.next s x).0 xs)
+folded_is : (s : Client) (xs : List Given) → folded client.next s xs ≡ (client.after s xs, client.gave s xs)
+folded_is s [] = refl
+folded_is s (x ∷ xs) = ap (λ (r : Client × List Out). (r.0, (client.next s x).1 ++ r.1)) (folded_is (client.next s x).0 xs)
 
 module _ (at : Address) (number : ℕ) (op : List ℕ) (t : Client) (h i : Option (List ℕ))
     (took : TookSome client.next at [] (caller_core at.config number op) t h i) where
@@ -44,8 +49,21 @@ module _ (at : Address) (number : ℕ) (op : List ℕ) (t : Client) (h i : Optio
   abbrev start : ClientState
   start = caller at.config number op
 
+  no_read : HasNoRead took.inputs
+  no_read = no_reads took.inputs took.outside
+
+  core_after : t ≡ client.after core_start took.inputs
+  core_after = took.state ∙ ap (λ (r : Client × List Out). r.0) (folded_is core_start took.inputs)
+
   is_after : t.requests ≡ after start took.inputs
-  is_after = ap (λ (s : Client). s.requests) took.state ∙ state_is core_start took.inputs
+  is_after = ap (λ (s : Client). s.requests) (core_after ∙ state_alone at.config number (op ∷ []) took.inputs no_read)
+
+  done_after : client.is_done t ≡ is_done (after start took.inputs)
+  done_after = ap client.is_done core_after ∙ is_done_alone at.config number (op ∷ []) took.inputs no_read
+
+  outs_after : (folded client.next core_start took.inputs).1 ≡ gave start took.inputs
+  outs_after = ap (λ (r : Client × List Out). r.1) (folded_is core_start took.inputs)
+      ∙ outs_alone at.config number (op ∷ []) took.inputs no_read
 
   accepted_after : (o : Option Accept) → t.requests.accepted ≡ o → (after start took.inputs).accepted ≡ o
   accepted_after o is = ap (λ (s : ClientState). s.accepted) (sym is_after) ∙ is
@@ -85,7 +103,7 @@ module _ (at : Address) (number : ℕ) (op : List ℕ) (t : Client) (h i : Optio
     run_lines =
         same_lines i (lines (effects_by at r.acts)) (lines (effects at (folded client.next core_start took.inputs).1)) (rw empty at run.effects.lines)
         (rw empty at took.written)
-        ∙ ap (λ os. lines (effects at os)) (outs_are core_start took.inputs)
+        ∙ ap (λ os. lines (effects at os)) outs_after
 
     run_answered : (result : List ℕ) (o : Option Accept) → t.requests.accepted ≡ o → GivesAccepted o (Ok result) → Answered at number op result r a b
     run_answered result None is gives = absurd gives
@@ -93,7 +111,7 @@ module _ (at : Address) (number : ℕ) (op : List ℕ) (t : Client) (h i : Optio
         let known = accepted_after (Some x) is in
         let ended = stands_ended at.config number op took.inputs took.outside x known in
         record {
-          done = sym run.done ∙ done ∙ ap is_done is_after ∙ ended.done;
+          done = sym run.done ∙ done ∙ done_after ∙ ended.done;
           works = run.works;
           lines =
               run_lines ∙ is_written at.config number op took.inputs took.outside at x known
@@ -104,7 +122,7 @@ module _ (at : Address) (number : ℕ) (op : List ℕ) (t : Client) (h i : Optio
     run_open : (o : Option Accept) → t.requests.accepted ≡ o → GivesAccepted o (Err Unanswered) → TurnsEnded at turns r a b
     run_open None is gives =
         let open_ = is_open at.config number op took.inputs took.outside (accepted_after None is) in
-        let not_done = done ∙ ap is_done is_after ∙ open_ in
+        let not_done = done ∙ done_after ∙ open_ in
         record {
           all = sym run.turns ∙ spent not_done;
           done = sym run.done ∙ not_done;

@@ -1,3 +1,4 @@
+pub mod Alone
 pub mod Counts
 pub mod Ignoring
 pub mod KeptReplies

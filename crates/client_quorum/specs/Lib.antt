@@ -1,4 +1,5 @@
 pub mod ClientSteps
+pub mod Code
 pub mod Core
 pub mod Ignoring
 pub mod KeptReplies

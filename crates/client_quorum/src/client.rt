@@ -1,19 +1,22 @@
-ghost use Rattle.std.specs.Prelude.{◌≡◌, false, IfOk};
+ghost use Rattle.std.specs.Prelude.{◌≡◌, ◌++◌, false, IfOk, OnOk};
 ghost use Rattle.std.specs.Option.{option_copied};
+ghost use Rattle.nop_types.specs.Given.{given};
 ghost use Rattle.client_quorum.specs.ClientSteps.{AcceptFits, IsWithin, can_submit};
-ghost use Rattle.client_quorum.specs.Core.{opening, timers, is_done};
+ghost use Rattle.client_quorum.specs.Core.{next, opening, timers, is_done};
 
 use crate::rows::{act, can_submit};
 use crate::{ClientState, Pending, Replies, Waiting};
+use client_reads::ClientReads;
 use nop_types::{Accept, Config, Core, Input, NoMemory, Op, Outbox, Tick, end_step};
 use std::alloc::Global;
 use std::marker::Model;
 
-/// A client: one request is open at a time, and is accepted at f + 1 matching replies with the leader's.
+/// A client: one request is open at a time, and is accepted at f + 1 matching replies with the leader's; one read waits at a time.
 pub struct Client {
     alloc: Global,
     failed: bool,
     pub(crate) requests: ClientState,
+    reads: ClientReads,
 }
 
 // By hand, so that a crate with a client proves nothing on how its parts are dropped.
@@ -23,6 +26,7 @@ impl Drop for Client {
             alloc: _alloc,
             failed: _failed,
             requests: _requests,
+            reads: _reads,
         } = self;
     }
 }
@@ -32,13 +36,17 @@ impl Model for Client {
     ghost use Rattle.nop_types.specs.Machine.{Machine};
     ghost use Rattle.client_quorum.specs.contracts.state.ClientState as known;
     ghost use Rattle.client_quorum.specs.ClientSteps.{AcceptFits};
+    ghost use Rattle.client_quorum.specs.Code.{reads_code};
     ghost use Rattle.client_quorum.specs.Core as core;
 
     ghost Value = { Machine core.Client };
 
-    ghost coded = { Prim.hlevel (codes, known.the_row.coded) };
+    ghost coded = { Prim.hlevel (codes, known.the_row.coded, reads_code) };
 
-    ghost view = { λ c. record { failed = c.failed; state = record { requests = c.requests } } };
+    ghost view = { λ c. record {
+      failed = c.failed;
+      state = record { requests = c.requests; reads = c.reads };
+    } };
 
     ghost invariant = { λ c. AcceptFits c.requests.accepted };
 }
@@ -61,7 +69,20 @@ impl Client {
                 accepted: None,
                 waiting: Waiting::from_vec(ops),
             },
+            reads: ClientReads::new(number),
         })
+    }
+
+    /// The requests act, and then the reads; where memory runs out, they may be anything.
+    fn act(&mut self, input: Input<'_>, out: &mut Outbox) -> Result<(), NoMemory>
+        ensures state { OnOk result (self.new.state
+            ≡ (next self.old.state (given input.entry)).0) }
+        ensures out { OnOk result (out.new
+            ≡ out.old ++ (next self.old.state (given input.entry)).1) }
+        ensures well { self.new.failed ≡ self.old.failed }
+    {
+        act(self.alloc, &mut self.requests, input, out)?;
+        self.reads.step(self.alloc, input, out)
     }
 
     /// The last acceptance: None exactly where no request was submitted, or the last submitted one was not accepted.
@@ -112,7 +133,7 @@ impl Core for Client {
             return Err(NoMemory);
         }
         let mut made = Outbox::new(self.alloc);
-        let acted = act(self.alloc, &mut self.requests, input, &mut made);
+        let acted = self.act(input, &mut made);
         end_step(acted, made, out, &mut self.failed)
     }
 
@@ -128,6 +149,6 @@ impl Core for Client {
 
     #[tactic(auto, unfolding(crate::specs::OpenRequests::open_requests))]
     fn done(&self) -> bool {
-        self.requests.pending.is_none() && self.requests.waiting.is_empty()
+        self.requests.pending.is_none() && self.requests.waiting.is_empty() && self.reads.is_done()
     }
 }

@@ -1,4 +1,4 @@
-//! What a client does over any inputs.
+//! What a client does over any inputs; but for the first two laws, with its requests.
 
 ghost use Rattle.std.specs.Prelude.{◌≡◌, ◌↔◌, ◌<◌, ℕ, List, true, false, None, Some, ◌++◌, ◌∷◌, [], slice_get, length};
 ghost use Rattle.nop_types.specs.Configuration.{Configuration};
@@ -9,6 +9,7 @@ ghost use Rattle.nop_types.specs.declared.view.View.{View};
 ghost use Rattle.nop_types.specs.declared.datagram.Reply.{Reply};
 ghost use Rattle.nop_types.specs.declared.request.Request.{Request};
 ghost use Rattle.nop_types.specs.declared.output.Out.TheVariants.{Submitted, Accepted};
+ghost use Rattle.client_reads.specs.ReadSteps as reads;
 ghost use Rattle.client_quorum.specs.declared.state.ClientState.{ClientState};
 ghost use Rattle.client_quorum.specs.ClientSteps.{accepts, is_done, is_expected, kept, next};
 ghost use Rattle.client_quorum.specs.ClientSteps.{opening, reply, submitted};
@@ -20,11 +21,33 @@ ghost use Rattle.client_quorum.specs.Rows.{IsClosed, IsKept, IsOpened, Row};
 ghost use Rattle.client_quorum.specs.Runs.{accept_count, after, gave, replies_of, ops_of, HasNoSubmit, HasQuorum, IsAgreed};
 ghost use Rattle.client_quorum.specs.Runs.{EndsWith, Stands, TakesTurns};
 
-/// A step of a client is a step of its requests.
-pub fn steps_its_requests()
-    ensures state { (c : core.Client) (x : Given) →
+/// A step of a client is a step of its requests, and then one of its reads.
+pub fn steps_both_halves()
+    ensures requests { (c : core.Client) (x : Given) →
         (core.next c x).0.requests ≡ (next c.requests x).0 }
-    ensures outs { (c : core.Client) (x : Given) → (core.next c x).1 ≡ (next c.requests x).1 }
+    ensures reads { (c : core.Client) (x : Given) →
+        (core.next c x).0.reads ≡ (reads.next c.reads x).0 }
+    ensures outs { (c : core.Client) (x : Given) →
+        (core.next c x).1 ≡ (next c.requests x).1 ++ (reads.next c.reads x).1 }
+{}
+
+/// A client that is asked for no key is in the state of its requests, gives what they give, and is done when they are.
+pub fn acts_as_its_requests()
+    ensures state { (config : Configuration) (number : ℕ) (ops : List (List ℕ))
+        (inputs : List Given) → core.HasNoRead inputs →
+        core.after (core.opening config number ops) inputs
+        ≡ record {
+          requests = after (opening config number ops) inputs;
+          reads = reads.opening number;
+        } }
+    ensures outs { (config : Configuration) (number : ℕ) (ops : List (List ℕ))
+        (inputs : List Given) → core.HasNoRead inputs →
+        core.gave (core.opening config number ops) inputs
+        ≡ gave (opening config number ops) inputs }
+    ensures done { (config : Configuration) (number : ℕ) (ops : List (List ℕ))
+        (inputs : List Given) → core.HasNoRead inputs →
+        core.is_done (core.after (core.opening config number ops) inputs)
+        ≡ is_done (after (opening config number ops) inputs) }
 {}
 
 /// Each step is a row: nothing happens where nothing was asked, the client says that it is busy, an op is submitted, the open requests

@@ -1,9 +1,11 @@
 //! The client core: one request is open at a time, and is accepted at f + 1 matching replies with
-//! the leader's.
+//! the leader's; and one read waits at a time, for the answer of the observer that was asked.
 //!
 //! `Client` meets `Core` with the step table `next`, from `opening` on; its state stays in its
-//! ranges. Its state is a record with a field for each half of it (`specs/Core`): so far its requests
-//! alone, and a step is theirs (`steps_its_requests`). Whatever the inputs:
+//! ranges. Its state is a record with a field for each half of it (`specs/Core`): its requests, and
+//! its reads (`client_reads`, which has the laws on them). A step is one of its requests, and then
+//! one of its reads (`steps_both_halves`); where it is asked for no key, its requests act alone
+//! (`acts_as_its_requests`). Of its requests, whatever the inputs:
 //!
 //! - A reply to the open request makes it accept a result exactly where f + 1 kept replies, this
 //!   one with them, are of one view and slot, the leader's among them with that result
@@ -17,10 +19,10 @@
 //!   what is kept for each is said in words (`specs/OpenRequests`); what rows do to these
 //!   (`rows_move_open_requests`), and how they hang together (`words_agree`), is all that is known
 //!   of them above.
-//! - Where no other op comes, it is done exactly when all its ops are accepted
+//! - Where no other op comes, they are done exactly when all its ops are accepted
 //!   (`is_done_when_all_are_accepted`).
-//! - What is not for it changes and sends nothing (`ignores_what_is_for_others`): malformed bytes,
-//!   a datagram that is no reply of a replica to its open request, and a tick for others.
+//! - What is not for them changes and sends nothing (`ignores_what_is_for_others`): malformed
+//!   bytes, a datagram that is no reply of a replica to its open request, and a tick for others.
 //!
 //! Calls: `Client::new`, `step` and others by the trait, `state`, `accepted`, `can_submit`.
 //!
@@ -38,10 +40,10 @@ mod waiting;
 
 pub use client::Client;
 pub use laws::{
-    accepts_exactly_at_a_quorum, accepts_what_replicas_replied, ignores_what_is_for_others,
-    is_done_when_all_are_accepted, keeps_no_quorum, knows_the_last_request,
-    rows_move_open_requests, steps_are_rows, steps_its_requests, submits_waiting_ops_in_order,
-    takes_turns, uses_each_id_once, words_agree,
+    accepts_exactly_at_a_quorum, accepts_what_replicas_replied, acts_as_its_requests,
+    ignores_what_is_for_others, is_done_when_all_are_accepted, keeps_no_quorum,
+    knows_the_last_request, rows_move_open_requests, steps_are_rows, steps_both_halves,
+    submits_waiting_ops_in_order, takes_turns, uses_each_id_once, words_agree,
 };
 pub use pending::Pending;
 pub use replies::Replies;

@@ -2,7 +2,9 @@
 use Rattle.std.proofs.Common.{◌≡◌, ℕ, ◌<◌, Bool, true, false, List, [], ◌∷◌, ◌++◌, Option, Some, None, refl, sym, ap, ◌∙◌, length, inl, inr}
 use Rattle.client_quorum.specs.ClientSteps as requests
 use Rattle.client_quorum.specs.Core as client
+use Rattle.client_quorum.specs.Core.{HasNoRead}
 use Rattle.client_quorum.specs.Runs.{accept_count, after, gave, HasNoSubmit}
+use Rattle.client_quorum.proofs.Alone.{is_done_alone, outs_alone}
 use Rattle.client_quorum.proofs.Counts.{all_accepted, some_open}
 use Rattle.command_line.specs.declared.command.Command.{Command}
 use Rattle.command_line.specs.declared.command.Command.TheVariants.{Replay, Client}
@@ -10,6 +12,7 @@ use Rattle.command_line.specs.declared.command.Site.{Site}
 use Rattle.nop_types.specs.Meaning.{Meaning}
 use Rattle.nop_types.specs.Given.{Given, Packet, Ticked}
 use Rattle.nop_types.specs.declared.output.Actor.TheVariants as actors
+use Rattle.nop_types.specs.declared.output.Out.{Out}
 use Rattle.one_box.specs.Showing.{LinkView}
 use Rattle.udp_node.specs.Folding.{folded, AllOutside}
 use Rattle.commands.specs.Nodes.{LastLine, PortsView, NodeEnds, end_status}
@@ -23,13 +26,15 @@ free (Packet bytes ∷ xs) out = free xs out
 free (Ticked tick ∷ xs) out = free xs out
 free _ out = absurd out
 
-state_is : (s : client.Client) (xs : List Given) → (folded client.next s xs).0.requests ≡ after s.requests xs
-state_is s [] = refl
-state_is s (x ∷ xs) = state_is (client.next s x).0 xs
+no_reads : (xs : List Given) → AllOutside xs → HasNoRead xs
+no_reads [] out = tt
+no_reads (Packet bytes ∷ xs) out = (tt, no_reads xs out)
+no_reads (Ticked tick ∷ xs) out = (tt, no_reads xs out)
+no_reads _ out = absurd out
 
-outs_are : (s : client.Client) (xs : List Given) → (folded client.next s xs).1 ≡ gave s.requests xs
-outs_are s [] = refl
-outs_are s (x ∷ xs) = ap (λ os. (client.next s x).1 ++ os) (outs_are (client.next s x).0 xs)
+folded_is : (s : client.Client) (xs : List Given) → folded client.next s xs ≡ (client.after s xs, client.gave s xs)
+folded_is s [] = refl
+folded_is s (x ∷ xs) = ap (λ (r : client.Client × List Out). (r.0, (client.next s x).1 ++ r.1)) (folded_is (client.next s x).0 xs)
 
 was_done : (b : Bool) → statuses.Done ≡ end_status true b → b ≡ true
 was_done true is = refl
@@ -40,35 +45,45 @@ was_open true is = absurd cc
 was_open false is = refl
 
 module _ (id : ℕ) (site : Site) (ops : List (List ℕ)) where
+  abbrev start : client.Client
+  start = client.opening site.config id ops
+
+  module _ (inputs : List Given) (outside : AllOutside inputs) where
+    done_is : client.is_done (folded client.next start inputs).0 ≡ requests.is_done (after start.requests inputs)
+    done_is = ap (λ (r : client.Client × List Out). client.is_done r.0) (folded_is start inputs)
+        ∙ is_done_alone site.config id ops inputs (no_reads inputs outside)
+
+    outs_are : (folded client.next start inputs).1 ≡ gave start.requests inputs
+    outs_are = ap (λ (r : client.Client × List Out). r.1) (folded_is start inputs)
+        ∙ outs_alone site.config id ops inputs (no_reads inputs outside)
+
   accepted : (losses losses_now : ℕ) (h i : Option (List ℕ)) → LastLine (client_task id site ops) losses losses_now statuses.Done h i
       → WroteAccepts (address_of site (actors.Client id)) (length ops) h i
   accepted losses losses_now h i l =
-      let s : client.Client = client.opening site.config id ops in
-      let done : requests.is_done (after s.requests l.inputs) ≡ true =
-      ap requests.is_done (sym (state_is s l.inputs)) ∙ was_done _ l.ends in
+      let done : requests.is_done (after start.requests l.inputs) ≡ true =
+      sym (done_is l.inputs l.outside) ∙ was_done _ l.ends in
       let count = all_accepted site.config id ops l.inputs (free l.inputs l.outside) done in
       record {
-        outs = (folded client.next s l.inputs).1;
+        outs = (folded client.next start l.inputs).1;
         taken = l.taken;
         lost = l.lost;
-        accepts = ap accept_count (outs_are s l.inputs) ∙ count;
+        accepts = ap accept_count (outs_are l.inputs l.outside) ∙ count;
         line = l.line;
       }
 
   lacking : (losses losses_now : ℕ) (h i : Option (List ℕ)) → LastLine (client_task id site ops) losses losses_now statuses.Unanswered h i
       → (fewer : ℕ) × (fewer < length ops) × WroteAccepts (address_of site (actors.Client id)) fewer h i
   lacking losses losses_now h i l =
-      let s : client.Client = client.opening site.config id ops in
-      let open_ : requests.is_done (after s.requests l.inputs) ≡ false =
-      ap requests.is_done (sym (state_is s l.inputs)) ∙ was_open _ l.ends in
+      let open_ : requests.is_done (after start.requests l.inputs) ≡ false =
+      sym (done_is l.inputs l.outside) ∙ was_open _ l.ends in
       let count = some_open site.config id ops l.inputs (free l.inputs l.outside) open_ in (
-        accept_count (gave s.requests l.inputs),
+        accept_count (gave start.requests l.inputs),
         count,
         record {
-          outs = (folded client.next s l.inputs).1;
+          outs = (folded client.next start l.inputs).1;
           taken = l.taken;
           lost = l.lost;
-          accepts = ap accept_count (outs_are s l.inputs);
+          accepts = ap accept_count (outs_are l.inputs l.outside);
           line = l.line;
         },
       )

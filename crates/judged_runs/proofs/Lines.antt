@@ -40,7 +40,7 @@ use Rattle.world.proofs.Refusals.{opening_has_actors}
 use Rattle.whole_world.proofs.Seats.{seats_become}
 use Rattle.safety.proofs.Taking.{took}
 use Rattle.judged_runs.proofs.Ops.{AreRead, OpIsBytes}
-use Rattle.judged_runs.proofs.Outs.{IsRequest, OutsAre, IsOp, GivenIs, ClientIs, replica_tells, sequencer_tells, controller_tells}
+use Rattle.judged_runs.proofs.Outs.{IsRequest, OutsAre, IsOp, GivenIs, IsClient, replica_tells, sequencer_tells, controller_tells}
 use Rattle.judged_runs.proofs.Outs.{client_tells}
 use Rattle.schedule_text.specs.Fits.{EventFits}
 
@@ -116,9 +116,9 @@ did_count from (Outputs os) n = sends_counted from os n
 
 -- ---- worlds
 
--- a client has its number, and no op waits
+-- a client has its number, and no op or read waits
 abbrev OtherIs : (k : Kind) → ℕ → State k → Type 0
-OtherIs Clients i s = ClientIs i s.requests
+OtherIs Clients i s = IsClient i s
 OtherIs _ i s = ⊤
 
 pub record LinesShow (c : Configuration) (w : WorldState) (ls : List Line) : Type 0 where
@@ -175,7 +175,7 @@ seat_tells c next p false Crashes go = tt
 other_tells : (c : Configuration) (k : Kind) (i : ℕ) → i < count k c → (s : State k) → OtherIs k i s → (g : Given) → GivenIs g
     → OutsAre c (next k s g).1 × OtherIs k i (next k s g).0
 other_tells c Sequencers i within s is g fits = (sequencer_tells c s g, tt)
-other_tells c Clients i within s is g fits = let t = client_tells c i within s.requests is g fits in (t.tells, t.stays)
+other_tells c Clients i within s is g fits = client_tells c i within s is g fits
 other_tells c Controllers i within s is g fits = (controller_tells c s g, tt)
 
 other_seat : (c : Configuration) (k : Kind) (i : ℕ) → i < count k c → (p : Seated (State k)) → OtherIs k i p.state → (b : Bool)
@@ -292,14 +292,15 @@ counted_length make (suc n) =
     let h = counted_length make n in omega (arith, h, length-append (numbered_seats make n) (seated (make n) ∷ []))
 
 opening_own : (c : Configuration) (n k : ℕ) (q : Seated Client) → slice_get (numbered_seats (opening_client c) n) k ≡ Some q
-    → ClientIs k q.state.requests
+    → IsClient k q.state
 opening_own c zero k q h = absurd cc
 opening_own c (suc n) k q h =
     elim (slice_get-push_cases (numbered_seats (opening_client c) n) (seated (opening_client c n)) k q h) [
       | inl before ↦ opening_own c n k q before.1
       | inr last ↦
           let here : k ≡ n = last.0 ∙ counted_length (opening_client c) n in
-          subst (λ (s : Seated Client). ClientIs k s.state.requests) last.1 (record { number = sym here; waits = refl })
+          subst (λ (s : Seated Client). IsClient k s.state) last.1
+          (record { requests = record { number = sym here; waits = refl }; reads = refl })
     ]
 
 opening_shown : (c : Configuration) → LinesShow c (opening c) []

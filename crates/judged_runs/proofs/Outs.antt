@@ -1,12 +1,12 @@
 -- What actors tell of their steps: only clients submit, requests of their own with an id and the op that they were given. None reads.
 use Rattle.std.proofs.Common.{◌≡◌, ◌+◌, ◌≤◌, ◌<◌, ◌^◌, ℕ, Bool, true, false, Option, Some, None, subst, inl, inr, map, arith, length}
-use Rattle.std.proofs.Common.{List, [], ◌∷◌, ◌++◌}
+use Rattle.std.proofs.Common.{List, [], ◌∷◌, ◌++◌, sym, ap, ◌∙◌}
 use Rattle.std.specs.Prelude.{◌-◌, ⊤, nat_lt, nat_le, ◌==◌, Result, Ok, Err}
 use Rattle.std.specs.List.{AllByRecursion}
 use Rattle.std.proofs.lemmas.Bool.{and_parts, ltb-true}
 use Rattle.hex.specs.Hex.{IsBytes}
 use Rattle.nop_types.specs.Configuration.{Configuration}
-use Rattle.nop_types.specs.Given.{Given, Packet, Ticked, Submit}
+use Rattle.nop_types.specs.Given.{Given, Packet, Ticked, Submit, Read}
 use Rattle.nop_types.specs.Logs.{Trimmed}
 use Rattle.nop_types.specs.Meaning.{Meaning}
 use Rattle.nop_types.specs.declared.limits.TheConstants.{MAX_OP_BYTES}
@@ -29,8 +29,11 @@ use Rattle.fragments.specs.Cutting.{sends_of}
 use Rattle.fragments.specs.Joining.{taken}
 use Rattle.client_quorum.specs.declared.state.ClientState.{ClientState}
 use Rattle.client_quorum.specs.ClientSteps as client
+use Rattle.client_quorum.specs.Core as core
+use Rattle.client_quorum.specs.Core.{Client, IsNoRead}
 use Rattle.client_quorum.specs.OpenRequests.{has_room, open_requests}
 use Rattle.client_quorum.specs.Rows.{Row, Rests, SaysBusy, Opens, Repeats, Keeps, Accepts}
+use Rattle.client_quorum.proofs.Alone.{step_alone}
 use Rattle.client_quorum.proofs.RowLemmas.{row_of}
 use Rattle.sequencer.specs.declared.state.SequencerState.{SequencerState}
 use Rattle.sequencer.specs.SequencerSteps as sequencer
@@ -77,9 +80,15 @@ pub record IsOp (op : List ℕ) : Type 0 where
   pub bytes : IsBytes op
   pub short : length op ≤ MAX_OP_BYTES
 
+-- an input submits such an op, and asks for no key
 abbrev pub GivenIs : Given → Type 0
 GivenIs (Submit op) = IsOp op
+GivenIs (Read observer key) = ⊥
 GivenIs _ = ⊤
+
+no_read : (i : Given) → GivenIs i → IsNoRead i
+no_read (Read observer key) is = is
+no_read _ is = tt
 
 -- ---- replicas
 
@@ -250,5 +259,19 @@ module _ (c : Configuration) (k : ℕ) (within : k < c.clients) (s : ClientState
   row_tells i fits y (Accepts p leaders has e quorum) =
       record { tells = (tt, tt); stays = record { number = is.number; waits = is.waits } }
 
-  pub client_tells : (i : Given) → GivenIs i → ClientTells c k (client.next s i)
-  client_tells i fits = row_tells i fits (client.next s i) (row_of s i)
+  requests_tell : (i : Given) → GivenIs i → ClientTells c k (client.next s i)
+  requests_tell i fits = row_tells i fits (client.next s i) (row_of s i)
+
+-- its requests are so, and no read of it waits
+pub record IsClient (k : ℕ) (s : Client) : Type 0 where
+  pub requests : ClientIs k s.requests
+  pub reads : s.reads.pending ≡ None
+
+pub client_tells : (c : Configuration) (k : ℕ) → k < c.clients → (s : Client) → IsClient k s → (i : Given) → GivenIs i
+    → OutsAre c (core.next s i).1 × IsClient k (core.next s i).0
+client_tells c k within s is i fits =
+    let tells = requests_tell c k within s.requests is.requests i fits in
+    let alone = step_alone s.requests s.reads i is.reads (no_read i fits) in (
+      subst (OutsAre c) (sym (ap (λ (r : Client × List Out). r.1) alone)) tells.tells,
+      record { requests = tells.stays; reads = ap (λ (r : Client × List Out). r.0.reads.pending) alone ∙ is.reads },
+    )

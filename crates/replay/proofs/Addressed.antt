@@ -1,7 +1,7 @@
 -- What actors send goes to actors of the configuration, and what clients submit is theirs.
 use Rattle.std.proofs.Common.{◌≡◌, ◌≤◌, ◌<◌, ◌+◌, ℕ, Bool, true, false, Option, Some, None, refl, sym, ap, subst, arith}
 use Rattle.std.proofs.Common.{List, [], ◌∷◌, ◌++◌, inl, inr, map}
-use Rattle.std.specs.Prelude.{⊤, nat_lt, nat_le, ◌==◌, ◌&&◌, ◌||◌, Result, Ok, slice_index}
+use Rattle.std.specs.Prelude.{⊤, IfSome, nat_lt, nat_le, ◌==◌, ◌&&◌, ◌||◌, Result, Ok, slice_index}
 use Rattle.std.specs.Int.{w32, w64}
 use Rattle.std.specs.List.{AllByRecursion}
 use Rattle.std.proofs.lemmas.Bool.{ltb-true}
@@ -30,11 +30,18 @@ use Rattle.nop_types.specs.declared.request.Request.{Request}
 use Rattle.oum_codec.specs.declared.bad.Bad.{Bad}
 use Rattle.oum_codec.specs.Numbers.{be_bytes}
 use Rattle.oum_codec.specs.Reading.{reading}
-use Rattle.oum_codec.specs.Spelling.{spelling, header, stamped_bytes, reply_bytes, request_bytes, install_bytes, ping_bytes, fragment_bytes}
+use Rattle.oum_codec.specs.Spelling.{spelling, header, stamped_bytes, reply_bytes, request_bytes, install_bytes, ping_bytes, fragment_bytes, read_bytes}
 use Rattle.fragments.specs.Cutting.{sends_of}
 use Rattle.lemmas.proofs.Members.{Has-none, Has-cases}
+use Rattle.client_reads.specs.declared.state.Reading.{Reading}
+use Rattle.client_reads.specs.declared.state.Reads.{Reads}
+use Rattle.client_reads.specs.ReadSteps as reads
+use Rattle.client_reads.specs.Rows as rows
+use Rattle.client_reads.proofs.RowLemmas.{row_of as reads_row}
 use Rattle.client_quorum.specs.declared.state.ClientState.{ClientState}
 use Rattle.client_quorum.specs.ClientSteps as client
+use Rattle.client_quorum.specs.Core as core
+use Rattle.client_quorum.specs.Core.{Client}
 use Rattle.client_quorum.specs.OpenRequests.{open_requests}
 use Rattle.client_quorum.specs.Rows.{Row, SaysBusy, Opens, Repeats, Accepts}
 use Rattle.client_quorum.proofs.RowLemmas.{row_of}
@@ -49,6 +56,7 @@ use Rattle.replica_core.specs.Posting.{posted}
 use Rattle.network_laws.specs.Sends.{IsAmong, GoesAmong}
 use Rattle.replica_state.specs.Sends.{SendingFits}
 use Rattle.network.specs.Network.{Sent, sends_of as sent_of, lines_from}
+use Rattle.safety.proofs.Coming.{IsAskedOf}
 
 -- ---- outputs
 
@@ -247,8 +255,45 @@ module _ (c : Configuration) (s : ClientState) (own : s.number < c.clients) wher
   row_goes i y (SaysBusy op is busy) = (tt, tt)
   row_goes i y _ = tt
 
-  pub client_goes : (i : Given) → OutsGo c (client.next s i).1
-  client_goes i = row_goes i (client.next s i) (row_of s i)
+  requests_go : (i : Given) → OutsGo c (client.next s i).1
+  requests_go i = row_goes i (client.next s i) (row_of s i)
+
+-- the read that waits is to an observer of the configuration
+abbrev pub HasPlace : Configuration → Option Reading → Type 0
+HasPlace c pending = IfSome pending (λ r. r.observer < c.observers)
+
+-- it stays so, and goes there
+record ReadsGo (c : Configuration) (y : Reads × List Out) : Type 0 where
+  stays : HasPlace c y.0.pending
+  sends : OutsGo c y.1
+
+module _ (c : Configuration) (s : Reads) (is : HasPlace c s.pending) where
+  read_goes : (r : Reading) → r.observer < c.observers → OutGoes c (reads.sent s.number r)
+  read_goes r there = record {
+    goes = there;
+    names = other_kind c kinds.READ (read_bytes (record { client = s.number; id = r.id; key = r.key })) refl;
+  }
+
+  reads_row_goes : (i : Given) → IsAskedOf c i → (y : Reads × List Out) → rows.Row s i y → ReadsGo c y
+  reads_row_goes i asked y (rows.Rests nothing) = record { stays = is; sends = tt }
+  reads_row_goes i asked y (rows.SaysBusy observer key of busy) = record { stays = is; sends = (tt, tt) }
+  reads_row_goes i asked y (rows.Asks observer key of may) =
+      let there : observer < c.observers = subst (IsAskedOf c) of asked in
+      record { stays = there; sends = (tt, (read_goes (reads.reading_of s observer key) there, tt)) }
+  reads_row_goes i asked y (rows.Repeats r of e) =
+      let there : r.observer < c.observers = subst (HasPlace c) e is in record { stays = is; sends = (read_goes r there, tt) }
+  reads_row_goes i asked y (rows.Ends r a has e answers) = record { stays = tt; sends = (tt, tt) }
+
+  reads_go : (i : Given) → IsAskedOf c i → ReadsGo c (reads.next s i)
+  reads_go i asked = reads_row_goes i asked (reads.next s i) (reads_row s i)
+
+module _ (c : Configuration) (s : Client) (is : HasPlace c s.reads.pending) (i : Given) (asked : IsAskedOf c i) where
+  pub client_goes : s.requests.number < c.clients → OutsGo c (core.next s i).1
+  client_goes own =
+      both_go c (client.next s.requests i).1 (reads.next s.reads i).1 (requests_go c s.requests own i) (reads_go c s.reads is i asked).sends
+
+  pub client_placed : HasPlace c (core.next s i).0.reads.pending
+  client_placed = (reads_go c s.reads is i asked).stays
 
 -- ---- controllers
 

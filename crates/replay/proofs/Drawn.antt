@@ -11,6 +11,7 @@ use Rattle.nop_types.specs.Lines.{Line}
 use Rattle.nop_types.specs.Meaning.{Meaning}
 use Rattle.nop_types.specs.declared.output.Actor.{Actor}
 use Rattle.nop_types.specs.declared.output.Actor.TheVariants as actors
+use Rattle.client_reads.specs.ReadSteps as reads
 use Rattle.client_quorum.specs.ClientSteps as client
 use Rattle.client_quorum.specs.OpenRequests as opened
 use Rattle.replica_core.specs.ReplicaSteps as replica
@@ -105,7 +106,7 @@ module _ {S : Type 0} (m : Meaning S) where
   sent_in (Ok h) = length h.world.sent
 
   first_count : sent_in (step m (opening drawn_config) first_event) ≡ 1
-  unfolding sent_in step stimulus_of client.next opened.has_room opened.open_requests
+  unfolding sent_in step stimulus_of client.next reads.next opened.has_room opened.open_requests
   first_count = refl
 
   pub first_sends : (h : Happened) → step m (opening drawn_config) first_event ≡ Ok h → 1 ≤ length h.world.sent

@@ -52,7 +52,7 @@ use Rattle.world.specs.Others.{Who, AReplica, Another, who, actor_at}
 use Rattle.world.specs.Seats.{Seated, Stimulus, Takes, Crashes, moved_if, seat_step}
 use Rattle.world.specs.WorldSteps as world
 use Rattle.world.specs.WorldSteps.{WorldState, Happened, Refusal, actor_of, stimulus_of, at_replica, at_other}
-use Rattle.world.specs.WorldSteps.{opening_others, step_of, step, go_on, run_from}
+use Rattle.world.specs.WorldSteps.{opening_client, opening_others, step_of, step, go_on, run_from}
 use Rattle.world.proofs.Others.{others_become}
 use Rattle.whole_world.specs.Passed as whole_passed
 use Rattle.whole_world.specs.Shows.{ShowsActors}
@@ -67,13 +67,13 @@ use Rattle.whole_world.proofs.Seats.{seats_hold}
 use Rattle.whole_world.proofs.Steps.{steps_lead}
 use Rattle.safety.specs.Following.{is_spoken, is_fragment, bytes_of, brought}
 use Rattle.safety.proofs.Beside.{Alike, Travels, real_letters}
-use Rattle.safety.proofs.Coming.{AllMayCome, event_comes}
+use Rattle.safety.proofs.Coming.{AllMayCome, IsAskedOf, AllAskedOf, event_comes, event_asks}
 use Rattle.safety.proofs.Following.{Both, world_after, opening_beside, both_then}
 use Rattle.safety.proofs.Replicas.{WholeSeat, whole_seat}
 use Rattle.safety.proofs.Taking.{took}
 use Rattle.replay.specs.Destinations.{IsDestOf}
 use Rattle.replay.proofs.Addressed.{IsReplyTo, Goes, NamesIn, IsAddressed, OutsGo, SubmitsOf, GivenNames, IsPlaced, sent_goes, lines_are_of}
-use Rattle.replay.proofs.Addressed.{dead_is_of, posted_goes, sequencer_goes, client_goes, controller_directs}
+use Rattle.replay.proofs.Addressed.{HasPlace, dead_is_of, posted_goes, sequencer_goes, client_goes, client_placed, controller_directs}
 use Rattle.replay.proofs.Asked.{AllAsked, HasAsked, moves_asked, none_asked}
 
 -- ---- the whole world beside a world
@@ -87,15 +87,16 @@ pub record At {S : Type 0} (m : Meaning S) (config : Configuration) (w : WorldSt
 
 -- ---- what holds of a world
 
--- a controller is one of the configuration
+-- a controller is one of the configuration, and so is the observer of which a client reads
 abbrev OtherPlaced : (k : Kind) → Configuration → State k → Type 0
+OtherPlaced Clients c s = HasPlace c s.reads.pending
 OtherPlaced Controllers c s = IsPlaced c s
 OtherPlaced _ c s = ⊤
 
 abbrev ArePlaced : Configuration → Others → Type 0
 ArePlaced c o = (k : Kind) (i : ℕ) (q : Seated (State k)) → slice_get (seats k o) i ≡ Some q → OtherPlaced k c q.state
 
--- what was sent goes to actors of the configuration, what was submitted is of its clients, and its controllers are there
+-- what was sent goes to actors of the configuration, what was submitted is of its clients, and its other actors are placed
 record Good (config : Configuration) (w : WorldState) (ls : List Line) : Type 0 where
   sent : (s : Sent) → Has w.sent s → IsAddressed config s.dest s.bytes
   submits : SubmitsOf config ls
@@ -147,16 +148,17 @@ seat_goes c next p true what go = tt
 seat_goes c next p false (Takes i) go = go i refl
 seat_goes c next p false Crashes go = tt
 
--- a controller's seat stays placed
-placed_on : (k : Kind) (c : Configuration) (s : State k) (i : Given) → OtherPlaced k c s → OtherPlaced k c (next k s i).0
-placed_on Controllers c s i is = (controller_directs c s i is).stays
-placed_on _ c s i is = tt
+-- a seat stays placed
+placed_on : (k : Kind) (c : Configuration) (s : State k) (i : Given) → IsAskedOf c i → OtherPlaced k c s → OtherPlaced k c (next k s i).0
+placed_on Clients c s i asked is = client_placed c s is i asked
+placed_on Controllers c s i asked is = (controller_directs c s i is).stays
+placed_on _ c s i asked is = tt
 
-seat_placed : (k : Kind) (c : Configuration) (p : Seated (State k)) (b : Bool) (what : Stimulus) → OtherPlaced k c p.state
-    → OtherPlaced k c (moved_if (next k) b p what).0.state
-seat_placed k c p true what is = is
-seat_placed k c p false (Takes i) is = placed_on k c p.state i is
-seat_placed k c p false Crashes is = is
+seat_placed : (k : Kind) (c : Configuration) (p : Seated (State k)) (b : Bool) (what : Stimulus) → AllAskedOf c what
+    → OtherPlaced k c p.state → OtherPlaced k c (moved_if (next k) b p what).0.state
+seat_placed k c p true what asked is = is
+seat_placed k c p false (Takes i) asked is = placed_on k c p.state i asked is
+seat_placed k c p false Crashes asked is = is
 
 module _ {S : Type 0} (m : Meaning S) (config : Configuration) (bounds : Bounds m Trimmed)
     (count : config.replicas ≡ 2 * (config.replicas / 2) + 1) (w : WorldState) (ls : List Line) (at : At m config w ls)
@@ -273,44 +275,52 @@ module _ {S : Type 0} (m : Meaning S) (config : Configuration) (bounds : Bounds 
       )
 
   other_goes : (k : Kind) (i : ℕ) (old : Seated (State k)) → slice_get (seats k w.others) i ≡ Some old → (given : Given)
-      → MayCome (bytes_of w.sent) given → OutsGo config (next k old.state given).1
-  other_goes Sequencers i old there given may = sequencer_goes config old.state given (given_names given may)
-  other_goes Clients i old there given may = client_goes config old.state.requests (own_number i old there) given
-  other_goes Controllers i old there given may =
+      → MayCome (bytes_of w.sent) given → IsAskedOf config given → OutsGo config (next k old.state given).1
+  other_goes Sequencers i old there given may asked = sequencer_goes config old.state given (given_names given may)
+  other_goes Clients i old there given may asked =
+      client_goes config old.state (good.others Clients i old there) given asked (own_number i old there)
+  other_goes Controllers i old there given may asked =
       (controller_directs config old.state given (good.others Controllers i old there)).sends
 
   other_keeps : (k : Kind) (i : ℕ) (old : Seated (State k)) (what : Stimulus) → slice_get (seats k w.others) i ≡ Some old
-      → AllMayCome (bytes_of w.sent) what → Keeps config w (at_other k w i (seat_step (next k) old what))
-  other_keeps k i old what there brings =
+      → AllMayCome (bytes_of w.sent) what → AllAskedOf config what → Keeps config w (at_other k w i (seat_step (next k) old what))
+  other_keeps k i old what there brings asked =
       let new : Seated (State k) = (seat_step (next k) old what).0 in
       record {
         from = actor_at (Another k i);
         did = (seat_step (next k) old what).1;
         goes = seat_goes config (next k) old old.crashed what
-            (λ given is. other_goes k i old there given (subst (AllMayCome (bytes_of w.sent)) is brings));
+            (λ given is. other_goes k i old there given (subst (AllMayCome (bytes_of w.sent)) is brings)
+            (subst (AllAskedOf config) is asked));
         sent = refl;
         lines = refl;
         others = others_become (λ j qs. (n : ℕ) (q : Seated (State j)) → slice_get qs n ≡ Some q → OtherPlaced j config q.state)
             w.others k (slice_set (seats k w.others) i new)
             (seats_hold (OtherPlaced k config) (seats k w.others) i new
-            (seat_placed k config old old.crashed what (good.others k i old there)) (good.others k)) good.others;
+            (seat_placed k config old old.crashed what asked (good.others k i old there)) (good.others k)) good.others;
       }
 
   -- ---- events
 
   actor_keeps : (x : Who) (r : Result Stimulus Refusal) (h : Happened)
-      → ((what : Stimulus) → r ≡ Ok what → AllMayCome (bytes_of w.sent) what) → step_of m w x r ≡ Ok h → Keeps config w h
-  actor_keeps (AReplica i) r h brings e =
+      → ((what : Stimulus) → r ≡ Ok what → AllMayCome (bytes_of w.sent) what)
+      → ((what : Stimulus) → r ≡ Ok what → AllAskedOf config what) → step_of m w x r ≡ Ok h → Keeps config w h
+  actor_keeps (AReplica i) r h brings asks e =
       let t = took (at_replica w i) (replica.next m) (slice_get w.replicas i) r h e in
       subst (Keeps config w) t.gives (replica_keeps i t.seat t.what t.there (brings t.what t.brought))
-  actor_keeps (Another k i) r h brings e =
+  actor_keeps (Another k i) r h brings asks e =
       let t = took (at_other k w i) (next k) (slice_get (seats k w.others) i) r h e in
-      subst (Keeps config w) t.gives (other_keeps k i t.seat t.what t.there (brings t.what t.brought))
-  actor_keeps _ r h brings e = absurd cc
+      subst (Keeps config w) t.gives (other_keeps k i t.seat t.what t.there (brings t.what t.brought) (asks t.what t.brought))
+  actor_keeps _ r h brings asks e = absurd cc
+
+  world_config : w.config ≡ config
+  world_config = alike.config ∙ at.at.stands.same
 
   step_keeps : (x : Event) (h : Happened) → step m w x ≡ Ok h → Keeps config w h
   unfolding step
-  step_keeps x h e = actor_keeps (who (actor_of x)) (stimulus_of w.config w.sent x) h (event_comes w.sent w.config x) e
+  step_keeps x h e =
+      actor_keeps (who (actor_of x)) (stimulus_of w.config w.sent x) h (event_comes w.sent w.config x)
+      (λ what is. subst (λ (g : Configuration). AllAskedOf g what) world_config (event_asks w.config w.sent x what is)) e
 
 -- ---- lists of events
 
@@ -372,6 +382,8 @@ module _ {S : Type 0} (m : Meaning S) (IsSound : S → Type 0) (keeps : KeepsTo 
         number = counted_within (controller.opening config) config.controllers k q there;
         current = some_sequencer;
       })
+  others_placed Clients k q there =
+      subst (OtherPlaced Clients config) (counted_get (opening_client config) config.clients k q there) tt
   others_placed _ k q there = tt
 
   nothing_sent : Good config (world.opening config) []

@@ -1,8 +1,8 @@
--- What an event delivers to its actor was sent, or is no datagram.
-use Rattle.std.proofs.Common.{◌≡◌, ℕ, Bool, true, false, Option, Some, None, refl, subst, inl, inr, List, length}
+-- What an event delivers to its actor was sent, or is no datagram; a key that it asks for is of an observer that is there.
+use Rattle.std.proofs.Common.{◌≡◌, ◌<◌, ℕ, Bool, true, false, Option, Some, None, refl, subst, inl, inr, List, length}
 use Rattle.std.specs.Prelude.{⊤, nat_lt, Result, Ok, Err, slice_get}
 use Rattle.nop_types.specs.Configuration.{Configuration}
-use Rattle.nop_types.specs.Given.{Packet, Ticked, Submit}
+use Rattle.nop_types.specs.Given.{Given, Packet, Ticked, Submit, Read}
 use Rattle.nop_types.specs.declared.datagram.Datagram.{Datagram}
 use Rattle.nop_types.specs.declared.input.Tick.{Tick}
 use Rattle.nop_types.specs.declared.input.Tick.TheVariants as ticks
@@ -52,3 +52,38 @@ module _ (sent : List Sent) where
   event_comes config (events.Install k j) what e = tick_comes (nat_lt j config.sequencers) (ticks.Install j) what e
   event_comes config (events.Crash actor) what e = let same : Crashes ≡ what = cc in subst (AllMayCome (bytes_of sent)) same tt
   event_comes config (events.Junk actor bytes) what e = junk_comes bytes (reading bytes) what refl e
+
+-- ---- reads
+
+-- a key is asked of an observer of the configuration
+abbrev pub IsAskedOf : Configuration → Given → Type 0
+IsAskedOf config (Read observer key) = observer < config.observers
+IsAskedOf config _ = ⊤
+
+abbrev pub AllAskedOf : Configuration → Stimulus → Type 0
+AllAskedOf config (Takes i) = IsAskedOf config i
+AllAskedOf config Crashes = ⊤
+
+module _ (config : Configuration) where
+  tick_asks : (b : Bool) (tick : Tick) (what : Stimulus) → tick_if b tick ≡ Ok what → AllAskedOf config what
+  tick_asks true tick what e = let same : Takes (Ticked tick) ≡ what = cc in subst (AllAskedOf config) same tt
+  tick_asks false tick what e = absurd cc
+
+  datagram_asks : (index count : ℕ) (o : Option Sent) (what : Stimulus) → datagram_at index count o ≡ Ok what → AllAskedOf config what
+  datagram_asks index count None what e = absurd cc
+  datagram_asks index count (Some s) what e =
+      let same : Takes (Packet s.bytes) ≡ what = cc in subst (AllAskedOf config) same tt
+
+  junk_asks : (bytes : List ℕ) (r : Result Datagram Bad) (what : Stimulus) → junk_of bytes r ≡ Ok what → AllAskedOf config what
+  junk_asks bytes (Ok d) what e = absurd cc
+  junk_asks bytes (Err bad) what e = let same : Takes (Packet bytes) ≡ what = cc in subst (AllAskedOf config) same tt
+
+  pub event_asks : (sent : List Sent) (x : Event) (what : Stimulus) → stimulus_of config sent x ≡ Ok what → AllAskedOf config what
+  unfolding stimulus_of
+  event_asks sent (events.Submit number op) what e =
+      let same : Takes (Submit op) ≡ what = cc in subst (AllAskedOf config) same tt
+  event_asks sent (events.Deliver index actor) what e = datagram_asks index (length sent) (slice_get sent index) what e
+  event_asks sent (events.Tick actor tick) what e = tick_asks (takes_tick actor tick) tick what e
+  event_asks sent (events.Install k j) what e = tick_asks (nat_lt j config.sequencers) (ticks.Install j) what e
+  event_asks sent (events.Crash actor) what e = let same : Crashes ≡ what = cc in subst (AllAskedOf config) same tt
+  event_asks sent (events.Junk actor bytes) what e = junk_asks bytes (reading bytes) what e

@@ -1,5 +1,5 @@
 -- What an actor that is no replica sends is no fragment, and its lines are those of which the whole world speaks.
-use Rattle.std.proofs.Common.{◌≡◌, ℕ, ◌+◌, Bool, true, false, cond, List, [], ◌∷◌, Option, Some, None, map, refl, ap}
+use Rattle.std.proofs.Common.{◌≡◌, ℕ, ◌+◌, Bool, true, false, cond, List, [], ◌∷◌, ◌++◌, Option, Some, None, map, refl, ap}
 use Rattle.std.specs.Prelude.{Result, Ok, Err, not, filter, ⊤}
 use Rattle.nop_types.specs.Given.{Given, Packet, Ticked}
 use Rattle.nop_types.specs.Lines.{Line}
@@ -7,6 +7,7 @@ use Rattle.nop_types.specs.Lines as lines
 use Rattle.nop_types.specs.declared.datagram.Datagram.{Datagram}
 use Rattle.nop_types.specs.declared.datagram.Datagram.TheVariants as datagrams
 use Rattle.nop_types.specs.declared.datagram.Fragment.{Fragment}
+use Rattle.nop_types.specs.declared.datagram.Read.{Read}
 use Rattle.nop_types.specs.declared.datagram.Reply.{Reply}
 use Rattle.nop_types.specs.declared.datagram.Stamped.{Stamped}
 use Rattle.nop_types.specs.declared.input.Tick.{Tick}
@@ -17,8 +18,13 @@ use Rattle.nop_types.specs.declared.output.Out.TheVariants as outs
 use Rattle.nop_types.specs.declared.request.Request.{Request}
 use Rattle.oum_codec.specs.declared.bad.Bad.{Bad}
 use Rattle.oum_codec.specs.Fixed.{request_fields_at, request_in_range, stamped_fields_at, stamped_in_range, reply_fields_at, reply_in_range}
-use Rattle.oum_codec.specs.Reading.{◌>>=◌, fields_of, sized, reading, request_of, stamped_of, reply_of, install_of, ping_of}
-use Rattle.oum_codec.specs.Spelling.{spelling, request_bytes, stamped_bytes, reply_bytes, install_bytes, ping_bytes}
+use Rattle.oum_codec.specs.Fixed.{read_in_range}
+use Rattle.oum_codec.specs.Reading.{◌>>=◌, fields_of, sized, reading, request_of, stamped_of, reply_of, install_of, ping_of, read_of}
+use Rattle.oum_codec.specs.Spelling.{spelling, request_bytes, stamped_bytes, reply_bytes, install_bytes, ping_bytes, read_bytes}
+use Rattle.client_reads.specs.declared.state.Reads.{Reads}
+use Rattle.client_reads.specs.ReadSteps as asked
+use Rattle.client_reads.specs.Rows as reads
+use Rattle.client_reads.proofs.RowLemmas.{row_of as read_row}
 use Rattle.client_quorum.specs.ClientSteps as client
 use Rattle.client_quorum.specs.Core.{Client}
 use Rattle.client_quorum.specs.OpenRequests.{open_requests}
@@ -80,6 +86,12 @@ reply_other bytes =
       result = x;
     })) (λ f x. refl)
 
+read_other : (bytes : List ℕ) → IsOther (read_of bytes)
+unfolding read_of
+read_other bytes =
+    parts_other (fields_of (request_fields_at bytes) read_in_range) (λ f. sized f.0.op_len f.0.op_len f.1)
+    (λ f key. datagrams.Read (record { client = f.0.client; id = f.0.id; key = key })) (λ f x. refl)
+
 pub request_is : (r : Request) → IsOther (reading (spelling (datagrams.Request r)))
 unfolding reading
 request_is r = request_other (request_bytes r)
@@ -110,12 +122,21 @@ pub pong_is : (k j n : ℕ) → IsOther (reading (spelling (datagrams.Pong k j n
 unfolding reading
 pong_is k j n = then_other (ping_of (ping_bytes k j n)) (λ f. Ok (datagrams.Pong f.controller f.sequencer f.round)) (λ f. refl)
 
+pub read_is : (r : Read) → IsOther (reading (spelling (datagrams.Read r)))
+unfolding reading
+read_is r = read_other (read_bytes r)
+
 -- ---- outputs without fragments
 
 abbrev pub AreOther : List Out → Type 0
 AreOther [] = ⊤
 AreOther (outs.Send dest bytes ∷ rest) = IsOther (reading bytes) × AreOther rest
 AreOther (_ ∷ rest) = AreOther rest
+
+are_other : (xs ys : List Out) → AreOther xs → AreOther ys → AreOther (xs ++ ys)
+are_other [] ys first rest = rest
+are_other (outs.Send dest bytes ∷ xs) ys first rest = (first.0, are_other xs ys first.1 rest)
+are_other (_ ∷ xs) ys first rest = are_other xs ys first rest
 
 pub one_kept : (s : Sent) (b : Bool) (xs ys : List Sent) → b ≡ false → xs ≡ ys → cond (not b) (s ∷ xs) xs ≡ s ∷ ys
 one_kept s true xs ys e same = absurd cc
@@ -148,8 +169,16 @@ row_sends s i y (Opens op waiting can from) = (request_is _, tt)
 row_sends s i y (Repeats is) = retry_sends (open_requests s)
 row_sends s i y _ = tt
 
+reads_send : (s : Reads) (i : Given) (y : Reads × List Out) → reads.Row s i y → AreOther y.1
+reads_send s i y (reads.Asks observer key is may) = (read_is _, tt)
+reads_send s i y (reads.Repeats r is e) = (read_is _, tt)
+reads_send s i y _ = tt
+
 client_sends : (s : Client) (i : Given) → AreOther (next Clients s i).1
-client_sends s i = row_sends s.requests i (client.next s.requests i) (row_of s.requests i)
+client_sends s i =
+    are_other (client.next s.requests i).1 (asked.next s.reads i).1
+    (row_sends s.requests i (client.next s.requests i) (row_of s.requests i))
+    (reads_send s.reads i (asked.next s.reads i) (read_row s.reads i))
 
 -- ---- sequencers
 
@@ -230,7 +259,7 @@ other_sends Controllers = controller_sends
 
 client_ignores : (bytes : List ℕ) (f : Fragment) → reading bytes ≡ Ok (datagrams.Fragment f) → (s : Client)
     → next Clients s (Packet bytes) ≡ (s, [])
-unfolding client.next
+unfolding client.next asked.next
 client_ignores bytes f e s = rw e refl
 
 -- a fragment changes nothing at them

@@ -15,6 +15,9 @@ use Rattle.nop_types.specs.declared.datagram.Datagram.TheVariants as datagrams
 use Rattle.nop_types.specs.declared.output.Actor.{Actor}
 use Rattle.nop_types.specs.declared.output.Out.{Out}
 use Rattle.lemmas.proofs.Members.{Has-none, Has-cases, Has-append_cases}
+use Rattle.client_reads.specs.declared.state.Reads.{Reads}
+use Rattle.client_reads.specs.ReadSteps as reads
+use Rattle.client_reads.proofs.Ranges.{stays_within}
 use Rattle.client_quorum.specs.declared.state.ClientState.{ClientState}
 use Rattle.client_quorum.specs.ClientSteps as requests
 use Rattle.client_quorum.specs.Core as client
@@ -55,6 +58,7 @@ use Rattle.whole_world.proofs.Coming.{Comes}
 use Rattle.whole_world.proofs.Fitting.{carries_after, there_after, spelled_after}
 use Rattle.whole_world.proofs.Outputs.{lines_are_added}
 use Rattle.whole_world.proofs.Quiet.{idle_past}
+use Rattle.whole_world.proofs.ReadOutputs.{leads_with, reads_carry, reads_say_none}
 use Rattle.whole_world.proofs.Seats.{seats_become, seats_shown, seats_hold}
 
 -- ---- the network
@@ -182,6 +186,10 @@ module _ {S : Type 0} (m : Meaning S) (f : ℕ) (config : Configuration) (p : Pa
     abbrev client_step : ClientState × List Out
     client_step = requests.next old.state.requests i
 
+    -- and of its reads
+    abbrev reads_step : Reads × List Out
+    reads_step = reads.next old.state.reads i
+
     abbrev client_after : Conf
     client_after = with_client c k client_step
 
@@ -192,9 +200,20 @@ module _ {S : Type 0} (m : Meaning S) (f : ℕ) (config : Configuration) (p : Pa
     client_in_ranges : AllFit client_after × ClientFits client_step.0
     client_in_ranges =
         let same : c.clients k ≡ old.state.requests = shown.others Clients k old there in
-        let fits : ClientFits (c.clients k) = subst ClientFits (sym same) (at.stands.ranges.others Clients k old there) in
+        let fits : ClientFits (c.clients k) = subst ClientFits (sym same) (at.stands.ranges.others Clients k old there).0 in
         subst (λ (s : ClientState). AllFit (with_client c k (requests.next s i)) × ClientFits (requests.next s i).0) same
         (clients_stay_in_ranges c k i all_fit fits comes.fits)
+
+    reads_within : reads.IsWithin old.state.reads
+    reads_within = (at.stands.ranges.others Clients k old there).1
+
+    both_reach : LeadsTo m f c client_after core_step.1
+    both_reach =
+        leads_with m f c client_after client_step.1 reads_step.1 client_reaches (reads_say_none old.state.reads i)
+        (reads_carry client_after old.state.reads i reads_within comes.key)
+
+    both_in_ranges : ClientFits client_step.0 × reads.IsWithin reads_step.0
+    both_in_ranges = (client_in_ranges.1, stays_within old.state.reads i reads_within comes.key)
 
     client_shown : (j : Kind) (n : ℕ) (q : Seated (State j))
         → slice_get (seats j (with_seat Clients w.others k (seated core_step.0))) n ≡ Some q → IsShown j client_after n q.state
@@ -204,7 +223,7 @@ module _ {S : Type 0} (m : Meaning S) (f : ℕ) (config : Configuration) (p : Pa
 
     client_goes : StepGoes Clients k old i
     client_goes =
-        other_goes_by Clients k core_step client_after client_reaches client_in_ranges.0 client_in_ranges.1 shown.givers
+        other_goes_by Clients k core_step client_after both_reach client_in_ranges.0 both_in_ranges shown.givers
         refl refl refl client_shown
 
   -- ---- sequencers

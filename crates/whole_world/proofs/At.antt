@@ -4,6 +4,7 @@ use Rattle.nop_types.specs.Configuration.{Configuration}
 use Rattle.nop_types.specs.Lines.{Line}
 use Rattle.nop_types.specs.Logs.{Whole}
 use Rattle.nop_types.specs.Meaning.{Meaning}
+use Rattle.client_reads.specs.ReadSteps as reads
 use Rattle.session_control.specs.ControllerSteps as controller
 use Rattle.oum_receiver.specs.Receiving.{IsSound}
 use Rattle.replica_state.specs.Within.{IsIn}
@@ -28,7 +29,7 @@ pub record ReplicaFits (i : ℕ) (r : WholeReplica) : Type 0 where
   pub receiver : IsSound r.state.receiver
 
 abbrev pub OtherFits : (k : Kind) → State k → Type 0
-OtherFits Clients s = ClientFits s.requests
+OtherFits Clients s = ClientFits s.requests × reads.IsWithin s.reads
 OtherFits Controllers s = controller.IsWithin s
 OtherFits _ s = ⊤
 

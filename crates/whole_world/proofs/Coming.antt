@@ -12,6 +12,7 @@ use Rattle.nop_types.specs.declared.datagram.Datagram.{Datagram}
 use Rattle.nop_types.specs.declared.datagram.Datagram.TheVariants as datagrams
 use Rattle.nop_types.specs.declared.peer.Peer.{Peer}
 use Rattle.lemmas.proofs.Members.{Has-first, Has-rest}
+use Rattle.client_reads.specs.Runs.{KeyFits}
 use Rattle.oum_codec.specs.declared.bad.Bad.{Bad}
 use Rattle.oum_codec.specs.Reading.{reading}
 use Rattle.replica_rows.specs.Messages.{Arrival, Packet, PeerMessage, Ticked}
@@ -104,6 +105,7 @@ messages_were_sent w q n a e = message_was_sent w q n (letter_of w.letters q n) 
 pub record Comes (c : Conf) (i : Given) : Type 0 where
   pub may : MayCome c i
   pub fits : GivenFits i
+  pub key : KeyFits i
 
 module _ (c : Conf) (sent : List Sent) (carries : Carries sent c) where
   equal_comes : (bytes : List ℕ) (i : Given) → input_of sent (Equal bytes) ≡ Some i → Comes c i
@@ -111,17 +113,21 @@ module _ (c : Conf) (sent : List Sent) (carries : Carries sent c) where
       let t = datagrams_were_sent sent bytes i e in
       let s = t.1 in
       subst (Comes c) (sym t.0) (subst (λ (b : List ℕ). Comes c (given.Packet b)) s.same
-      (record { may = arrived c s.datagram.bytes (carries.spelled s.datagram s.has) (λ d. carries.only s.datagram d s.has); fits = tt }))
+      (record {
+        may = arrived c s.datagram.bytes (carries.spelled s.datagram s.has) (λ d. carries.only s.datagram d s.has);
+        fits = tt;
+        key = tt;
+      }))
 
   junk_comes : (bytes : List ℕ) (i : Given) → input_of sent (Junk bytes) ≡ Some i → Comes c i
   junk_comes bytes i e =
       let t = junk_is_no_datagram sent bytes i e in
       let none : reading bytes ≡ Err t.1.error = t.1.refused in
-      subst (Comes c) (sym t.0) (record { may = λ d read. absurd cc; fits = tt })
+      subst (Comes c) (sym t.0) (record { may = λ d read. absurd cc; fits = tt; key = tt })
 
   pub brings_come : (b : Brings) (i : Given) → BringsFits b → input_of sent b ≡ Some i → Comes c i
-  brings_come (Op op) i fits e = let same : given.Submit op ≡ i = cc in subst (Comes c) same (record { may = tt; fits = fits })
-  brings_come (Timer tick) i fits e = let same : given.Ticked tick ≡ i = cc in subst (Comes c) same (record { may = tt; fits = tt })
+  brings_come (Op op) i fits e = let same : given.Submit op ≡ i = cc in subst (Comes c) same (record { may = tt; fits = fits; key = tt })
+  brings_come (Timer tick) i fits e = let same : given.Ticked tick ≡ i = cc in subst (Comes c) same (record { may = tt; fits = tt; key = tt })
   brings_come (Junk bytes) i fits e = junk_comes bytes i e
   brings_come (Equal bytes) i fits e = equal_comes bytes i e
   brings_come _ i fits e = absurd cc

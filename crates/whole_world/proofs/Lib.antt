@@ -14,6 +14,7 @@ pub mod Opening
 pub mod Outputs
 pub mod Pasts
 pub mod Quiet
+pub mod ReadOutputs
 pub mod ReplicaSteps
 pub mod RowPoints
 pub mod RowRanges

@@ -1,7 +1,7 @@
 -- The opening of the protocol stands for the opening of the whole world.
 use Rattle.std.proofs.Common.{◌≡◌, ℕ, zero, suc, ◌+◌, ◌*◌, ◌<◌, Some, refl, sym, ap, subst, ◌∙◌, arith, inl, inr, length, length-append}
 use Rattle.std.proofs.Common.{[], ◌∷◌}
-use Rattle.std.specs.Prelude.{slice_get, IsTrue}
+use Rattle.std.specs.Prelude.{◌^◌, slice_get, IsTrue}
 use Rattle.std.proofs.lemmas.Option.{slice_get_within}
 use Rattle.nop_types.specs.Configuration.{Configuration, is_configuration}
 use Rattle.nop_types.specs.Logs.{Whole}
@@ -23,7 +23,6 @@ use Rattle.world.proofs.Refusals.{opening_has_actors}
 use Rattle.network_laws.proofs.InRanges.{opens_in_ranges}
 use Rattle.refinement.specs.Controllers.{control_of}
 use Rattle.refinement.specs.Projection.{local_state_of}
-use Rattle.refinement.specs.Ranges.{ClientFits}
 use Rattle.whole_world.specs.Whole.{WholeReplica, opening_replica}
 use Rattle.whole_world.specs.Passed.{first}
 use Rattle.whole_world.specs.Shows.{IsShown}
@@ -63,10 +62,13 @@ pub counted_within : {S : Type 0} (make : ℕ → S) (n i : ℕ) (p : Seated S) 
 counted_within make n i p e = omega (arith, slice_get_within (numbered_seats make n) i p e, counted_length make n)
 
 client_opens : (config : Configuration) → IsTrue (is_configuration config) → (k : ℕ) → k < config.clients
-    → ClientFits (opening_client config k).requests
+    → OtherFits Clients (opening_client config k)
 client_opens config is k l =
     let few = counts_from config is in
-    record { number = omega (arith, l, few.clients); waiting = λ op h. absurd (Has-none op h) }
+    let small : k < 2 ^ 32 = omega (arith, l, few.clients) in (
+      record { number = small; waiting = λ op h. absurd (Has-none op h) },
+      record { number = small; last_id = omega arith; pending = tt },
+    )
 
 replica_opens : (config : Configuration) → IsTrue (is_configuration config) → (i : ℕ) → i < config.replicas
     → ReplicaFits i (opening_replica config i)
@@ -85,7 +87,7 @@ others_shown config Controllers i p e =
 others_fit : (config : Configuration) → IsTrue (is_configuration config) → (k : Kind) (i : ℕ) (p : Seated (State k))
     → slice_get (seats k (opening_others config)) i ≡ Some p → OtherFits k p.state
 others_fit config is Clients i p e =
-    subst (λ (s : Client). ClientFits s.requests) (counted_get (opening_client config) config.clients i p e)
+    subst (OtherFits Clients) (counted_get (opening_client config) config.clients i p e)
     (client_opens config is i (counted_within (opening_client config) config.clients i p e))
 others_fit config is Controllers i p e =
     subst controller.IsWithin (counted_get (controller.opening config) config.controllers i p e)

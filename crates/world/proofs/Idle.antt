@@ -12,6 +12,7 @@ use Rattle.nop_types.specs.declared.output.Actor.TheVariants as actors
 use Rattle.nop_types.specs.declared.output.Out.{Out}
 use Rattle.oum_codec.specs.declared.bad.Bad.{Bad}
 use Rattle.oum_codec.specs.Reading.{reading}
+use Rattle.client_reads.specs.ReadSteps as reads
 use Rattle.client_quorum.specs.ClientSteps as requests
 use Rattle.client_quorum.specs.Core.{Client}
 use Rattle.replica_core.specs.ReplicaSteps as replica
@@ -105,7 +106,7 @@ unfolding replica.next
 replica_ignores m bytes b e s = ap (replica.on_datagram m s) e
 
 client_ignores : (bytes : List ℕ) (b : Bad) → reading bytes ≡ Err b → (s : Client) → next Clients s (Packet bytes) ≡ (s, [])
-unfolding requests.next
+unfolding requests.next reads.next
 client_ignores bytes b e s = rw e refl
 
 other_ignores : (k : Kind) (bytes : List ℕ) (b : Bad) → reading bytes ≡ Err b → (s : State k) → next k s (Packet bytes) ≡ (s, [])

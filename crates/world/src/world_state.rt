@@ -57,13 +57,14 @@ impl<H: Host> Model for World<H> {
     ghost use Rattle.std.specs.Coded.{codes};
     ghost use Rattle.nop_types.specs.Machine.{Machine};
     ghost use Rattle.client_quorum.specs.contracts.state.ClientState as client;
+    ghost use Rattle.client_quorum.specs.Code.{reads_code};
     ghost use Rattle.replica_core.specs.Code.{replica_code};
     ghost use Rattle.world.specs.WorldSteps.{WorldState};
     ghost use Rattle.world.specs.Actors.{world_of};
 
     ghost Value = { Machine WorldState };
 
-    ghost coded = { Prim.hlevel (codes, replica_code, client.the_row.coded) };
+    ghost coded = { Prim.hlevel (codes, replica_code, client.the_row.coded, reads_code) };
 
     ghost view = { λ w. record { failed = w.failed; state = world_of w.actors } };
 
