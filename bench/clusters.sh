@@ -43,7 +43,7 @@ for ((i = 0; i < runs; i++)); do
     count=$((clients * each))
     ops=()
     for ((j = 0; j < count; j++)); do ops+=("$(op "$j")"); done
-    "$program" cluster --replicas $replicas --sequencers $sequencers --clients $clients --base $((base + i * 40 % 8000)) \
+    "$program" cluster --replicas $replicas --sequencers $sequencers --clients $clients --base $((base + i * 64 % 8000)) \
         --turns "$turns" "${ops[@]}" \
         > "$folder/out" 2> "$folder/err"
     status=$?

@@ -7,12 +7,13 @@
 #   bench/damaged.sh        COUNT     how many cases (1,000,000)
 #                           COMPARED  how many of them the other program replays too (50,000)
 #                           NUMBER    what the cases are drawn from (1);  FIRST  the first case (0)
-#                           PEER      the other program; it takes the words `replay`, and `schedule SEED STEPS REPLICAS
-#                                     SEQUENCERS CLIENTS CONTROLLERS`, which writes a valid schedule
+#                           PEER      the other program, with its first words, if any; it takes the words `replay`, and `schedule SEED
+#                                     STEPS REPLICAS SEQUENCERS CLIENTS CONTROLLERS OBSERVERS`, which writes a valid schedule
 #                           NOPAXOS   the program file (crates/nopaxos/out/nopaxos)
 #
 # The same numbers, with the same PEER, give the same cases. The schedules that are damaged are those of examples/, and 400 that PEER
-# writes; without PEER only the former, and nothing is compared. It takes one to two milliseconds a case, on one processor.
+# writes, half of them with observers; without PEER only the former, and nothing is compared. It takes one to two milliseconds a case,
+# on one processor.
 set -eu
 
 cd "$(dirname "$0")/.."
@@ -29,15 +30,14 @@ trap 'exit 130' INT TERM
 cp examples/*.schedule "$folder"
 every=0
 if [ -n "$peer" ]; then
-    peer=$(realpath "$peer")
     seed=0
     for replicas in 1 3 5 7; do
         for steps in 3 8 20 40 80; do
-            for others in '1 1 1' '1 3 2' '2 2 2' '4 16 4'; do
+            for others in '1 1 1 0' '1 3 2 1' '2 2 2 0' '4 16 4 4'; do
                 for _ in 1 2 3 4 5; do
                     seed=$((seed + 1))
                     # shellcheck disable=SC2086
-                    "$peer" schedule $seed $steps $replicas $others >"$folder/drawn-$seed.schedule"
+                    $peer schedule $seed $steps $replicas $others >"$folder/drawn-$seed.schedule"
                 done
             done
         done

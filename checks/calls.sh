@@ -9,7 +9,7 @@ nopaxos=$program
 needs "" kv_call
 
 . checks/nodes.bash
-base=$((20000 + $$ % 2000 * 20))
+base=$((20000 + $$ % 600 * 64))
 nodes_of "$nopaxos" --replicas 3 --sequencers 1 --base "$base"
 
 # ends STATUS WANTED ARGUMENTS..: the program ends with this status, and writes what is wanted.
@@ -57,7 +57,7 @@ called 4294967295 '=0x206b' delete k
 # Sequencer 0 holds its port, which is that of client 0 of a service 8 ports below.
 ends 5 '' "$((base - 8))" 3 1 0 20000 get k
 # Nobody is at these ports.
-ends 7 '' "$((base + 32))" 3 1 0 20 get k
+ends 7 '' "$((base + 64))" 3 1 0 20 get k
 
 usage='usage: kv_call PORT REPLICAS SEQUENCERS CLIENT TURNS OP'
 for words in '' "$base 3 1 7 20" "$base 3 1 7 20 take k" "$base 3 1 7 20 get" "$base 3 1 7 20 get k v" "$base 3 1 7 20 get 0x" \

@@ -69,10 +69,12 @@ runs docs/OWN-SERVICE.md 'crates/lock_spacetime/out/lock_spacetime < crates/lock
 is_picture
 
 # A cluster of processes, whose leader is killed, and then its sequencer and a controller: four clients put and get, and the last reads
-# its own value.
+# its own value; an observer is read before and after the leader's end.
 made=$((made + 1))
 if examples/cluster.sh > "$folder/out" 2> "$folder/err"; then
-    [ "$(grep -c '^status 0$' "$folder/out")" = 4 ] || differs "not each client of examples/cluster.sh ends with status 0"
+    [ "$(grep -c '^status 0$' "$folder/out")" = 6 ] || differs "not each client of examples/cluster.sh ends with status 0"
+    grep -qE '^answer c4 1 o0 [1-9][0-9]* 3d77$' "$folder/out" && grep -qE '^answer c5 1 o0 [1-9][0-9]* 3d78$' "$folder/out" ||
+        differs "the observer of examples/cluster.sh is behind"
     grep -qx 'accept c3 2 3d79' "$folder/out" && grep -qx 'answer: =y' "$folder/out" ||
         differs "the last client of examples/cluster.sh reads another value"
 else

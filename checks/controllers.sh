@@ -9,7 +9,7 @@
 needs "${NOPAXOS:-}" nopaxos -- replay
 
 . checks/nodes.bash
-nodes_of "$program" --replicas 3 --sequencers 4 --base $((20000 + $$ % 2000 * 20))
+nodes_of "$program" --replicas 3 --sequencers 4 --base $((20000 + $$ % 600 * 64))
 
 # client NUMBER: it puts its number at a key of its own, and gets it.
 client() {

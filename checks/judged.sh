@@ -1,7 +1,7 @@
 #!/bin/bash
 # Judges each transcript of examples/: one that `replay` ended with `end` is legal, with the numbers of its lines; one with an error line
 # is refuted at that line, by clause 2; one without a schedule has the answer that the story beside it shows. Then the example of
-# docs/HISTORIES.md. It takes a second, leaves nothing behind, and ends with status 1 at any difference.
+# docs/HISTORIES.md, and lines of observers. It takes a second, leaves nothing behind, and ends with status 1 at any difference.
 #
 #   checks/judged.sh             the program is crates/nopaxos/out/nopaxos, or the file that NOPAXOS names
 . "$(dirname "$0")/common.bash" || exit 2
@@ -40,5 +40,15 @@ done
 judged 'the example of docs/HISTORIES.md' "$folder/recorded" 'legal 3 2 3'
 sed 's/^accept c1 2 .*/accept c1 2 6e6f6e65/' "$folder/recorded" > "$folder/changed"
 judged 'the same with another result' "$folder/changed" 'refuted line 6 clause 5'
+
+# lines of observers are passed over, in their place
+watched() { printf '%s\n' 'transcript 3 replicas 1 sequencers 1 clients 1 controllers 1 observers 2' "$@" > "$folder/watched"; }
+state='replica r0 up normal 0 1 0 0'
+watched 'read c0 1 o1 6b' 'answer c0 1 o1 0 6e6f6e65' "$state" 'observer o0 up 0' 'observer o1 crashed 7' end
+judged 'two observers' "$folder/watched" 'legal 0 0 0'
+watched 'observer o0 up 0' "$state" end
+judged 'a replica behind an observer' "$folder/watched" 'refuted line 3 clause 2'
+watched 'observer o4 up 0' end
+judged 'an observer that no configuration has' "$folder/watched" 'refuted line 2 clause 2'
 
 concludes

@@ -25,7 +25,7 @@ results() {
 }
 
 . checks/nodes.bash
-base=$((20000 + $$ % 2000 * 20))
+base=$((20000 + $$ % 600 * 64))
 nodes_of "$program" --replicas 3 --sequencers 1 --base "$base"
 
 # ends NAME WANTED_STATUS WANTED WORDS..: the program is run with these words, and writes what is wanted.
@@ -53,7 +53,7 @@ answered() {
 }
 
 # ---- commands that need no network
-ends 'the words' 2 'usage: lock_service replay | gen | node | sequencer | controller | client | cluster | check' stop
+ends 'the words' 2 'usage: lock_service replay | gen | node | sequencer | controller | client | cluster | check | observer | read' stop
 ends 'the stored transcript' 0 'legal 6 6 6' check < crates/lock_service/stdout
 sed "s/^accept c1 2 .*/accept c1 2 6772616e7465640000000000000001/" crates/lock_service/stdout > "$folder/changed"
 ends 'a token that is granted again' 8 'refuted line 31 clause 5' check < "$folder/changed"
@@ -83,5 +83,15 @@ kills r0
 answered 1 'held 1 ann;' "$bob"
 answered 2 'released;' "$release"
 answered 3 'granted 2; held 2 bob;' "$bob" "$inspect"
+
+# ---- an observer of locks: it is asked by the op G, which is none of theirs
+start o0 observer --id 0
+sleep 0.3
+made=$((made + 1))
+# shellcheck disable=SC2086
+timeout 60 "$program" read --id 4 --observer 0 $site --turns 2000 6462 > "$folder/out" 2>&1
+status=$?
+[ "$status" = 0 ] && [ "$(sed '/^served /d' "$folder/out")" = 'read c4 1 o0 6462
+answer c4 1 o0 0 626164' ] || differs "the observer: status $status, '$(head -c 300 "$folder/out")'"
 
 concludes

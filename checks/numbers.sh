@@ -111,6 +111,7 @@ network LOOKBACK
 network LINE_ROOM
 schedule_text MAX_OP_TEXT
 schedule_text MAX_JUNK_TEXT
+schedule_text MAX_KEY_TEXT
 transcript_rows MAX_OP_TEXT
 replay GATHERED_BYTES
 picture_arrows MAX_ACTORS

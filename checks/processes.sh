@@ -1,5 +1,5 @@
 #!/bin/bash
-# Runs the program as real processes and looks at their exit statuses and at what they write. It takes a few seconds, leaves
+# Runs the program as real processes and looks at their exit statuses and at what they write. It takes some seconds, leaves
 # nothing behind, and ends with status 1 at any difference.
 #
 #   checks/processes.sh          the program is crates/nopaxos/out/nopaxos, or the file that NOPAXOS names
@@ -8,9 +8,9 @@ needs "${NOPAXOS:-}" nopaxos -- replay
 
 schedule=examples/one-put.schedule
 transcript=examples/one-put.transcript
-base=$((20000 + $$ % 2000 * 20))
+base=$((20000 + $$ % 600 * 64))
 site="--replicas 3 --sequencers 1 --base $base"
-usage='usage: nopaxos replay | gen | node | sequencer | controller | client | cluster | check'
+usage='usage: nopaxos replay | gen | node | sequencer | controller | client | cluster | check | observer | read'
 server=
 trap '[ -z "$server" ] || kill "$server" 2> /dev/null; rm -rf "$folder"' EXIT
 
@@ -95,7 +95,7 @@ history 29'
 "$program" gen 7 1 > /dev/full 2> "$folder/err"
 same 'a summary on a full disk' $? 4 ''
 
-# ---- words; the last ones have an op of 641 bytes, and 65 ops
+# ---- words; the last ones have a key of 65 bytes, an op of 641, and 65 ops
 big=$(printf '78%.0s' {1..640})
 for words in '' 'stop' 'replay replay' 'gen 1 0' 'gen 1 100001' 'node' 'node --help' \
     'node --id 0 --replicas 3 --sequencers 1 --id 0' \
@@ -108,12 +108,24 @@ for words in '' 'stop' 'replay replay' 'gen 1 0' 'gen 1 100001' 'node' 'node --h
     'controller --id 0 --replicas 3 --sequencers 1 --session 2' \
     'client --id 0 --replicas 3 --sequencers 1' \
     'client --id 0 --replicas 3 --sequencers 1 5x' \
+    'node --id 0 --replicas 3 --sequencers 1 --observers 5' \
+    'observer --id 4 --replicas 3 --sequencers 1' \
+    'observer --id 0 --replicas 3 --sequencers 1 6b' \
+    'read --id 0 --replicas 3 --sequencers 1 6b' \
+    'read --id 0 --observer 4 --replicas 3 --sequencers 1 6b' \
+    'read --id 0 --observer 0 --replicas 3 --sequencers 1' \
+    'read --id 0 --observer 0 --replicas 3 --sequencers 1 6' \
+    'read --id 0 --observer 0 --replicas 3 --sequencers 1 6b 6b' \
+    "read --id 0 --observer 0 --replicas 3 --sequencers 1 ${big:0:130}" \
     "client --id 0 --replicas 3 --sequencers 1 ${big}78" \
     "client --id 0 --replicas 3 --sequencers 1 $(printf '50 %.0s' {1..65})"; do
     # shellcheck disable=SC2086
     "$program" $words < /dev/null > "$folder/out" 2> "$folder/err"
     same "the words '$words'" $? 2 "$usage"
 done
+# shellcheck disable=SC2086
+"$program" read --id 0 --observer 0 $site '' > "$folder/out" 2> "$folder/err"
+same 'a key without bytes' $? 2 "$usage"
 "$program" $'\377' > "$folder/out" 2> "$folder/err"
 same 'a word that is not UTF-8' $? 2 "$usage"
 "$program" replay $'a\200' < "$schedule" > "$folder/out" 2> "$folder/err"
@@ -142,6 +154,15 @@ same 'a verdict on a full disk' $? 4 ''
     same 'a controller' $? 0 'served 2 lost 0'
     "$program" node --id 2 $site --turns 2 > "$folder/out" 2> "$folder/err"
     same 'a replica' $? 0 'served 2 lost 0'
+    "$program" node --id 2 $site --observers 4 --turns 2 > "$folder/out" 2> "$folder/err"
+    same 'a replica with observers' $? 0 'served 2 lost 0'
+    "$program" observer --id 3 $site --turns 2 > "$folder/out" 2> "$folder/err"
+    same 'an observer' $? 0 'served 2 lost 0'
+    "$program" read --id 7 --observer 3 $site --turns 2 6B > "$folder/out" 2> "$folder/err"
+    same 'a read without an answer' $? 7 "read c7 1 o3 6b
+served 2 lost 0"
+    "$program" read --id 7 --observer 3 $site --turns 2 "${big:0:128}" > /dev/full 2> "$folder/err"
+    same 'a read on a full disk' $? 4 ''
     "$program" client --id 7 $site --turns 2 5000016b000176 > "$folder/out" 2> "$folder/err"
     same 'a client without an answer' $? 7 "submit c7 1 5000016b000176
 served 2 lost 0"
@@ -159,5 +180,54 @@ served 1 lost 0"
     wait "$server" 2> /dev/null
     server=
 }
+
+# ---- an observer beside three replicas, which tell two observers what is synchronised; one of these is not there
+. checks/nodes.bash
+# shellcheck disable=SC2086
+nodes_of "$program" $site
+
+# asks CLIENT OBSERVER TURNS: a new client asks an observer for the key k.
+asks() {
+    # shellcheck disable=SC2086
+    timeout 60 "$program" read --id "$1" --observer "$2" $site --turns "$3" 6b > "$folder/out" 2> "$folder/err"
+    status=$?
+}
+
+# read_is NAME STATUS CLIENT OBSERVER ANSWER: the client ended so; its lines are that it asked, the answer in this form, and the last one.
+read_is() {
+    made=$((made + 1))
+    printf 'read c%s 1 o%s 6b\n%s' "$3" "$4" "${5:+$5$'\n'}" > "$folder/wanted"
+    if [ "$status" != "$2" ] || [ -s "$folder/err" ] || ! tail -n 1 "$folder/out" | grep -qx 'served [0-9]* lost 0' ||
+        ! diff <(head -n -1 "$folder/out" | sed -E 's/^(answer c[0-9]+ 1 o0) [1-9][0-9]* /\1 POSITION /') "$folder/wanted" > /dev/null; then
+        differs "$1: status $status, '$(head -c 300 "$folder/out" "$folder/err")'"
+    fi
+}
+
+start s0 sequencer --id 0
+for i in 0 1 2; do start "r$i" node --id "$i" --observers 2; done
+sleep 0.5
+asks 0 0 20
+read_is 'a read while no observer runs' 7 0 0 ''
+start o0 observer --id 0
+sleep 0.3
+asks 1 0 2000
+read_is 'a read before a put' 0 1 0 'answer c1 1 o0 0 6e6f6e65'
+made=$((made + 1))
+# shellcheck disable=SC2086
+timeout 60 "$program" client --id 2 $site 5000016b000176 > "$folder/out" 2>&1
+grep -qx 'accept c2 1 6e6f6e65' "$folder/out" || differs "the put before a read: '$(head -c 300 "$folder/out")'"
+# What is accepted is synchronised within a tenth of a second or so.
+for client in $(seq 3 52); do
+    asks "$client" 0 2000
+    ! grep -q ' 6e6f6e65$' "$folder/out" && break
+    sleep 0.1
+done
+read_is 'a read after a put' 0 "$client" 0 "answer c$client 1 o0 POSITION 3d76"
+asks 60 1 20
+read_is 'a read of the observer that is not there' 7 60 1 ''
+# shellcheck disable=SC2086
+"$program" observer --id 0 $site --turns 2 > "$folder/out" 2> "$folder/err"
+same 'an observer at an occupied port' $? 5 ''
+stop
 
 concludes

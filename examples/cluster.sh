@@ -1,13 +1,13 @@
 #!/bin/bash
-# A cluster on the loopback address: replicas, two sequencers and two controllers, each a process of its own. Two clients
-# put and get, in words; then the leader is killed, and a third client still gets its answers; then the sequencer and one of the
-# controllers are, and so does a fourth. Only processes that were started here are ended, by their ids. docs/FORMATS.md says what
-# the lines mean, docs/RUNNING.md what else there is to know.
+# A cluster on the loopback address: replicas, two sequencers, two controllers and an observer, each a process of its own. Two clients
+# put and get, in words, and the observer is read; then the leader is killed, and a third client still gets its answers, and the
+# observer what it put; then the sequencer and one of the controllers are, and so does a fourth. Only processes that were started here
+# are ended, by their ids. docs/FORMATS.md says what the lines mean, docs/RUNNING.md what else there is to know.
 #
-#   examples/cluster.sh [REPLICAS]       3 replicas, or 1, 5 or 7; with 1, the leader is not killed
+#   examples/cluster.sh [REPLICAS]       3 replicas, or 1, 5 or 7; with 1, the leader is not killed, and there is no observer
 #   KV_OPS   the program file of `kv_ops`, which turns words into ops and results into words (crates/kv_ops/out/kv_ops)
 #   NOPAXOS  the program file (crates/nopaxos/out/nopaxos, which `rt run` leaves); a relative name counts from the repository
-#   BASE     the port of replica 0, 1024 to 65000 (47000): the ports from there to BASE + 31 belong to the cluster
+#   BASE     the port of replica 0, 1024 to 65000 (47000): the ports from there to BASE + 35 belong to the cluster
 #
 # Status 0: all ops were accepted; 1: not so, or a node did not start; 2: arguments that are not taken, nothing started; 130
 # or 143: interrupted or terminated, at once and with all that was started, also while a client waits.
@@ -97,6 +97,27 @@ client() {
     [ "$status" != 124 ] || echo "client $number had no answer within a minute, and was ended"
 }
 
+# reads NUMBER KEY: the observer is asked for a key by a client of this number; its lines, its answer in words, and its exit status. What
+# was accepted a second ago is synchronised, and the observer has been told.
+reads() {
+    local number=$1 op status
+    echo
+    echo "client $number reads $2 at observer 0"
+    op=$("$kv_ops" op get "$2")
+    sleep 1
+    # The op is a letter, the length of the key in two bytes, and the key.
+    # shellcheck disable=SC2086
+    timeout 60 "$program" read --id "$number" --observer 0 $site "${op:6}" > "$folder/client" 2>&1 &
+    pids[client]=$!
+    wait "${pids[client]}"
+    status=$?
+    unset 'pids[client]'
+    echo "answer: $("$kv_ops" result "$(sed -n 's/^answer .* //p' "$folder/client")")"
+    cat "$folder/client"
+    echo "status $status"
+    [ "$status" = 0 ] || failed=1
+}
+
 # ends NAME..: these nodes are killed.
 ends() {
     local name
@@ -109,7 +130,9 @@ ends() {
 
 failed=0
 for ((i = 0; i < 2; i++)); do start "s$i" sequencer --id $i; done
-for ((i = 0; i < replicas; i++)); do start "r$i" node --id $i; done
+observers=$((replicas > 1))
+for ((i = 0; i < replicas; i++)); do start "r$i" node --id $i --observers $observers; done
+for ((i = 0; i < observers; i++)); do start "o$i" observer --id $i; done
 for ((i = 0; i < 2; i++)); do start "ctl$i" controller --id $i; done
 sleep 0.5
 for name in "${!pids[@]}"; do runs "$name"; done
@@ -119,10 +142,12 @@ client 0 'put k v' 'get k' 'put k w'
 client 1 'get k'
 
 if [ "$replicas" -gt 1 ]; then
+    reads 4 k
     echo
     echo "== replica 0, the leader, is killed; the others suspect it after a second or two, and one of them leads then"
     ends r0
     client 2 'put k x' 'get k'
+    reads 5 k
 fi
 
 echo

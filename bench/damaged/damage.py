@@ -3,8 +3,8 @@
     damage.py SEEDS PROGRAM PEER COUNT EVERY NUMBER FIRST
 
 The folder SEEDS has valid schedules. Cases have numbers, from FIRST on; one depends on its number, NUMBER and the schedules
-there alone. Every EVERY-th case is also replayed by PEER (0: none), whose status and output have to be the same, byte for
-byte. A case that is wrong is written to standard output in hexadecimal, and the status is 1 then.
+there alone. Every EVERY-th case is also replayed by PEER (0: none; with its words before `replay`), whose status and output have to be
+the same, byte for byte. A case that is wrong is written to standard output in hexadecimal, and the status is 1 then.
 """
 
 import collections
@@ -19,17 +19,21 @@ import time
 LIMITS = [0, 1, 2, 3, 4, 5, 6, 7, 8, 9, 15, 16, 17, 255, 256, 640, 4095, 4096, 65535, 65536, 999_999, 1_000_000]
 LIMITS += [2**31 - 1, 2**31, 2**32 - 1, 2**32, 2**48 - 1, 2**48, 2**63 - 1, 2**63, 2**64 - 2, 2**64 - 1, 2**64, 2**64 + 1, 10**19]
 LIMITS += [10**20, 10**40]
-WORDS = b"nopaxos replicas sequencers clients controllers submit deliver tick install crash junk suspect watch resend sync retry".split()
-WORDS += b"probe next gen end transcript - ctl ctl0 ctl1 ctl3 ctl4 r0 r1 r2 r6 r7 r00 s0 s1 s3 s4 c0 c1 c15 c16 c00 R0 x".split()
+WORDS = b"nopaxos replicas sequencers clients controllers observers submit deliver tick install crash junk read".split()
+WORDS += b"suspect watch resend sync retry probe next gen end transcript - ctl ctl0 ctl1 ctl3 ctl4 r0 r1 r2 r6 r7 r00".split()
+WORDS += b"s0 s1 s3 s4 c0 c1 c15 c16 c00 o0 o1 o3 o4 o00 R0 x".split()
 # A datagram of each kind, and what is refused beside them.
 DATAGRAMS = """4e4f030100000000000000000000000100075000016b000176
 4e4f03020000000000000001000000000000000100000000000000000000000100075000016b000176
 4e4f030300000000000000000000000001000000010000000000000000000000010100046e6f6e65
 4e4f03030100000000000000000000000100000001000000000000000000000001000000
 4e4f030801000000000000000100000001100100000000000000000000000100000001
+4e4f030900000000000000000000000100016b 4e4f030a000000000000000000000000000000000100046e6f6e65
 4e4f030400000000000000000002 4e4f030503030000000300000001 4e4f0306010000000001 4e4f0307030300000001
 4e4f030400000000000000000000 4e4f030404000000000000000002 4e4f030600040000000001 4e4f0306010000000000
-4e4f03 4e4e0301 4e4f0201 4e4f0309 4e4f0300 4e4f03040000000000000002 4e4f03040000000000000000000200 -""".split()
+4e4f030900000000000000000000000000016b 4e4f03090000000000000000000000010000 4e4f0309000000000000000000000001000200
+4e4f030a040000000000000000000000000000000100046e6f6e65 4e4f030a000000000000000000000000000000000000046e6f6e65
+4e4f03 4e4e0301 4e4f0201 4e4f0309 4e4f030a 4e4f030b 4e4f0300 4e4f03040000000000000002 4e4f03040000000000000000000200 -""".split()
 
 
 def some_number(rng):
@@ -47,7 +51,7 @@ def some_hex(rng):
     if rng.randrange(3) == 0:
         digits = rng.choice(DATAGRAMS).encode()
     else:
-        length = rng.choice([0, 1, 2, 3, 1278, 1279, 1280, 1281, 1282, 2998, 2999, 3000, 3001, 3002, 4079, 4087])
+        length = rng.choice([0, 1, 2, 3, 126, 127, 128, 129, 130, 1278, 1279, 1280, 1281, 1282, 2998, 2999, 3000, 3001, 3002, 4079, 4087])
         digits = rng.choice([b"0", b"f", b"5", b"4e", b"4E4f", b"P"]) * length
         digits = digits[:length]
     return digits.upper() if rng.randrange(4) == 0 else digits
@@ -132,7 +136,7 @@ def renumber(rng, lines, other):
     """A number of a line, by itself or behind a letter, replaced by one at a limit, or by one near it."""
     lines = list(lines)
     at = rng.randrange(len(lines)) if rng.randrange(4) else 0
-    places = list(re.finditer(rb"(?<![0-9a-f])[0-9]+(?![0-9a-f])|(?<= [rsc])[0-9]+", lines[at]))
+    places = list(re.finditer(rb"(?<![0-9a-f])[0-9]+(?![0-9a-f])|(?<= [rsco])[0-9]+", lines[at]))
     if places:
         place = rng.choice(places)
         near = max(0, int(place.group()) + rng.choice([-9, -3, -2, -1, 1, 2, 3, 9])) if len(place.group()) < 19 else 0
@@ -154,7 +158,7 @@ def reword(rng, lines, other):
 
 def compose(rng, lines, other):
     """A line made of words, actors, numbers and hexadecimal at their limits."""
-    actor = rng.choice([b"ctl", b"ctl%d", b"r%d", b"s%d", b"c%d"])
+    actor = rng.choice([b"ctl", b"ctl%d", b"r%d", b"s%d", b"c%d", b"o%d"])
     if actor != b"ctl":
         actor %= rng.choice([0, 0, 0, 1, 1, 2, 3, 6, 7, 15, 16, 255, 256, 2**32 - 1, 2**32])
     line = rng.choice(
@@ -169,6 +173,8 @@ def compose(rng, lines, other):
             b"install " + actor,
             b"install s0 " + actor,
             b"crash " + actor,
+            b"read c0 " + actor + b" " + some_hex(rng),
+            b"read " + actor + b" o0 " + some_hex(rng),
         ]
     )
     at = rng.randrange(len(lines) + 1)
@@ -180,8 +186,10 @@ def head(rng, lines, other):
     counts = rng.choice([1, 3, 5, 7, 2, 8]), rng.choice([1, 2, 4, 0, 5]), rng.choice([1, 2, 16, 0, 17])
     group = b"replicas %d sequencers %d clients %d" % counts
     controllers = b" controllers %d" % rng.choice([1, 2, 3, 4, 0, 5])
-    form = rng.choice([1, 1, 1, 2, 2, 2, 0, 3])
-    return [b"nopaxos %d " % form + group + controllers * rng.choice([form > 1, form > 1, form > 1, form == 1])] + lines[1:]
+    observers = b" observers %d" % rng.choice([0, 1, 2, 4, 5])
+    form = rng.choice([1, 1, 2, 2, 3, 3, 0, 4])
+    last = rng.choice([0, 1, 2] + 3 * [form - 1])
+    return [b"nopaxos %d " % form + group + [b"", controllers, controllers + observers][max(0, min(last, 2))]] + lines[1:]
 
 
 DAMAGES = [by_bytes(flip)] * 4 + [by_bytes(cut)] * 2 + [by_bytes(insert)] + [join, glue, lengthen, head, reword, reword]
@@ -198,8 +206,8 @@ def damaged(rng, seeds):
 class Runner:
     """Runs a program with the command replay over files in memory."""
 
-    def __init__(self, program):
-        self.words = [program, "replay"]
+    def __init__(self, words):
+        self.words = [*words, "replay"]
         self.given, self.out, self.err = (os.memfd_create(name) for name in ("given", "out", "err"))
         pairs = ((self.given, 0), (self.out, 1), (self.err, 2))
         self.actions = [(os.POSIX_SPAWN_DUP2, number, end) for number, end in pairs]
@@ -212,7 +220,7 @@ class Runner:
             os.lseek(file, 0, os.SEEK_SET)
         os.pwrite(self.given, text, 0)
         signal.alarm(60)
-        self.child = os.posix_spawn(self.words[0], self.words, os.environ, file_actions=self.actions)
+        self.child = os.posix_spawnp(self.words[0], self.words, os.environ, file_actions=self.actions)
         _, status = os.waitpid(self.child, 0)
         signal.alarm(0)
         self.child = None
@@ -233,7 +241,7 @@ def outcome(status, output, errors):
         return None
     last = output[output.rfind(b"\n", 0, -1) + 1 :]
     if status == 0:
-        return "done" if output.startswith((b"transcript 1 ", b"transcript 2 ")) and last == b"end\n" else None
+        return "done" if re.match(rb"transcript [123] ", output) and last == b"end\n" else None
     error = ERROR.fullmatch(last)
     if not error or (error[2] == b"8") != (error[3] is not None) or (error[1] == b"1") != (output == last):
         return None
@@ -245,8 +253,8 @@ def main():
     count, every, number, first = int(count), int(every), int(number), int(first)
     seeds = [file.read_bytes().rstrip(b"\n") for file in sorted(pathlib.Path(folder).iterdir())]
     seeds = [seed for seed in seeds if seed]
-    runner = Runner(program)
-    peer = Runner(other) if every else None
+    runner = Runner([program])
+    peer = Runner(other.split()) if every else None
     signal.signal(signal.SIGALRM, lambda *_: (runner.stop(), peer and peer.stop()))
     outcomes, compared, wrong, given = collections.Counter(), 0, 0, 0
     began = time.monotonic()

@@ -20,6 +20,22 @@ def sized(*parts):
     return b"".join(len(part).to_bytes(2, "big") + part for part in parts)
 
 
+def passed_over(rng):
+    """A line of a read, an answer, a send, or of what came to nothing: no answer needs its read."""
+    client, key, observer, place = rng.randrange(4), rng.choice(["61", "6b" * 64]), rng.randrange(4), rng.choice([0, 1, 77, 2**32 - 1])
+    return rng.choice(
+        [
+            f"read c{client} {place + 1} o{observer} {key}",
+            f"answer c{client} {place + 1} o{observer} {place} {rng.choice(['6e6f6e65', '3d31', '-', '00' * 257])}",
+            f"send {place} c{client} o{observer} read {18 + len(key) // 2}",
+            f"send {place} o{observer} c{client} answer 27",
+            f"send {place} r{client} r* fragment 1417",
+            f"busy c{client}",
+            f"dead o{observer}",
+        ]
+    )
+
+
 def drawn(rng):
     """A legal transcript of several clients: a store carries out each op at some time while it is open."""
     clients, store, lines, history = rng.randrange(1, 5), {}, [], []
@@ -56,8 +72,11 @@ def drawn(rng):
         elif rng.randrange(4):
             lines.append(f"accept c{client} {ids[client]} {text(result)}")
             del open_ops[client]
-    states = ["replica r0 up normal 0 1 0 0"] * rng.randrange(2)
-    head = rng.choice(["1 replicas 3 sequencers 1 clients 16", "2 replicas 3 sequencers 1 clients 16 controllers 4"])
+    for _ in range(rng.choice([0, 0, 1, 5])):
+        lines.insert(rng.randrange(len(lines) + 1), passed_over(rng))
+    states = ["replica r0 up normal 0 1 0 0"] * rng.randrange(2) + ["observer o1 up 0", "observer o3 crashed 4294967295"][: rng.randrange(3)]
+    group = "replicas 3 sequencers 1 clients 16"
+    head = rng.choice([f"1 {group}", f"2 {group} controllers 4", f"3 {group} controllers 1 observers 2"])
     return "\n".join(["transcript " + head, *lines, *states, *history, "end", ""]).encode()
 
 
@@ -118,7 +137,7 @@ def number(rng, lines):
     parts = lines[at].split(b" ")
     which = rng.randrange(len(parts))
     limits = [0, 1, 2, 3, 15, 16, 1417, 1418, 4096, 4097, 2**32 - 1, 2**32, 2**64 - 1, 2**64]
-    letter = parts[which][:1] if parts[which][:1] in b"rsc" else b""
+    letter = parts[which][:1] if parts[which][:1] in b"rsco" else b""
     if letter or parts[which].isdigit():
         parts[which] = letter + b"%d" % rng.choice(limits)
     lines[at] = b" ".join(parts)

@@ -94,16 +94,17 @@ def text(claim):
 
 def transcript(rng, claims):
     """The lines of a history, among lines that claim nothing, some with a history that is not looked at; and each claim's line number."""
-    lines = [rng.choice([FIRST, "transcript 2 replicas 7 sequencers 4 clients 1 controllers 4"])]
+    last = "controllers 4 observers 4"
+    lines = [rng.choice([FIRST, f"transcript 3 replicas 7 sequencers 4 clients 1 {last}"])]
     numbers = []
     for claim in claims:
         if rng.randrange(8) == 0:
-            lines.append(rng.choice(["busy c3", "dead r0", "send 0 c0 s* request 25"]))
+            lines.append(rng.choice(["busy c3", "dead r0", "send 0 c0 s* request 25", "read c0 1 o0 6b"]))
         lines.append(text(claim))
         numbers.append(len(lines))
     submits = [claim for claim in claims if claim[0] == "submit"]
     if rng.randrange(4) == 0:
-        lines += ["replica r0 up normal 0 1 1 0", "entry r0 1 noop"]
+        lines += ["replica r0 up normal 0 1 1 0", "entry r0 1 noop", "observer o0 up 1"]
         members = rng.sample(submits, rng.randrange(len(submits) + 1))
         lines += [text(it).replace("submit", f"history {at}") for at, it in enumerate(members, 1)]
     return [*lines, "end"], numbers

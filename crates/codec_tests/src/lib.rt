@@ -1,5 +1,6 @@
 //! Tests alone, by the public calls of the crates below: shared types, datagrams and peer messages,
-//! fragments, lines of schedules and transcripts. Expected bytes and texts are written out by hand.
+//! fragments, lines of schedules and transcripts, whole transcripts. Expected bytes and texts are
+//! written out by hand.
 #![tactic(auto)]
 
 #[cfg(test)]
@@ -12,5 +13,7 @@ mod peers;
 mod rows;
 #[cfg(test)]
 mod texts;
+#[cfg(test)]
+mod transcripts;
 #[cfg(test)]
 mod values;

@@ -7,7 +7,7 @@ use std::alloc::Global;
 use std::process::Abort;
 use transcript_text::{
     accept_line, answer_line, busy_line, dead_line, end_line, entry_line, error_line, history_line,
-    read_line, replica_line, send_line, submit_line, transcript_line,
+    observer_line, read_line, replica_line, send_line, submit_line, transcript_line,
 };
 
 const FIRST: &[u8] = b"nopaxos 1 replicas 3 sequencers 2 clients 2\n";
@@ -20,6 +20,7 @@ fn event_letter(event: &Event) -> u8 {
         Event::Install(..) => b'i',
         Event::Crash(_) => b'c',
         Event::Junk(..) => b'j',
+        Event::Read(..) => b'r',
     }
 }
 
@@ -90,6 +91,22 @@ const READ: &str = "\
 +|submit r0 |0|2|7777
 +|crash s|2|1|7777
 +|crash ctl|0|1|7777
++|read c0 o0 6|b|1|7777
++|crash o|0|1|7777
+-|nopaxos 3 replicas 1 sequencers 1 clients 2 controllers 1 observers 2;read c0 o0 6b;read c1 o1 6B;deliver 0 o1;crash o|0|1|rrdc
+-|nopaxos 3 replicas 1 sequencers 1 clients 2 controllers 1 observers 2;junk o1 -;tick o0 syn|c|1|j777
+-|nopaxos 3 replicas 1 sequencers 1 clients 2 controllers 1 observers 2;read c1 o1 |0|128|r...
+-|nopaxos 3 replicas 1 sequencers 1 clients 2 controllers 1 observers 2;read c1 o1 |0|130|5555
+-|nopaxos 3 replicas 1 sequencers 1 clients 2 controllers 1 observers 2;read c9 o9 |-|1|5555
+-|nopaxos 3 replicas 1 sequencers 1 clients 2 controllers 1 observers 2;read c9 o9 |-|2|6666
+-|nopaxos 3 replicas 1 sequencers 1 clients 2 controllers 1 observers 2;read c9 o9 |g|128|6666
+-|nopaxos 3 replicas 1 sequencers 1 clients 2 controllers 1 observers 2;read c1 o1| |1|6666
+-|nopaxos 3 replicas 1 sequencers 1 clients 2 controllers 1 observers 2;read c1 6|b|1|4444
+-|nopaxos 3 replicas 1 sequencers 1 clients 2 controllers 1 observers 2;read c1 o1 6b| |1|4444
+-|nopaxos 3 replicas 1 sequencers 1 clients 2 controllers 1 observers 2;read c1 o2 0|0|1|7777
+-|nopaxos 3 replicas 1 sequencers 1 clients 2 controllers 1 observers 2;read c2 o1 0|0|1|7777
+-|nopaxos 3 replicas 1 sequencers 1 clients 2 controllers 1 observers 2;read c1 c1 0|0|1|7777
+-|nopaxos 3 replicas 1 sequencers 1 clients 2 controllers 1 observers 2;read o1 o1 0|0|1|7777
 -|nopaxos 1 replicas 7 sequencers 4 clients |4|1|....
 -||x|0|3333
 -|Nopaxos 1 replicas 3 sequencers 2 clients |2|1|3333
@@ -106,6 +123,17 @@ const READ: &str = "\
 -|nopaxos 2 replicas 3 sequencers 2 clients 1 controllers 2;install s1 ctl1;install s1;install s1 ct|l|1|iii.
 -|nopaxos 2 replicas 3 sequencers 2 clients 1 controllers 2;install s1 ctl|2|1|7777
 -|nopaxos 2 replicas 3 sequencers 2 clients 1 controllers 4;crash ctl3;tick ctl1 probe;junk ctl2 -;deliver 0 ctl|3|1|ctjd
+-|nopaxos 3 replicas 3 sequencers 2 clients |2|1|5555
+-|nopaxos 3 replicas 3 sequencers 2 clients 1 controllers 1 observers |0|1|....
+-|nopaxos 3 replicas 3 sequencers 2 clients 1 controllers 1 observers |4|1|....
+-|nopaxos 3 replicas 3 sequencers 2 clients 1 controllers 1 observers |5|1|5555
+-|nopaxos 3 replicas 3 sequencers 2 clients 1 controllers 1 observers |0|2|5555
+-|nopaxos 3 replicas 3 sequencers 2 clients 1 controllers 1 observer |1|1|5555
+-|nopaxos 3 replicas 3 sequencers 2 clients 1 controllers 1 observers|;|1|4444
+-|nopaxos 3 replicas 3 sequencers 2 clients 1 controllers 1 observers 1| |1|4444
+-|nopaxos 2 replicas 3 sequencers 2 clients 1 controllers 1 observers |0|1|5555
+-|nopaxos 1 replicas 3 sequencers 2 clients 1 controllers 1 observers |0|1|5555
+-|nopaxos 4 replicas 3 sequencers 2 clients 1 controllers 1 observers |0|1|5555
 -|nopaxos 1 replicas 2 sequencers 2 clients |2|1|5555
 -|nopaxos 1 replicas 03 sequencers 2 clients |2|1|5555
 -|nopaxos 1 replicas 259 sequencers 2 clients |2|1|5555
@@ -186,6 +214,48 @@ fn installs_that_are_read(rt: HostRuntime) {
     assert!(rt; reader.form() == 2);
 }
 
+/// What the next line asks: whether it is the key, and the client and the observer.
+fn next_read(
+    rt: &impl Abort,
+    reader: &mut Reader,
+    source: &mut ReadMem,
+    key: &[u8],
+) -> (bool, u32, u8) {
+    match reader.next(source) {
+        Ok(Some(Event::Read(client, observer, asked))) => {
+            (asked.as_slice() == key, client, observer)
+        }
+        _ => panic!(rt; "no read"),
+    }
+}
+
+const READS: &[u8] = b"\
+nopaxos 3 replicas 1 sequencers 1 clients 3 controllers 1 observers 4
+read c2 o3 6bFf
+read c0 o0 00
+";
+
+#[test]
+fn reads_that_are_read(rt: HostRuntime) {
+    let text = Vec::from_slice(rt.alloc(), READS).expect(&rt, "memory");
+    let mut source = ReadMem::with_limit(text, 4096);
+    let mut reader = Reader::new(rt.alloc());
+    assert!(rt; next_read(&rt, &mut reader, &mut source, b"k\xff") == (true, 2, 3));
+    assert!(rt; next_read(&rt, &mut reader, &mut source, b"\0") == (true, 0, 0));
+    assert!(rt; reader.form() == 3);
+    let config = reader.config().expect(&rt, "a first line");
+    assert!(rt; config.observers() == 4);
+}
+
+#[test]
+fn reads_that_are_written(rt: HostRuntime) {
+    let mut to = Vec::new(rt.alloc());
+    let key = Key::new(rt.alloc(), b"k\xff").expect(&rt, "memory");
+    event_line(&Event::Read(2, 3, key), &mut to).expect(&rt, "memory");
+    let text = std::str::from_utf8(&to).expect(&rt, "text");
+    check_text(&rt, text, "read c2 o3 6bff\n");
+}
+
 #[test]
 fn installs_that_are_written(rt: HostRuntime) {
     let mut to = Vec::new(rt.alloc());
@@ -198,6 +268,8 @@ fn installs_that_are_written(rt: HostRuntime) {
 const LINES: &str = "\
 transcript 1 replicas 3 sequencers 2 clients 16
 transcript 2 replicas 3 sequencers 2 clients 16 controllers 4
+transcript 3 replicas 7 sequencers 1 clients 2 controllers 3 observers 4
+transcript 3 replicas 3 sequencers 2 clients 16 controllers 1 observers 0
 dead ctl
 dead ctl3
 dead c15
@@ -221,6 +293,8 @@ send 18446744073709551615 r1 r2 fragment 35
 replica r6 crashed change 4294967295 18446744073709551615 4096 7
 entry r0 1 noop
 entry r2 4096 c7 9 00ff1a
+observer o3 crashed 4294967295
+observer o0 up 0
 history 4096 c7 9 00ff1a
 end
 error line 1000001 rule 10
@@ -233,6 +307,9 @@ fn put_requests(rt: &impl Abort, alloc: Global, to: &mut Vec<u8>) {
     transcript_line(1, one, to).expect(rt, "memory");
     let four = Config::new(3, 2, 16, 4, 0).expect(rt, "limits");
     transcript_line(2, four, to).expect(rt, "memory");
+    let watched = Config::new(7, 1, 2, 3, 4).expect(rt, "limits");
+    transcript_line(3, watched, to).expect(rt, "memory");
+    transcript_line(3, one, to).expect(rt, "memory");
     dead_line(Actor::Controller(0), to).expect(rt, "memory");
     dead_line(Actor::Controller(3), to).expect(rt, "memory");
     dead_line(Actor::Client(15), to).expect(rt, "memory");
@@ -287,6 +364,8 @@ fn put_state(rt: &impl Abort, alloc: Global, to: &mut Vec<u8>) {
     entry_line(0, 1, &Entry::NoOp, to).expect(rt, "memory");
     let entry = Entry::Req(request(rt, alloc, 7, 9, b"\x00\xff\x1a"));
     entry_line(2, 4096, &entry, to).expect(rt, "memory");
+    observer_line(3, true, u32::MAX, to).expect(rt, "memory");
+    observer_line(0, false, 0, to).expect(rt, "memory");
     let last = request(rt, alloc, 7, 9, b"\x00\xff\x1a");
     history_line(4096, &last, to).expect(rt, "memory");
     end_line(to).expect(rt, "memory");

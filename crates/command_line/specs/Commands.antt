@@ -1,5 +1,5 @@
 -- The command that the words ask for.
-use Rattle.std.specs.Prelude.{◌≡◌, ℕ, ◌-◌, ◌^◌, ◌<◌, ◌≤◌, ⊤, List, [], ◌∷◌, ◌++◌, Bool, true, false, Option, Some, None, Result}
+use Rattle.std.specs.Prelude.{◌≡◌, ℕ, ◌-◌, ◌^◌, ◌<◌, ◌≤◌, ⊤, List, [], ◌∷◌, ◌++◌, Bool, true, false, Option, Some, None, Result, ◌&&◌}
 use Rattle.std.specs.Prelude.{Ok, Err, length, map, codes, nat_lt, nat_le, option_map, if◌then◌else◌, String, IsTrue}
 use Rattle.std.specs.Borrow.{Bor}
 use Rattle.std.specs.Str.{bytes_eq}
@@ -10,11 +10,12 @@ use Rattle.hex.specs.Hex.{decode_of}
 use Rattle.hex.specs.declared.error.FromHexError.{FromHexError}
 use Rattle.nop_types.specs.Configuration.{Configuration, is_configuration}
 use Rattle.nop_types.specs.Headers.{gives}
-use Rattle.nop_types.specs.declared.limits.TheConstants.{MAX_OP_BYTES, MAX_SEQUENCERS, MAX_CONTROLLERS}
+use Rattle.nop_types.specs.declared.limits.TheConstants.{MAX_KEY_BYTES, MAX_OP_BYTES, MAX_SEQUENCERS, MAX_CONTROLLERS, MAX_OBSERVERS}
 use Rattle.command_line.specs.Numbers.{number_of}
 use Rattle.command_line.specs.Program.{program_app}
 use Rattle.command_line.specs.declared.command.Command.{Command}
 use Rattle.command_line.specs.declared.command.Command.TheVariants.{Replay, Gen, Node, Sequencer, Controller, Client, Cluster, Check}
+use Rattle.command_line.specs.declared.command.Command.TheVariants.{Observer, Read}
 use Rattle.command_line.specs.declared.command.Site.{Site}
 use Rattle.command_line.specs.declared.options.TheConstants.{MAX_CLUSTER_TURNS}
 
@@ -36,36 +37,45 @@ choice_of (Some text) = option_map Some (number_of 0 255 text)
 
 -- ---- where a node is
 
-abbrev pub config_of : (replicas sequencers clients controllers : ℕ) → Configuration
-config_of r s c k = record { replicas = r; sequencers = s; clients = c; controllers = k; observers = 0 }
+abbrev pub config_of : (replicas sequencers clients controllers observers : ℕ) → Configuration
+config_of r s c k o = record { replicas = r; sequencers = s; clients = c; controllers = k; observers = o }
 
 abbrev pub site_if : Bool → Configuration → ℕ → ℕ → Option Site
 site_if true config base turns = Some (record { config = config; base = base; turns = turns })
 site_if false config base turns = None
 
-abbrev pub site_by : Option ℕ → Option ℕ → Option ℕ → ℕ → Option ℕ → Option ℕ → Option Site
-site_by None sequencers clients k base turns = None
-site_by (Some r) None clients k base turns = None
-site_by (Some r) (Some s) None k base turns = None
-site_by (Some r) (Some s) (Some c) k None turns = None
-site_by (Some r) (Some s) (Some c) k (Some b) None = None
-site_by (Some r) (Some s) (Some c) k (Some b) (Some t) = site_if (is_configuration (config_of r s c k)) (config_of r s c k) b t
+abbrev pub site_by : Option ℕ → Option ℕ → Option ℕ → ℕ → ℕ → Option ℕ → Option ℕ → Option Site
+site_by None sequencers clients k o base turns = None
+site_by (Some r) None clients k o base turns = None
+site_by (Some r) (Some s) None k o base turns = None
+site_by (Some r) (Some s) (Some c) k o None turns = None
+site_by (Some r) (Some s) (Some c) k o (Some b) None = None
+site_by (Some r) (Some s) (Some c) k o (Some b) (Some t) = site_if (is_configuration (config_of r s c k o)) (config_of r s c k o) b t
 
 abbrev pub last_turns : ℕ
 last_turns = 2 ^ 64 - 1
 
--- of a node; its configuration has one client, since no core reads that number, the most controllers, of which any may run, and no
--- observers
-abbrev pub site_of : List Row → Option Site
-site_of rows =
+-- of a node with so many observers; its configuration has one client, since no core reads that number, and the most controllers, of
+-- which any may run
+abbrev pub site_of : (observers : ℕ) → List Row → Option Site
+site_of observers rows =
     site_by (value_of rows (codes "replicas") None 0 255) (value_of rows (codes "sequencers") None 0 255) (Some 1)
-    MAX_CONTROLLERS (value_of rows (codes "base") (Some 41000) 1024 65000) (value_of rows (codes "turns") (Some last_turns) 1 last_turns)
+    MAX_CONTROLLERS observers (value_of rows (codes "base") (Some 41000) 1024 65000)
+    (value_of rows (codes "turns") (Some last_turns) 1 last_turns)
 
--- of a cluster, which has one controller
+abbrev pub replica_site_by : Option ℕ → List Row → Option Site
+replica_site_by None rows = None
+replica_site_by (Some observers) rows = site_of observers rows
+
+-- of a replica, which is told how many observers there are
+abbrev pub replica_site_of : List Row → Option Site
+replica_site_of rows = replica_site_by (value_of rows (codes "observers") (Some 0) 0 255) rows
+
+-- of a cluster, which has one controller, and no observers
 abbrev pub cluster_site_of : List Row → Option Site
 cluster_site_of rows =
     site_by (value_of rows (codes "replicas") None 0 255) (value_of rows (codes "sequencers") None 0 255)
-    (value_of rows (codes "clients") None 0 255) 1 (value_of rows (codes "base") (Some 41000) 1024 65000)
+    (value_of rows (codes "clients") None 0 255) 1 0 (value_of rows (codes "base") (Some 41000) 1024 65000)
     (value_of rows (codes "turns") (Some MAX_CLUSTER_TURNS) 1 MAX_CLUSTER_TURNS)
 
 -- ---- ops
@@ -95,6 +105,24 @@ texts_in = option_map (λ s. map (λ t. t.now) s.now)
 abbrev pub ops_of : Option (List Text) → Option (List (List ℕ))
 ops_of None = None
 ops_of (Some texts) = ops_on (Some []) texts
+
+-- ---- a key
+
+abbrev pub short_key : Result (List ℕ) FromHexError → Option (List ℕ)
+short_key (Ok bytes) = if nat_le 1 (length bytes) && nat_le (length bytes) MAX_KEY_BYTES then Some bytes else None
+short_key (Err e) = None
+
+-- a key in hexadecimal
+abbrev pub key_of : Text → Option (List ℕ)
+key_of text = short_key (decode_of text)
+
+-- the text behind a reference
+abbrev pub text_in : Option (Bor Text) → Option Text
+text_in = option_map (λ t. t.now)
+
+abbrev pub key_in : Option Text → Option (List ℕ)
+key_in None = None
+key_in (Some text) = key_of text
 
 -- ---- commands
 
@@ -134,24 +162,48 @@ cluster_by None ops = None
 cluster_by (Some site) None = None
 cluster_by (Some site) (Some ops) = Some (Cluster site ops)
 
+abbrev pub observer_by : Option ℕ → Option Site → Option Command
+observer_by None site = None
+observer_by (Some id) None = None
+observer_by (Some id) (Some site) = if nat_lt id site.config.observers then Some (Observer id site) else None
+
+abbrev pub asking_by : ℕ → Site → ℕ → Option (List ℕ) → Option Command
+asking_by id site observer None = None
+asking_by id site observer (Some key) = Some (Read id site observer key)
+
+abbrev pub read_by : Option ℕ → Option Site → Option ℕ → Option (List ℕ) → Option Command
+read_by None site observer key = None
+read_by (Some id) None observer key = None
+read_by (Some id) (Some site) None key = None
+read_by (Some id) (Some site) (Some observer) key = if nat_lt observer site.config.observers then asking_by id site observer key else None
+
 -- a number of 64 bits, and a count from 1 to 100,000
 abbrev pub gen_in : List Row → Option Command
 gen_in rows = gen_by (value_of rows (codes "number") None 0 (2 ^ 64 - 1)) (value_of rows (codes "count") None 1 100000)
 
 abbrev pub node_in : List Row → Option Command
-node_in rows = node_by (value_of rows (codes "id") None 0 255) (site_of rows)
+node_in rows = node_by (value_of rows (codes "id") None 0 255) (replica_site_of rows)
 
 abbrev pub sequencer_in : List Row → Option Command
-sequencer_in rows = sequencer_by (value_of rows (codes "id") None 0 255) (site_of rows)
+sequencer_in rows = sequencer_by (value_of rows (codes "id") None 0 255) (site_of 0 rows)
 
 abbrev pub controller_in : List Row → Option Command
-controller_in rows = controller_by (site_of rows) (value_of rows (codes "id") None 0 255) (choice_of (first_of (codes "install") rows))
+controller_in rows = controller_by (site_of 0 rows) (value_of rows (codes "id") None 0 255) (choice_of (first_of (codes "install") rows))
 
 abbrev pub client_in : List Row → Option Command
-client_in rows = client_by (value_of rows (codes "id") None 0 (2 ^ 32 - 1)) (site_of rows) (ops_of (all_of (codes "ops") rows))
+client_in rows = client_by (value_of rows (codes "id") None 0 (2 ^ 32 - 1)) (site_of 0 rows) (ops_of (all_of (codes "ops") rows))
 
 abbrev pub cluster_in : List Row → Option Command
 cluster_in rows = cluster_by (cluster_site_of rows) (ops_of (all_of (codes "ops") rows))
+
+-- an observer, and a client that asks one, know of the most observers
+abbrev pub observer_in : List Row → Option Command
+observer_in rows = observer_by (value_of rows (codes "id") None 0 255) (site_of MAX_OBSERVERS rows)
+
+abbrev pub read_in : List Row → Option Command
+read_in rows =
+    read_by (value_of rows (codes "id") None 0 (2 ^ 32 - 1)) (site_of MAX_OBSERVERS rows) (value_of rows (codes "observer") None 0 255)
+    (key_in (first_of (codes "key") rows))
 
 abbrev pub served_by : Text → List Row → Option Command
 served_by name rows =
@@ -159,6 +211,8 @@ served_by name rows =
     else if bytes_eq name (codes "controller") then controller_in rows
     else if bytes_eq name (codes "client") then client_in rows
     else if bytes_eq name (codes "cluster") then cluster_in rows
+    else if bytes_eq name (codes "observer") then observer_in rows
+    else if bytes_eq name (codes "read") then read_in rows
     else None
 
 -- by the name of a subcommand and its matches
@@ -208,6 +262,8 @@ IsFit (Node id site) = id < site.config.replicas
 IsFit (Sequencer id site) = id < MAX_SEQUENCERS
 IsFit (Controller site id install) = id < MAX_CONTROLLERS
 IsFit (Cluster site ops) = IsTrue (gives 1 site.config)
+IsFit (Observer id site) = id < MAX_OBSERVERS
+IsFit (Read id site observer key) = observer < MAX_OBSERVERS
 IsFit _ = ⊤
 
 abbrev pub texts_of : {Z : Type 0} → List (String Z) → List Text

@@ -29,6 +29,9 @@ site_app name =
 unfoldable pub member_app : Text → App
 member_app name = with_rule (site_app name) (option_rule (codes "id") true)
 
+unfoldable pub node_app : App
+node_app = with_rule (member_app (codes "node")) (option_rule (codes "observers") false)
+
 unfoldable pub controller_app : App
 controller_app = with_rule (member_app (codes "controller")) (option_rule (codes "install") false)
 
@@ -38,6 +41,9 @@ client_app = with_rule (member_app (codes "client")) ops_rule
 unfoldable pub cluster_app : App
 cluster_app = with_rule (with_rule (site_app (codes "cluster")) (option_rule (codes "clients") true)) ops_rule
 
+unfoldable pub read_app : App
+read_app = with_rule (with_rule (member_app (codes "read")) (option_rule (codes "observer") true)) (value_rule (codes "key"))
+
 -- the program with its subcommands, one after another
 unfoldable pub with_replay : App
 with_replay = with_subcommand (new_app (codes "nopaxos")) (new_app (codes "replay")).top
@@ -46,7 +52,7 @@ unfoldable pub with_gen : App
 with_gen = with_subcommand with_replay gen_app.top
 
 unfoldable pub with_node : App
-with_node = with_subcommand with_gen (member_app (codes "node")).top
+with_node = with_subcommand with_gen node_app.top
 
 unfoldable pub with_sequencer : App
 with_sequencer = with_subcommand with_node (member_app (codes "sequencer")).top
@@ -60,5 +66,11 @@ with_client = with_subcommand with_controller client_app.top
 unfoldable pub with_cluster : App
 with_cluster = with_subcommand with_client cluster_app.top
 
+unfoldable pub with_check : App
+with_check = with_subcommand with_cluster (new_app (codes "check")).top
+
+unfoldable pub with_observer : App
+with_observer = with_subcommand with_check (member_app (codes "observer")).top
+
 unfoldable pub program_app : App
-program_app = with_subcommand with_cluster (new_app (codes "check")).top
+program_app = with_subcommand with_observer read_app.top

@@ -1,5 +1,5 @@
 use crate::ops::Ops;
-use nop_types::Config;
+use nop_types::{Config, Key};
 use udp_node::BasePort;
 
 /// Where a node or a cluster is: how many actors there are, the port of replica 0, and the most turns that it takes.
@@ -28,4 +28,8 @@ pub enum Command {
     Cluster(Site, Ops),
     /// A transcript is judged.
     Check,
+    /// An observer with this number.
+    Observer(u8, Site),
+    /// A client with this number, which asks this observer for the key.
+    Read(u32, Site, u8, Key),
 }

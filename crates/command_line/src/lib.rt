@@ -7,11 +7,12 @@
 //! Calls, for `commands`: `read_words`; `Command`, `Site` (configuration, base port, turns) and
 //! `Ops::into_vec`.
 //!
-//! Files: `command`, `program` (the table that `clap` reads by), `reading`; `options`, `number` and
-//! `ops` below it. Definitions: `specs/Program`, `Commands`.
+//! Files: `command`, `program` (the table that `clap` reads by), `reading`; `options`, `number`,
+//! `ops` and `key` below it. Definitions: `specs/Program`, `Commands`.
 #![tactic(auto)]
 
 mod command;
+mod key;
 mod number;
 mod ops;
 mod options;

@@ -3,7 +3,8 @@
 ghost use Rattle.std.specs.Prelude.{◌≡◌, ◌≤◌, IfSome, IsTrue, codes};
 ghost use Rattle.clap.specs.Words.{all_of, found_of, rows_of, first_of};
 ghost use Rattle.nop_types.specs.Headers.{gives};
-ghost use Rattle.command_line.specs.Commands.{value_of, choice_of, texts_in, site_by, site_of, cluster_site_of};
+ghost use Rattle.command_line.specs.Commands.{value_of, choice_of, text_in, texts_in, site_by, site_of};
+ghost use Rattle.command_line.specs.Commands.{replica_site_of, cluster_site_of};
 
 use crate::command::Site;
 use crate::number::number;
@@ -54,6 +55,17 @@ pub(crate) fn medium(matches: &ArgMatches<'_>, name: &str) -> Option<u32>
 {
     match value(matches, name, None, 0, 4_294_967_295) {
         Some(n) => Some(n as u32),
+        None => None,
+    }
+}
+
+/// How many observers there are, none where the option is left out.
+fn observers(matches: &ArgMatches<'_>) -> Option<u8>
+    ensures { result ≡ value_of (rows_of (found_of matches.now)) (codes "observers")
+        (Some 0) 0 255 }
+{
+    match value(matches, "observers", Some(0), 0, 255) {
+        Some(n) => Some(n as u8),
         None => None,
     }
 }
@@ -119,24 +131,32 @@ pub(crate) fn ops<'m>(matches: &'m ArgMatches<'_>) -> Option<&'m [&'m str]>
     matches.get_strs("ops")
 }
 
+/// The text of a key.
+pub(crate) fn key_text<'m>(matches: &'m ArgMatches<'_>) -> Option<&'m str>
+    ensures { text_in result ≡ first_of (codes "key") (rows_of (found_of matches.now)) }
+{
+    matches.get_str("key")
+}
+
 fn site_by(
     replicas: Option<u8>,
     sequencers: Option<u8>,
     clients: Option<u8>,
     controllers: u8,
+    observers: u8,
     base: Option<BasePort>,
     turns: Option<u64>,
 ) -> Option<Site>
-    ensures value { result ≡ site_by replicas sequencers clients controllers base turns }
+    ensures value { result ≡ site_by replicas sequencers clients controllers observers base turns }
     ensures controllers { IfSome result (λ s. s.config.controllers ≡ controllers) }
-    ensures observers { IfSome result (λ s. s.config.observers ≡ 0) }
+    ensures observers { IfSome result (λ s. s.config.observers ≡ observers) }
 {
     let (Some(replicas), Some(sequencers), Some(clients), Some(base), Some(turns)) = (
         replicas, sequencers, clients, base, turns,
     ) else {
         return None;
     };
-    match Config::new(replicas, sequencers, clients, controllers, 0) {
+    match Config::new(replicas, sequencers, clients, controllers, observers) {
         Some(config) => Some(Site {
             config,
             base,
@@ -146,18 +166,29 @@ fn site_by(
     }
 }
 
-/// Where the node is.
-pub(crate) fn site(matches: &ArgMatches<'_>) -> Option<Site>
-    ensures { result ≡ site_of (rows_of (found_of matches.now)) }
+/// Where a node is that knows of so many observers.
+pub(crate) fn site(observers: u8, matches: &ArgMatches<'_>) -> Option<Site>
+    ensures { result ≡ site_of observers (rows_of (found_of matches.now)) }
 {
     site_by(
         small(matches, "replicas"),
         small(matches, "sequencers"),
         Some(1),
         MAX_CONTROLLERS,
+        observers,
         base(matches),
         turns(matches, u64::MAX),
     )
+}
+
+/// Where a replica is.
+pub(crate) fn replica_site(matches: &ArgMatches<'_>) -> Option<Site>
+    ensures { result ≡ replica_site_of (rows_of (found_of matches.now)) }
+{
+    match observers(matches) {
+        Some(count) => site(count, matches),
+        None => None,
+    }
 }
 
 /// Where the cluster is.
@@ -170,6 +201,7 @@ pub(crate) fn cluster_site(matches: &ArgMatches<'_>) -> Option<Site>
         small(matches, "sequencers"),
         small(matches, "clients"),
         1,
+        0,
         base(matches),
         turns(matches, MAX_CLUSTER_TURNS),
     )

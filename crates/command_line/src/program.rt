@@ -30,7 +30,7 @@ struct Row<'a> {
     own: &'a [Word<'a>],
 }
 
-/// The number of a replica, a sequencer, a controller or a client.
+/// The number of a replica, a sequencer, a controller, a client or an observer.
 const ID: Word<'static> = Word::Required("id");
 
 /// The options of a node and of a cluster.
@@ -56,7 +56,7 @@ const COMMANDS: &[Row<'static>] = &[
     Row {
         name: "node",
         shared: SITE,
-        own: &[ID],
+        own: &[ID, Word::Optional("observers")],
     },
     Row {
         name: "sequencer",
@@ -82,6 +82,16 @@ const COMMANDS: &[Row<'static>] = &[
         name: "check",
         shared: &[],
         own: &[],
+    },
+    Row {
+        name: "observer",
+        shared: SITE,
+        own: &[ID],
+    },
+    Row {
+        name: "read",
+        shared: SITE,
+        own: &[ID, Word::Required("observer"), Word::Value("key")],
     },
 ];
 

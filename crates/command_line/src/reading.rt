@@ -1,20 +1,25 @@
 ghost use Rattle.std.specs.Prelude.{◌≡◌, ◌<◌, ◌≤◌, IfOk, IfSome, IsTrue, MatchOption};
 ghost use Rattle.nop_types.specs.Headers.{gives};
-ghost use Rattle.nop_types.specs.declared.limits.TheConstants.{MAX_CONTROLLERS};
+ghost use Rattle.nop_types.specs.declared.limits.TheConstants.{MAX_CONTROLLERS, MAX_OBSERVERS};
 ghost use Rattle.clap.specs.Words.{app_of, found_of, rows_of, subcommand_rows_of};
 ghost use Rattle.command_line.specs.Program.{program_app};
 ghost use Rattle.command_line.specs.Commands.{IsFit, gen_by, gen_in, node_by, node_in, sequencer_by, sequencer_in};
 ghost use Rattle.command_line.specs.Commands.{install_by, controller_by, controller_in, client_by, client_in};
 ghost use Rattle.command_line.specs.Commands.{cluster_by, cluster_in, ops_of, texts_in, served_by, command_by};
+ghost use Rattle.command_line.specs.Commands.{observer_by, observer_in, asking_by, read_by, read_in, key_in, text_in};
 ghost use Rattle.command_line.specs.Commands.{command_from, command_of, texts_of, IsRefused, HasFound};
 
 use crate::command::{Command, Site};
+use crate::key::read_key;
 use crate::ops::read_ops;
-use crate::options::{choice, cluster_site, count_drawn, medium, number_drawn, ops, site, small};
+use crate::options::{
+    choice, cluster_site, count_drawn, key_text, medium, number_drawn, ops, replica_site, site,
+    small,
+};
 use crate::program::program;
 use clap::ArgMatches;
 use clap::error::ErrorKind;
-use nop_types::NoMemory;
+use nop_types::{Key, MAX_OBSERVERS, NoMemory};
 use std::alloc::Global;
 
 fn gen_by(number: Option<u64>, count: Option<u32>) -> Option<Command>
@@ -50,7 +55,7 @@ fn node(matches: &ArgMatches<'_>) -> Option<Command>
     ensures value { result ≡ node_in (rows_of (found_of matches.now)) }
     ensures fits { IfSome result IsFit }
 {
-    node_by(small(matches, "id"), site(matches))
+    node_by(small(matches, "id"), replica_site(matches))
 }
 
 fn sequencer_by(id: Option<u8>, site: Option<Site>) -> Option<Command>
@@ -69,7 +74,7 @@ fn sequencer(matches: &ArgMatches<'_>) -> Option<Command>
     ensures value { result ≡ sequencer_in (rows_of (found_of matches.now)) }
     ensures fits { IfSome result IsFit }
 {
-    sequencer_by(small(matches, "id"), site(matches))
+    sequencer_by(small(matches, "id"), site(0, matches))
 }
 
 fn install_by(site: Site, id: u8, install: Option<u8>) -> Option<Command>
@@ -100,7 +105,7 @@ fn controller(matches: &ArgMatches<'_>) -> Option<Command>
     ensures fits { IfSome result IsFit }
 {
     controller_by(
-        site(matches),
+        site(0, matches),
         small(matches, "id"),
         choice(matches, "install"),
     )
@@ -127,7 +132,7 @@ fn client(alloc: Global, matches: &ArgMatches<'_>) -> Result<Option<Command>, No
     ensures value { IfOk result (λ c. c ≡ client_in (rows_of (found_of matches.now))) }
     ensures fits { IfOk result (λ c. IfSome c IsFit) }
 {
-    match (medium(matches, "id"), site(matches)) {
+    match (medium(matches, "id"), site(0, matches)) {
         (Some(id), Some(site)) => client_by(alloc, id, site, ops(matches)),
         _ => Ok(None),
     }
@@ -155,6 +160,67 @@ fn cluster(alloc: Global, matches: &ArgMatches<'_>) -> Result<Option<Command>, N
     }
 }
 
+fn observer_by(id: Option<u8>, site: Option<Site>) -> Option<Command>
+    ensures value { result ≡ observer_by id site }
+    ensures fits { IfSome result IsFit }
+{
+    match (id, site) {
+        (Some(id), Some(site)) if id < site.config.observers() => Some(Command::Observer(id, site)),
+        _ => None,
+    }
+}
+
+fn observer(matches: &ArgMatches<'_>) -> Option<Command>
+    ensures value { result ≡ observer_in (rows_of (found_of matches.now)) }
+    ensures fits { IfSome result IsFit }
+{
+    observer_by(small(matches, "id"), site(MAX_OBSERVERS, matches))
+}
+
+fn asking_by(id: u32, site: Site, observer: u8, key: Option<Key>) -> Option<Command>
+    requires { observer < MAX_OBSERVERS }
+    ensures value { result ≡ asking_by id site observer key }
+    ensures fits { IfSome result IsFit }
+{
+    match key {
+        Some(key) => Some(Command::Read(id, site, observer, key)),
+        None => None,
+    }
+}
+
+fn read_by(
+    alloc: Global,
+    id: u32,
+    site: Site,
+    observer: u8,
+    text: Option<&str>,
+) -> Result<Option<Command>, NoMemory>
+    ensures value { IfOk result (λ c.
+        c ≡ read_by (Some id) (Some site) (Some observer) (key_in (text_in text.entry))) }
+    ensures fits { IfOk result (λ c. IfSome c IsFit) }
+{
+    if observer >= site.config.observers() {
+        return Ok(None);
+    }
+    match read_key(alloc, text) {
+        Ok(key) => Ok(asking_by(id, site, observer, key)),
+        Err(e) => Err(e),
+    }
+}
+
+fn read(alloc: Global, matches: &ArgMatches<'_>) -> Result<Option<Command>, NoMemory>
+    ensures value { IfOk result (λ c. c ≡ read_in (rows_of (found_of matches.now))) }
+    ensures fits { IfOk result (λ c. IfSome c IsFit) }
+{
+    let asked = small(matches, "observer");
+    match (medium(matches, "id"), site(MAX_OBSERVERS, matches), asked) {
+        (Some(id), Some(site), Some(observer)) => {
+            read_by(alloc, id, site, observer, key_text(matches))
+        }
+        _ => Ok(None),
+    }
+}
+
 /// The command of a node's or the cluster's name and its matches.
 fn served(alloc: Global, name: &str, matches: &ArgMatches<'_>) -> Result<Option<Command>, NoMemory>
     ensures value { IfOk result (λ c. c ≡ served_by name.now (rows_of (found_of matches.now))) }
@@ -165,6 +231,8 @@ fn served(alloc: Global, name: &str, matches: &ArgMatches<'_>) -> Result<Option<
         "controller" => Ok(controller(matches)),
         "client" => client(alloc, matches),
         "cluster" => cluster(alloc, matches),
+        "observer" => Ok(observer(matches)),
+        "read" => read(alloc, matches),
         _ => Ok(None),
     }
 }

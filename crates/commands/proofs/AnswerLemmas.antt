@@ -1,4 +1,4 @@
--- A client's accept lines, whatever its link tells.
+-- A client's accept lines and answer lines, whatever its link tells.
 use Rattle.std.proofs.Common.{◌≡◌, ℕ, ◌<◌, Bool, true, false, List, [], ◌∷◌, ◌++◌, Option, Some, None, refl, sym, ap, ◌∙◌, length, inl, inr}
 use Rattle.client_quorum.specs.ClientSteps as requests
 use Rattle.client_quorum.specs.Core as client
@@ -6,19 +6,23 @@ use Rattle.client_quorum.specs.Core.{HasNoRead}
 use Rattle.client_quorum.specs.Runs.{accept_count, after, gave, HasNoSubmit}
 use Rattle.client_quorum.proofs.Alone.{is_done_alone, outs_alone}
 use Rattle.client_quorum.proofs.Counts.{all_accepted, some_open}
+use Rattle.client_reads.specs.Runs.{answer_count}
 use Rattle.command_line.specs.declared.command.Command.{Command}
-use Rattle.command_line.specs.declared.command.Command.TheVariants.{Replay, Client}
+use Rattle.command_line.specs.declared.command.Command.TheVariants.{Replay, Client, Read}
 use Rattle.command_line.specs.declared.command.Site.{Site}
 use Rattle.nop_types.specs.Meaning.{Meaning}
 use Rattle.nop_types.specs.Given.{Given, Packet, Ticked}
+use Rattle.nop_types.specs.Given as givens
 use Rattle.nop_types.specs.declared.output.Actor.TheVariants as actors
 use Rattle.nop_types.specs.declared.output.Out.{Out}
 use Rattle.one_box.specs.Showing.{LinkView}
 use Rattle.udp_node.specs.Folding.{folded, AllOutside}
 use Rattle.commands.specs.Nodes.{LastLine, PortsView, NodeEnds, end_status}
-use Rattle.commands.specs.Tasks.{CommandEnds, client_task, address_of, WroteAccepts, AnswersOps, ClientAnswers}
+use Rattle.commands.specs.Tasks.{CommandEnds, client_task, read_task, address_of, WroteAccepts, AnswersOps, WroteAnswers, AnswersReads}
+use Rattle.commands.specs.Tasks.{ClientAnswers}
 use Rattle.commands.specs.declared.status.Status.{Status}
 use Rattle.commands.specs.declared.status.Status.TheVariants as statuses
+use Rattle.commands.proofs.ReadLemmas.{one_answer, no_answer}
 
 free : (xs : List Given) → AllOutside xs → HasNoSubmit xs
 free [] out = tt
@@ -97,9 +101,60 @@ module _ (id : ℕ) (site : Site) (ops : List (List ℕ)) where
     answers_ops statuses.Unanswered (inr a) = lacking 0 (w.losses a.link) h i a.last
     answers_ops _ ends = tt
 
+module _ (id : ℕ) (site : Site) (observer : ℕ) (key : List ℕ) where
+  abbrev reader : client.Client
+  reader = client.opening site.config id []
+
+  module _ (rest : List Given) where
+    abbrev all : List Given
+    all = givens.Read observer key ∷ rest
+
+    read_done_is : client.is_done (folded client.next reader all).0 ≡ client.is_done (client.after reader all)
+    read_done_is = ap (λ (r : client.Client × List Out). client.is_done r.0) (folded_is reader all)
+
+    answers_are : answer_count (folded client.next reader all).1 ≡ answer_count (client.gave reader all)
+    answers_are = ap (λ (r : client.Client × List Out). answer_count r.1) (folded_is reader all)
+
+  answered : (losses losses_now : ℕ) (h i : Option (List ℕ)) → LastLine (read_task id site observer key) losses losses_now statuses.Done h i
+      → WroteAnswers (address_of site (actors.Client id)) 1 h i
+  answered losses losses_now h i l =
+      let done : client.is_done (client.after reader (all l.inputs)) ≡ true = sym (read_done_is l.inputs) ∙ was_done _ l.ends in
+      let count = one_answer site.config id observer key l.inputs (free l.inputs l.outside) (no_reads l.inputs l.outside) done in
+      record {
+        outs = (folded client.next reader (all l.inputs)).1;
+        taken = l.taken;
+        lost = l.lost;
+        answers = answers_are l.inputs ∙ count;
+        line = l.line;
+      }
+
+  unanswered : (losses losses_now : ℕ) (h i : Option (List ℕ))
+      → LastLine (read_task id site observer key) losses losses_now statuses.Unanswered h i
+      → WroteAnswers (address_of site (actors.Client id)) 0 h i
+  unanswered losses losses_now h i l =
+      let open_ : client.is_done (client.after reader (all l.inputs)) ≡ false = sym (read_done_is l.inputs) ∙ was_open _ l.ends in
+      let count = no_answer site.config id observer key l.inputs (free l.inputs l.outside) (no_reads l.inputs l.outside) open_ in
+      record {
+        outs = (folded client.next reader (all l.inputs)).1;
+        taken = l.taken;
+        lost = l.lost;
+        answers = answers_are l.inputs ∙ count;
+        line = l.line;
+      }
+
+  module _ {L : Type 0} (w : LinkView L) (p : PortsView L) (values : Option (List ℕ)) (h i : Option (List ℕ)) where
+    answers_reads : (s : Status) → NodeEnds (read_task id site observer key) w p values s h i
+        → AnswersReads (address_of site (actors.Client id)) s h i
+    answers_reads statuses.Done (inl u) = absurd u.status
+    answers_reads statuses.Done (inr a) = answered 0 (w.losses a.link) h i a.last
+    answers_reads statuses.Unanswered (inl u) = absurd u.status
+    answers_reads statuses.Unanswered (inr a) = unanswered 0 (w.losses a.link) h i a.last
+    answers_reads _ ends = tt
+
 module _ {S L : Type 0} (m : Meaning S) (w : LinkView L) (p : PortsView L) (values : Option (List ℕ)) where
   pub client_answers : (c : Option Command) (s : Status) (h i : Option (List ℕ)) → CommandEnds m c w p values s h i → ClientAnswers c s h i
   client_answers (Some (Client id site ops)) s h i ends = answers_ops id site ops w p values h i s ends
+  client_answers (Some (Read id site observer key)) s h i ends = answers_reads id site observer key w p values h i s ends
   client_answers _ s h i ends = tt
 
 pub no_answers : (c : Option Command) (h : Option (List ℕ)) → ClientAnswers c statuses.NoMemory h h

@@ -12,7 +12,7 @@ use Rattle.replay.proofs.Summaries.{summary_some}
 use Rattle.replay.proofs.Texts.{output_some}
 use Rattle.udp_node.proofs.EffectLemmas.{Appends_none}
 use Rattle.command_line.specs.declared.command.Command.{Command}
-use Rattle.command_line.specs.declared.command.Command.TheVariants.{Gen, Node, Sequencer, Controller, Client}
+use Rattle.command_line.specs.declared.command.Command.TheVariants.{Gen, Node, Sequencer, Controller, Client, Observer, Read}
 use Rattle.commands.specs.Nodes.{PortsView, EndsNodeWithoutFault, NodeTask, NodeEnds}
 use Rattle.commands.specs.Ending.{GeneratesWithoutFault}
 use Rattle.commands.specs.Words.{usage_line}
@@ -21,11 +21,13 @@ use Rattle.commands.specs.Tasks.{
   DrawingEnds,
   draws,
   runs_node,
-  waits_for_ops,
+  waits_for_answers,
   replica_task,
   sequencer_task,
   controller_task,
   client_task,
+  observer_task,
+  read_task,
 }
 use Rattle.commands.specs.declared.status.Status.{Status}
 use Rattle.commands.specs.declared.status.Status.TheVariants as statuses
@@ -35,7 +37,7 @@ module _ {S L : Type 0} (m : Meaning S) (w : LinkView L) (p : PortsView L) (valu
   pub command_ends_well : (c : Option Command) (s : Status) (h i : Option (List ℕ)) (x y : ℕ) → runs_node c ≡ true
       → CommandEnds m c w p values s h i → ¬ Rose p.faults_before p.faults_after
       → (s ≡ statuses.WriteFault → Rose x y) → ¬ Rose x y
-      → ((link : L) → p.after ≡ p.before ++ link ∷ [] → ¬ Rose 0 (w.faults link)) → EndsNodeWithoutFault (waits_for_ops c) s
+      → ((link : L) → p.after ≡ p.before ++ link ∷ [] → ¬ Rose 0 (w.faults link)) → EndsNodeWithoutFault (waits_for_answers c) s
   command_ends_well (Some (Node id site)) s h i x y runs ends ports write sink polls =
       ends_well (replica_task m id site) w p values h i s x y ends ports write sink polls
   command_ends_well (Some (Sequencer id site)) s h i x y runs ends ports write sink polls =
@@ -44,6 +46,10 @@ module _ {S L : Type 0} (m : Meaning S) (w : LinkView L) (p : PortsView L) (valu
       ends_well (controller_task site number install) w p values h i s x y ends ports write sink polls
   command_ends_well (Some (Client id site ops)) s h i x y runs ends ports write sink polls =
       ends_well (client_task id site ops) w p values h i s x y ends ports write sink polls
+  command_ends_well (Some (Observer id site)) s h i x y runs ends ports write sink polls =
+      ends_well (observer_task m id site) w p values h i s x y ends ports write sink polls
+  command_ends_well (Some (Read id site asked key)) s h i x y runs ends ports write sink polls =
+      ends_well (read_task id site asked key) w p values h i s x y ends ports write sink polls
   command_ends_well _ s h i x y runs ends ports write sink polls = absurd cc
 
   nowhere : {T : Type 0} (k : NodeTask T) (h : Option (List ℕ)) → p.after ≡ p.before → NodeEnds k w p values statuses.NoMemory h h
@@ -55,6 +61,8 @@ module _ {S L : Type 0} (m : Meaning S) (w : LinkView L) (p : PortsView L) (valu
   not_begun (Some (Sequencer id site)) h same = nowhere (sequencer_task id site) h same
   not_begun (Some (Controller site number install)) h same = nowhere (controller_task site number install) h same
   not_begun (Some (Client id site ops)) h same = nowhere (client_task id site ops) h same
+  not_begun (Some (Observer id site)) h same = nowhere (observer_task m id site) h same
+  not_begun (Some (Read id site asked key)) h same = nowhere (read_task id site asked key) h same
   not_begun _ h same = tt
 
   -- a command that does not run a node

@@ -3,4 +3,5 @@ pub mod CheckLemmas
 pub mod ClusterLemmas
 pub mod CommandLemmas
 pub mod NodeLemmas
+pub mod ReadLemmas
 pub mod RunLemmas

@@ -12,7 +12,7 @@ use Rattle.commands.specs.Checks.{ChecksWithoutFault}
 use Rattle.commands.specs.Clusters.{ClusterCommandEnds, ClusterEndsWithoutFault, runs_cluster, uses_ports}
 use Rattle.commands.specs.Ending.{EndsWithoutFault, GeneratesWithoutFault, RefusesWithoutFault}
 use Rattle.commands.specs.Nodes.{EndsNodeWithoutFault, PortsView, ReadsTo}
-use Rattle.commands.specs.Tasks.{ClientAnswers, CommandEnds, DrawingEnds, draws, runs_node, waits_for_ops}
+use Rattle.commands.specs.Tasks.{ClientAnswers, CommandEnds, DrawingEnds, draws, runs_node, waits_for_answers}
 use Rattle.commands.specs.declared.status.Status.{Status}
 use Rattle.commands.specs.declared.status.Status.TheVariants as statuses
 
@@ -75,7 +75,7 @@ pub record Completes {L : Type 0} (c : Option Command) (d : Devices L) (s : Stat
   -- where no poll of the link failed
   pub node_complete : runs_node c ≡ true → Attaches d.ports → Works d.sink
       → ((link : L) → d.ports.after ≡ d.ports.before ++ link ∷ [] → ¬ Rose 0 (d.links.faults link))
-      → EndsNodeWithoutFault (waits_for_ops c) s
+      → EndsNodeWithoutFault (waits_for_answers c) s
   -- where no poll of a link failed
   pub cluster_complete : runs_cluster c ≡ true → Attaches d.ports → Works d.sink → ¬ PollFailed d.links d.ports.before d.ports.after
       → ClusterEndsWithoutFault s
@@ -86,5 +86,5 @@ pub record CompletesAlways (c : Option Command) (s : Status) : Type 0 where
   pub check_complete : c ≡ Some Check → ChecksWithoutFault s
   pub drawing_complete : draws c ≡ true → GeneratesWithoutFault s
   pub usage_complete : ¬ IsSome c → RefusesWithoutFault s
-  pub node_complete : runs_node c ≡ true → EndsNodeWithoutFault (waits_for_ops c) s
+  pub node_complete : runs_node c ≡ true → EndsNodeWithoutFault (waits_for_answers c) s
   pub cluster_complete : runs_cluster c ≡ true → ClusterEndsWithoutFault s

@@ -21,4 +21,5 @@ reads _ = false
 -- by the name of the program
 unfoldable pub usage_line : List ℕ → List ℕ
 usage_line program =
-    codes "usage: " ++ (program ++ (codes " replay | gen | node | sequencer | controller | client | cluster | check" ++ 10 ∷ []))
+    codes "usage: " ++ (program
+    ++ (codes " replay | gen | node | sequencer | controller | client | cluster | check | observer | read" ++ 10 ∷ []))

@@ -2,15 +2,17 @@
 
 ghost use Rattle.std.specs.Prelude.{◌≡◌, ◌<◌, false, option_map, true};
 ghost use Rattle.nop_types.specs.Given.{given};
-ghost use Rattle.nop_types.specs.declared.limits.TheConstants.{MAX_SEQUENCERS, MAX_CONTROLLERS};
+ghost use Rattle.nop_types.specs.declared.limits.TheConstants.{MAX_SEQUENCERS, MAX_CONTROLLERS, MAX_OBSERVERS};
 ghost use Rattle.commands.specs.Nodes.{NodeEndsOver};
 ghost use Rattle.commands.specs.Tasks.{install_order, replica_task, sequencer_task, controller_task, client_task};
+ghost use Rattle.commands.specs.Tasks.{observer_task, read_task};
 
 use crate::node::{Task, run_core};
 use crate::status::Status;
 use client_quorum::Client;
 use command_line::{Ops, Site};
-use nop_types::{Actor, Host, Input, NoMemory, Tick};
+use nop_types::{Actor, Host, Input, Key, NoMemory, Tick};
+use observer::Observer;
 use outside::{Clock, Ports, Sink};
 use replica_core::Replica;
 use sequencer::Sequencer;
@@ -37,6 +39,17 @@ fn endless<'a>(site: &Site, first: Option<Input<'a>>) -> Task<'a>
         first,
         turns: site.turns,
         waits: false,
+    }
+}
+
+/// What a node runs that waits for its core to be done.
+fn waiting<'a>(site: &Site, first: Option<Input<'a>>) -> Task<'a>
+    ensures { result ≡ record { first = first.entry; turns = site.now.turns; waits = true } }
+{
+    Task {
+        first,
+        turns: site.turns,
+        waits: true,
     }
 }
 
@@ -140,11 +153,58 @@ pub(crate) fn run_client<P: Ports, T: Clock, K: Sink>(
         Ok(core) => {
             let mut core = core;
             let at = address(site, Actor::Client(id));
-            let task = Task {
-                first: None,
-                turns: site.turns,
-                waits: true,
-            };
+            let task = waiting(site, None);
+            run_core(alloc, &mut core, &at, &task, ports, clock, sink)
+        }
+        Err(NoMemory) => Status::NoMemory,
+    }
+}
+
+#[tactic(auto, using(crate::proofs::NodeLemmas::not_run))]
+pub(crate) fn run_observer<H: Host, P: Ports, T: Clock, K: Sink>(
+    alloc: Global,
+    id: u8,
+    site: &Site,
+    ports: &mut P,
+    clock: &mut T,
+    sink: &mut K,
+) -> Status
+    requires id { id < MAX_OBSERVERS }
+    ensures { NodeEndsOver P.L.Link P.Ports T.Clock K.Sink (observer_task H.meaning id site.now)
+        ports.old ports.new clock.old sink.old sink.new result }
+{
+    match Observer::<H>::new(alloc, site.config, id) {
+        Ok(core) => {
+            let mut core = core;
+            let at = address(site, Actor::Observer(id));
+            let task = endless(site, None);
+            run_core(alloc, &mut core, &at, &task, ports, clock, sink)
+        }
+        Err(NoMemory) => Status::NoMemory,
+    }
+}
+
+/// A client asks an observer for a key, and waits for the answer.
+#[tactic(auto, using(crate::proofs::NodeLemmas::not_run))]
+pub(crate) fn run_read<P: Ports, T: Clock, K: Sink>(
+    alloc: Global,
+    id: u32,
+    site: &Site,
+    observer: u8,
+    key: Key,
+    ports: &mut P,
+    clock: &mut T,
+    sink: &mut K,
+) -> Status
+    ensures { NodeEndsOver P.L.Link P.Ports T.Clock K.Sink
+        (read_task id site.now observer key)
+        ports.old ports.new clock.old sink.old sink.new result }
+{
+    match Client::new(alloc, site.config, id, Vec::new(alloc)) {
+        Ok(core) => {
+            let mut core = core;
+            let at = address(site, Actor::Client(id));
+            let task = waiting(site, Some(Input::Read(observer, &key)));
             run_core(alloc, &mut core, &at, &task, ports, clock, sink)
         }
         Err(NoMemory) => Status::NoMemory,

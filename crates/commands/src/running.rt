@@ -12,7 +12,9 @@ ghost use Rattle.commands.specs.Runs.{Runs, Completes, devices, sink_of, source_
 
 use crate::check::run_check;
 use crate::cluster::run_cluster;
-use crate::node_commands::{run_client, run_controller, run_replica, run_sequencer};
+use crate::node_commands::{
+    run_client, run_controller, run_observer, run_read, run_replica, run_sequencer,
+};
 use crate::status::Status;
 use command_line::{Command, read_words};
 use nop_types::{Host, NoMemory};
@@ -21,7 +23,8 @@ use replay::{GenError, ReplayError, generate, replay};
 use std::alloc::Global;
 
 /// What stands after the program's name in the usage line.
-const COMMANDS: &str = " replay | gen | node | sequencer | controller | client | cluster | check\n";
+const COMMANDS: &str =
+    " replay | gen | node | sequencer | controller | client | cluster | check | observer | read\n";
 
 fn run_replay<H: Host, S: Source, K: Sink>(alloc: Global, source: &mut S, sink: &mut K) -> Status
     ensures ends { ReplayEnds H.meaning (S.left source.old) (S.left source.new) (K.held sink.old)
@@ -117,6 +120,12 @@ fn carry_out<H: Host, S: Source, K: Sink, P: Ports, C: Clock>(
             run_cluster::<H, P, C, K>(alloc, &site, ops, ports, clock, sink)
         }
         Command::Check => run_check::<H, S, K>(alloc, source, sink),
+        Command::Observer(id, site) => {
+            run_observer::<H, P, C, K>(alloc, id, &site, ports, clock, sink)
+        }
+        Command::Read(id, site, observer, key) => {
+            run_read(alloc, id, &site, observer, key, ports, clock, sink)
+        }
     }
 }
 

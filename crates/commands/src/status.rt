@@ -12,7 +12,7 @@ pub enum Status {
     /// A port or a link failed.
     LinkFault = 5,
     NoMemory = 6,
-    /// A client or a cluster took all its turns, and one of the ops was not accepted.
+    /// A client or a cluster took all its turns, and one of the ops was not accepted, or a read not answered.
     Unanswered = 7,
     /// A transcript breaks a clause.
     Refuted = 8,

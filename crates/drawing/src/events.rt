@@ -13,7 +13,7 @@ ghost use Rattle.drawing.specs.Words.{shown_text};
 use nop_types::{Actor, NoMemory, Tick};
 use op_text::OpText;
 use picture::Text;
-use picture_labels::put_op;
+use picture_labels::{put_key, put_op};
 use schedule_text::Event;
 use std::alloc::Global;
 
@@ -24,6 +24,7 @@ pub fn actor_of(event: &Event) -> Actor
     match event {
         Event::Submit(client, _) => Actor::Client(*client),
         Event::Install(controller, _) => Actor::Controller(*controller),
+        Event::Read(client, _, _) => Actor::Client(*client),
         Event::Deliver(_, actor)
         | Event::Tick(actor, _)
         | Event::Crash(actor)
@@ -90,6 +91,14 @@ fn put_install(controller: u8, sequencer: u8, to: &mut Text)
     }
 }
 
+fn put_read(client: u32, observer: u8, to: &mut Text)
+    ensures { Grows to.old to.new (codes "read" ++ flat_map after_space
+        (actor_text (actors.Client client) ∷ actor_text (actors.Observer observer) ∷ [])) }
+{
+    put_named("read", Actor::Client(client), to);
+    put_actor(Actor::Observer(observer), to);
+}
+
 fn put_event(event: &Event, to: &mut Text)
     ensures { HasLine event.now → Grows to.old to.new (shown_text event.now) }
 {
@@ -98,12 +107,13 @@ fn put_event(event: &Event, to: &mut Text)
         Event::Deliver(index, actor) => put_deliver(*index, *actor, to),
         Event::Tick(actor, tick) => put_tick(*actor, *tick, to),
         Event::Install(controller, sequencer) => put_install(*controller, *sequencer, to),
+        Event::Read(client, observer, _) => put_read(*client, *observer, to),
         Event::Crash(actor) => put_named("crash", *actor, to),
         Event::Junk(actor, _) => put_named("junk", *actor, to),
     }
 }
 
-/// An event as its line has it, without an op and without junk.
+/// An event as its line has it, without an op, without a key and without junk.
 pub fn event_text(alloc: Global, event: &Event) -> Result<String, NoMemory>
     ensures { IfOk result (λ s. HasLine event.now → string_bytes s ≡ shown_text event.now) }
 {
@@ -117,7 +127,7 @@ fn put_junk(bytes: &[u8], to: &mut Text) {
     to.put(" bytes");
 }
 
-/// Appends the op that is submitted, or how many bytes of junk come.
+/// Appends the op that is submitted or the key that is asked for, or how many bytes of junk come.
 pub fn put_submitted<T: OpText>(
     alloc: Global,
     event: &Event,
@@ -125,6 +135,7 @@ pub fn put_submitted<T: OpText>(
 ) -> Result<(), NoMemory> {
     match event {
         Event::Submit(_, op) => put_op::<T>(alloc, op.as_slice(), to)?,
+        Event::Read(_, _, key) => put_key(key.as_slice(), to),
         Event::Junk(_, bytes) => put_junk(bytes.as_slice(), to),
         _ => {}
     }

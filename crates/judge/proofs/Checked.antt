@@ -49,13 +49,15 @@ member_count : (place : ℕ) (history : List Request) → length (members place 
 member_count place [] = refl
 member_count place (r ∷ history) = ap suc (member_count (place + 1) history)
 
-line_count : (t : Transcript) → length (transcript_lines t) ≡ length t.events + length t.states + length t.history + 2
+line_count : (t : Transcript)
+    → length (transcript_lines t) ≡ length t.events + length t.states + length t.observers + length t.history + 2
 line_count t =
     omega (
       arith,
       length-map (body t) row_text,
-      length-append t.events (t.states ++ (members 1 t.history ++ End ∷ [])),
-      length-append t.states (members 1 t.history ++ End ∷ []),
+      length-append t.events (t.states ++ (t.observers ++ (members 1 t.history ++ End ∷ []))),
+      length-append t.states (t.observers ++ (members 1 t.history ++ End ∷ [])),
+      length-append t.observers (members 1 t.history ++ End ∷ []),
       length-append (members 1 t.history) (End ∷ []),
       member_count 1 t.history,
     )

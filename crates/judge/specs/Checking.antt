@@ -32,9 +32,9 @@ pub record IsTallyOf (lines : List Line) (history : List Request) (tally : Tally
 
 -- ---- the line of a place
 
--- a member stands behind the first line, the events, the states and the earlier members
+-- a member stands behind the first line, the events, the states, the observers and the earlier members
 abbrev pub member_line : Transcript → ℕ → ℕ
-member_line t j = length t.events + length t.states + j + 2
+member_line t j = length t.events + length t.states + length t.observers + j + 2
 
 -- the line with this number is the one at the place, and the clause is its rule
 abbrev pub IsLineOf : Transcript → Broken → ℕ → ℕ → Type 0

@@ -3,13 +3,14 @@ use Rattle.std.proofs.Common.{◌≡◌, ◌+◌, ◌≤◌, ◌<◌, ℕ, zero,
 use Rattle.std.proofs.Common.{arith, length}
 use Rattle.std.proofs.Common.{List, [], ◌∷◌, ◌++◌, inl, inr, append_assoc, length-append}
 use Rattle.std.specs.Prelude.{⊤, Result, Ok, Err, nat_lt, slice_get, slice_set}
+use Rattle.std.proofs.lemmas.Bool.{ltb-true}
 use Rattle.std.proofs.lemmas.List.{length-set}
 use Rattle.std.proofs.lemmas.Option.{slice_get_within}
 use Rattle.lemmas.proofs.Members.{Has-none, Has-cases, Has-append_cases}
 use Rattle.lemmas.proofs.Places.{slice_get-append_left, slice_get-append_at, slice_get-push_cases}
 use Rattle.line_fields.specs.Fields.{IsActorOf}
 use Rattle.nop_types.specs.Configuration.{Configuration}
-use Rattle.nop_types.specs.Given.{Given, Packet, Ticked, Submit}
+use Rattle.nop_types.specs.Given.{Given, Packet, Ticked, Submit, Read}
 use Rattle.nop_types.specs.Lines as lines
 use Rattle.nop_types.specs.Lines.{Line}
 use Rattle.nop_types.specs.Lists.{Has}
@@ -24,6 +25,8 @@ use Rattle.nop_types.specs.declared.output.Out.TheVariants as outs
 use Rattle.oum_codec.specs.declared.bad.Bad.{Bad}
 use Rattle.oum_codec.specs.Reading.{reading}
 use Rattle.client_quorum.specs.Core.{Client}
+use Rattle.observer.specs.ObserverSteps as observer
+use Rattle.observer.specs.ObserverSteps.{Observer}
 use Rattle.replica_core.specs.ReplicaSteps as replica
 use Rattle.replica_core.specs.ReplicaSteps.{Replica}
 use Rattle.schedule_text.specs.Ticks.{takes_tick}
@@ -31,17 +34,17 @@ use Rattle.schedule_text.specs.declared.event.Event.{Event}
 use Rattle.schedule_text.specs.declared.event.Event.TheVariants as events
 use Rattle.network.specs.Network.{Sent, sends_of, lines_from, sends_by, lines_by, Did, Nothing, Outputs}
 use Rattle.world.specs.Others.{Kind, Sequencers, Clients, Controllers, State, next, seats, count}
-use Rattle.world.specs.Others.{Who, AReplica, Another, who, actor_at}
+use Rattle.world.specs.Others.{Who, AReplica, Another, AnObserver, who, actor_at}
 use Rattle.world.specs.Seats.{Seated, seated, Stimulus, Takes, Crashes, moved_if, seat_step}
-use Rattle.world.specs.WorldSteps.{WorldState, Happened, Refusal, actor_of, stimulus_of, tick_if, datagram_at, junk_of, at_replica}
-use Rattle.world.specs.WorldSteps.{at_other, step_of, step, go_on, run_from, run, opening, numbered_seats, opening_client, opening_others}
+use Rattle.world.specs.WorldSteps.{WorldState, Happened, Refusal, actor_of, stimulus_of, tick_if, read_if, datagram_at, junk_of, at_replica}
+use Rattle.world.specs.WorldSteps.{at_other, at_observer, step_of, step, go_on, run_from, run, opening, numbered_seats, opening_client, opening_others}
 use Rattle.world.proofs.Others.{others_become}
 use Rattle.world.proofs.Refusals.{opening_has_actors}
 use Rattle.whole_world.proofs.Seats.{seats_become}
 use Rattle.safety.proofs.Taking.{took}
 use Rattle.judged_runs.proofs.Ops.{AreRead, OpIsBytes}
-use Rattle.judged_runs.proofs.Outs.{IsRequest, OutsAre, IsOp, GivenIs, IsClient, replica_tells, sequencer_tells, controller_tells}
-use Rattle.judged_runs.proofs.Outs.{client_tells}
+use Rattle.judged_runs.proofs.Outs.{IsRequest, IsAsked, IsKey, OutsAre, IsOp, GivenIs, IsClient, replica_tells, sequencer_tells}
+use Rattle.judged_runs.proofs.Outs.{controller_tells, observer_tells, client_tells}
 use Rattle.schedule_text.specs.Fits.{EventFits}
 
 -- ---- lines
@@ -52,8 +55,8 @@ LineIs c sent (lines.Dead actor) = IsActorOf c actor
 LineIs c sent (lines.Submit r) = IsRequest c r
 LineIs c sent (lines.Accept client id result) = ⊤
 LineIs c sent (lines.Busy client) = client < c.clients
-LineIs c sent (lines.Read client id observer key) = ⊥
-LineIs c sent (lines.Answer client id observer position result) = ⊥
+LineIs c sent (lines.Read client id observer key) = IsAsked c client id observer key
+LineIs c sent (lines.Answer client id observer position result) = ⊤
 LineIs c sent (lines.Send index from dest bytes) =
     IsActorOf c from × (slice_get sent index ≡ Some (record { from = from; dest = dest; bytes = bytes }))
 
@@ -90,8 +93,12 @@ outs_tell c from there (outs.Accepted client id result ∷ os) all n sent at =
     (outs_tell c from there os all.1 n sent at)
 outs_tell c from there (outs.Busy client ∷ os) all n sent at =
     one_more_line c (sent ++ sends_of from os) (lines.Busy client) (lines_from from n os) all.0 (outs_tell c from there os all.1 n sent at)
-outs_tell c from there (outs.Reading client id observer key ∷ os) all n sent at = absurd all.0
-outs_tell c from there (outs.Answered client id observer position result ∷ os) all n sent at = absurd all.0
+outs_tell c from there (outs.Reading client id observer key ∷ os) all n sent at =
+    one_more_line c (sent ++ sends_of from os) (lines.Read client id observer key) (lines_from from n os) all.0
+    (outs_tell c from there os all.1 n sent at)
+outs_tell c from there (outs.Answered client id observer position result ∷ os) all n sent at =
+    one_more_line c (sent ++ sends_of from os) (lines.Answer client id observer position result) (lines_from from n os) tt
+    (outs_tell c from there os all.1 n sent at)
 outs_tell c from there (outs.Trimmed first entries ∷ os) all n sent at = outs_tell c from there os all.1 n sent at
 
 -- each datagram has a line
@@ -116,13 +123,15 @@ did_count from (Outputs os) n = sends_counted from os n
 
 -- ---- worlds
 
--- a client has its number, and no op or read waits
+-- a client has its number, and no op waits
 abbrev OtherIs : (k : Kind) → ℕ → State k → Type 0
 OtherIs Clients i s = IsClient i s
 OtherIs _ i s = ⊤
 
 pub record LinesShow (c : Configuration) (w : WorldState) (ls : List Line) : Type 0 where
+  pub config : w.config ≡ c
   pub replicas : length w.replicas ≡ c.replicas
+  pub observers : length w.observers ≡ c.observers
   pub others : (k : Kind) → length (seats k w.others) ≡ count k c
   pub own : (k : Kind) (i : ℕ) (q : Seated (State k)) → slice_get (seats k w.others) i ≡ Some q → OtherIs k i q.state
   pub count : length w.sent ≤ length ls
@@ -136,13 +145,17 @@ record Tells (c : Configuration) (w : WorldState) (h : Happened) : Type 0 where
   tells : DidTell c did
   sent : h.world.sent ≡ w.sent ++ sends_by from did
   lines : h.lines ≡ lines_by from (length w.sent) did
+  config : h.world.config ≡ w.config
   replicas : length h.world.replicas ≡ length w.replicas
+  observers : length h.world.observers ≡ length w.observers
   others : (k : Kind) → length (seats k h.world.others) ≡ length (seats k w.others)
   own : (k : Kind) (i : ℕ) (q : Seated (State k)) → slice_get (seats k h.world.others) i ≡ Some q → OtherIs k i q.state
 
 shown_on : (c : Configuration) (w : WorldState) (ls : List Line) (h : Happened) → LinesShow c w ls → Tells c w h → LinesShow c h.world (ls ++ h.lines)
 shown_on c w ls h lines_show t = record {
+  config = t.config ∙ lines_show.config;
   replicas = t.replicas ∙ lines_show.replicas;
+  observers = t.observers ∙ lines_show.observers;
   others = λ k. t.others k ∙ lines_show.others k;
   own = t.own;
   count = omega (
@@ -162,9 +175,9 @@ shown_on c w ls h lines_show t = record {
 
 -- ---- seats
 
-abbrev StimulusIs : Stimulus → Type 0
-StimulusIs (Takes i) = GivenIs i
-StimulusIs Crashes = ⊤
+abbrev StimulusIs : Configuration → Stimulus → Type 0
+StimulusIs c (Takes i) = GivenIs c i
+StimulusIs c Crashes = ⊤
 
 seat_tells : {S : Type 0} (c : Configuration) (next : S → Given → S × List Out) (p : Seated S) (b : Bool) (what : Stimulus)
     → ((i : Given) → what ≡ Takes i → OutsAre c (next p.state i).1) → DidTell c (moved_if next b p what).1
@@ -172,14 +185,14 @@ seat_tells c next p true what go = tt
 seat_tells c next p false (Takes i) go = go i refl
 seat_tells c next p false Crashes go = tt
 
-other_tells : (c : Configuration) (k : Kind) (i : ℕ) → i < count k c → (s : State k) → OtherIs k i s → (g : Given) → GivenIs g
+other_tells : (c : Configuration) (k : Kind) (i : ℕ) → i < count k c → (s : State k) → OtherIs k i s → (g : Given) → GivenIs c g
     → OutsAre c (next k s g).1 × OtherIs k i (next k s g).0
 other_tells c Sequencers i within s is g fits = (sequencer_tells c s g, tt)
 other_tells c Clients i within s is g fits = client_tells c i within s is g fits
 other_tells c Controllers i within s is g fits = (controller_tells c s g, tt)
 
 other_seat : (c : Configuration) (k : Kind) (i : ℕ) → i < count k c → (p : Seated (State k)) → OtherIs k i p.state → (b : Bool)
-    (what : Stimulus) → StimulusIs what
+    (what : Stimulus) → StimulusIs c what
     → DidTell c (moved_if (next k) b p what).1 × OtherIs k i (moved_if (next k) b p what).0.state
 other_seat c k i within p is true what fits = (tt, is)
 other_seat c k i within p is false (Takes g) fits = other_tells c k i within p.state is g fits
@@ -199,13 +212,31 @@ module _ {S : Type 0} (m : Meaning S) (c : Configuration) (w : WorldState) (ls :
     tells = seat_tells c (replica.next m) old old.crashed what (λ given is. replica_tells m c old.state given);
     sent = refl;
     lines = refl;
+    config = refl;
     replicas = length-set w.replicas i (seat_step (replica.next m) old what).0;
+    observers = refl;
+    others = λ k. refl;
+    own = lines_show.own;
+  }
+
+  observer_step : (i : ℕ) (old : Seated Observer) (what : Stimulus) → slice_get w.observers i ≡ Some old
+      → Tells c w (at_observer w i (seat_step (observer.next m) old what))
+  observer_step i old what there = record {
+    from = actors.Observer i;
+    there = omega (arith, slice_get_within w.observers i old there, lines_show.observers);
+    did = (seat_step (observer.next m) old what).1;
+    tells = seat_tells c (observer.next m) old old.crashed what (λ given is. observer_tells m c old.state given);
+    sent = refl;
+    lines = refl;
+    config = refl;
+    replicas = refl;
+    observers = length-set w.observers i (seat_step (observer.next m) old what).0;
     others = λ k. refl;
     own = lines_show.own;
   }
 
   other_step : (k : Kind) (i : ℕ) (old : Seated (State k)) (what : Stimulus) → slice_get (seats k w.others) i ≡ Some old
-      → StimulusIs what → Tells c w (at_other k w i (seat_step (next k) old what))
+      → StimulusIs c what → Tells c w (at_other k w i (seat_step (next k) old what))
   other_step k i old what there fits =
       let within : i < count k c = omega (arith, slice_get_within (seats k w.others) i old there, lines_show.others k) in
       let t = other_seat c k i within old (lines_show.own k i old there) old.crashed what fits in
@@ -218,14 +249,16 @@ module _ {S : Type 0} (m : Meaning S) (c : Configuration) (w : WorldState) (ls :
         tells = t.0;
         sent = refl;
         lines = refl;
+        config = refl;
         replicas = refl;
+        observers = refl;
         others = others_become (λ j qs. length qs ≡ length (seats j w.others)) w.others k ps
             (length-set (seats k w.others) i new) (λ j. refl);
         own = others_become (λ j qs. (n : ℕ) (q : Seated (State j)) → slice_get qs n ≡ Some q → OtherIs j n q.state) w.others k ps
             (seats_become (OtherIs k) (OtherIs k) (seats k w.others) i new t.1 (λ n s other h. h) (lines_show.own k)) lines_show.own;
       }
 
-  actor_step : (x : Who) (r : Result Stimulus Refusal) (h : Happened) → ((what : Stimulus) → r ≡ Ok what → StimulusIs what)
+  actor_step : (x : Who) (r : Result Stimulus Refusal) (h : Happened) → ((what : Stimulus) → r ≡ Ok what → StimulusIs c what)
       → step_of m w x r ≡ Ok h → Tells c w h
   actor_step (AReplica i) r h fits e =
       let t = took (at_replica w i) (replica.next m) (slice_get w.replicas i) r h e in
@@ -233,34 +266,45 @@ module _ {S : Type 0} (m : Meaning S) (c : Configuration) (w : WorldState) (ls :
   actor_step (Another k i) r h fits e =
       let t = took (at_other k w i) (next k) (slice_get (seats k w.others) i) r h e in
       subst (Tells c w) t.gives (other_step k i t.seat t.what t.there (fits t.what t.brought))
-  actor_step _ r h fits e = absurd cc
+  actor_step (AnObserver i) r h fits e =
+      let t = took (at_observer w i) (observer.next m) (slice_get w.observers i) r h e in
+      subst (Tells c w) t.gives (observer_step i t.seat t.what t.there)
 
 -- ---- events
 
-tick_is : (b : Bool) (tick : Tick) (what : Stimulus) → tick_if b tick ≡ Ok what → StimulusIs what
-tick_is true tick what e = let same : Takes (Ticked tick) ≡ what = cc in subst StimulusIs same tt
-tick_is false tick what e = absurd cc
+tick_is : (c : Configuration) (b : Bool) (tick : Tick) (what : Stimulus) → tick_if b tick ≡ Ok what → StimulusIs c what
+tick_is c true tick what e = let same : Takes (Ticked tick) ≡ what = cc in subst (StimulusIs c) same tt
+tick_is c false tick what e = absurd cc
 
-datagram_is : (index count : ℕ) (o : Option Sent) (what : Stimulus) → datagram_at index count o ≡ Ok what → StimulusIs what
-datagram_is index count None what e = absurd cc
-datagram_is index count (Some s) what e = let same : Takes (Packet s.bytes) ≡ what = cc in subst StimulusIs same tt
+datagram_is : (c : Configuration) (index count : ℕ) (o : Option Sent) (what : Stimulus) → datagram_at index count o ≡ Ok what → StimulusIs c what
+datagram_is c index count None what e = absurd cc
+datagram_is c index count (Some s) what e = let same : Takes (Packet s.bytes) ≡ what = cc in subst (StimulusIs c) same tt
 
-junk_is : (bytes : List ℕ) (r : Result Datagram Bad) (what : Stimulus) → junk_of bytes r ≡ Ok what → StimulusIs what
-junk_is bytes (Ok d) what e = absurd cc
-junk_is bytes (Err bad) what e = let same : Takes (Packet bytes) ≡ what = cc in subst StimulusIs same tt
+junk_is : (c : Configuration) (bytes : List ℕ) (r : Result Datagram Bad) (what : Stimulus) → junk_of bytes r ≡ Ok what → StimulusIs c what
+junk_is c bytes (Ok d) what e = absurd cc
+junk_is c bytes (Err bad) what e = let same : Takes (Packet bytes) ≡ what = cc in subst (StimulusIs c) same tt
+
+read_is : (c : Configuration) (b : Bool) (observer : ℕ) (key : List ℕ) (what : Stimulus) → IsKey key → nat_lt observer c.observers ≡ b
+    → read_if b observer key ≡ Ok what → StimulusIs c what
+read_is c true observer key what is there e =
+    let same : Takes (Read observer key) ≡ what = cc in
+    subst (StimulusIs c) same (ltb-true observer c.observers there, is)
+read_is c false observer key what is there e = absurd cc
 
 event_is : (c : Configuration) (sent : List Sent) (x : Event) → EventFits x × OpIsBytes x → (what : Stimulus)
-    → stimulus_of c sent x ≡ Ok what → StimulusIs what
+    → stimulus_of c sent x ≡ Ok what → StimulusIs c what
 unfolding stimulus_of
 event_is c sent (events.Submit number op) read what e =
     let same : Takes (Submit op) ≡ what = cc in
     let is : IsOp op = record { bytes = read.1; short = read.0 } in
-    subst StimulusIs same is
-event_is c sent (events.Deliver index actor) read what e = datagram_is index (length sent) (slice_get sent index) what e
-event_is c sent (events.Tick actor tick) read what e = tick_is (takes_tick actor tick) tick what e
-event_is c sent (events.Install k j) read what e = tick_is (nat_lt j c.sequencers) (ticks.Install j) what e
-event_is c sent (events.Crash actor) read what e = let same : Crashes ≡ what = cc in subst StimulusIs same tt
-event_is c sent (events.Junk actor bytes) read what e = junk_is bytes (reading bytes) what e
+    subst (StimulusIs c) same is
+event_is c sent (events.Deliver index actor) read what e = datagram_is c index (length sent) (slice_get sent index) what e
+event_is c sent (events.Tick actor tick) read what e = tick_is c (takes_tick actor tick) tick what e
+event_is c sent (events.Install k j) read what e = tick_is c (nat_lt j c.sequencers) (ticks.Install j) what e
+event_is c sent (events.Read client observer key) read what e =
+    read_is c (nat_lt observer c.observers) observer key what (record { bytes = read.1; some = read.0.0; most = read.0.1 }) refl e
+event_is c sent (events.Crash actor) read what e = let same : Crashes ≡ what = cc in subst (StimulusIs c) same tt
+event_is c sent (events.Junk actor bytes) read what e = junk_is c bytes (reading bytes) what e
 
 module _ {S : Type 0} (m : Meaning S) (c : Configuration) where
   event_shown : (w : WorldState) (ls : List Line) → LinesShow c w ls → (x : Event) → EventFits x × OpIsBytes x → (h : Happened)
@@ -268,7 +312,8 @@ module _ {S : Type 0} (m : Meaning S) (c : Configuration) where
   unfolding step
   event_shown w ls lines_show x read h e =
       shown_on c w ls h lines_show
-      (actor_step m c w ls lines_show (who (actor_of x)) (stimulus_of w.config w.sent x) h (event_is w.config w.sent x read) e)
+      (actor_step m c w ls lines_show (who (actor_of x)) (stimulus_of w.config w.sent x) h
+      (λ what is. subst (λ (g : Configuration). StimulusIs g what) lines_show.config (event_is w.config w.sent x read what is)) e)
 
   shown_then : (x : Event) (es : List Event) (w : WorldState) (ls : List Line) (h : Happened) → LinesShow c w ls → EventFits x × OpIsBytes x
       → ((v : WorldState) (more : List Line) → LinesShow c v more → run_from m more v es ≡ Ok h → LinesShow c h.world h.lines)
@@ -300,12 +345,14 @@ opening_own c (suc n) k q h =
       | inr last ↦
           let here : k ≡ n = last.0 ∙ counted_length (opening_client c) n in
           subst (λ (s : Seated Client). IsClient k s.state) last.1
-          (record { requests = record { number = sym here; waits = refl }; reads = refl })
+          (record { requests = record { number = sym here; waits = refl }; reads = sym here })
     ]
 
 opening_shown : (c : Configuration) → LinesShow c (opening c) []
 opening_shown c = record {
+  config = refl;
   replicas = (opening_has_actors c).replicas;
+  observers = (opening_has_actors c).observers;
   others = (opening_has_actors c).others;
   own = λ k. own k;
   count = omega arith;

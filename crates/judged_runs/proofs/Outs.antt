@@ -1,7 +1,8 @@
--- What actors tell of their steps: only clients submit, requests of their own with an id and the op that they were given. None reads.
+-- What actors tell of their steps: only clients submit, requests of their own with an id and the op that they were given; and only
+-- clients read, the key that they were given.
 use Rattle.std.proofs.Common.{◌≡◌, ◌+◌, ◌≤◌, ◌<◌, ◌^◌, ℕ, Bool, true, false, Option, Some, None, subst, inl, inr, map, arith, length}
-use Rattle.std.proofs.Common.{List, [], ◌∷◌, ◌++◌, sym, ap, ◌∙◌}
-use Rattle.std.specs.Prelude.{◌-◌, ⊤, nat_lt, nat_le, ◌==◌, Result, Ok, Err}
+use Rattle.std.proofs.Common.{List, [], ◌∷◌, ◌++◌}
+use Rattle.std.specs.Prelude.{◌-◌, ⊤, is_none, nat_lt, nat_le, ◌==◌, Result, Ok, Err}
 use Rattle.std.specs.List.{AllByRecursion}
 use Rattle.std.proofs.lemmas.Bool.{and_parts, ltb-true}
 use Rattle.hex.specs.Hex.{IsBytes}
@@ -9,7 +10,7 @@ use Rattle.nop_types.specs.Configuration.{Configuration}
 use Rattle.nop_types.specs.Given.{Given, Packet, Ticked, Submit, Read}
 use Rattle.nop_types.specs.Logs.{Trimmed}
 use Rattle.nop_types.specs.Meaning.{Meaning}
-use Rattle.nop_types.specs.declared.limits.TheConstants.{MAX_OP_BYTES}
+use Rattle.nop_types.specs.declared.limits.TheConstants.{MAX_OP_BYTES, MAX_KEY_BYTES}
 use Rattle.nop_types.specs.declared.input.Tick.{Tick}
 use Rattle.nop_types.specs.declared.input.Tick.TheVariants as ticks
 use Rattle.nop_types.specs.declared.datagram.Datagram.{Datagram}
@@ -27,19 +28,24 @@ use Rattle.peer_codec.specs.Reading as peer
 use Rattle.peer_codec.specs.declared.bad_peer.BadPeer.{BadPeer}
 use Rattle.fragments.specs.Cutting.{sends_of}
 use Rattle.fragments.specs.Joining.{taken}
+use Rattle.client_reads.specs.declared.state.Reads.{Reads}
+use Rattle.client_reads.specs.ReadSteps as reads
+use Rattle.client_reads.specs.Rows as rows
+use Rattle.client_reads.proofs.RowLemmas.{row_of as reads_row}
 use Rattle.client_quorum.specs.declared.state.ClientState.{ClientState}
 use Rattle.client_quorum.specs.ClientSteps as client
 use Rattle.client_quorum.specs.Core as core
-use Rattle.client_quorum.specs.Core.{Client, IsNoRead}
+use Rattle.client_quorum.specs.Core.{Client}
 use Rattle.client_quorum.specs.OpenRequests.{has_room, open_requests}
 use Rattle.client_quorum.specs.Rows.{Row, Rests, SaysBusy, Opens, Repeats, Keeps, Accepts}
-use Rattle.client_quorum.proofs.Alone.{step_alone}
 use Rattle.client_quorum.proofs.RowLemmas.{row_of}
 use Rattle.sequencer.specs.declared.state.SequencerState.{SequencerState}
 use Rattle.sequencer.specs.SequencerSteps as sequencer
 use Rattle.session_control.specs.declared.state.ControllerState.{ControllerState}
 use Rattle.session_control.specs.declared.state.TheConstants.{MISSED_END}
 use Rattle.session_control.specs.ControllerSteps as controller
+use Rattle.observer.specs.ObserverSteps as observer
+use Rattle.observer.specs.ObserverSteps.{Observer}
 use Rattle.replica_state.specs.State.{is_other}
 use Rattle.replica_state.specs.declared.sending.Sending.{Sending}
 use Rattle.replica_state.specs.declared.sending.Sending.TheVariants.{ToReplicas}
@@ -59,11 +65,24 @@ pub record IsRequest (c : Configuration) (r : Request) : Type 0 where
   pub bytes : IsBytes r.op
   pub short : length r.op ≤ MAX_OP_BYTES
 
+-- a key is bytes, of its length
+pub record IsKey (key : List ℕ) : Type 0 where
+  pub bytes : IsBytes key
+  pub some : 1 ≤ length key
+  pub most : length key ≤ MAX_KEY_BYTES
+
+-- a read as its client asks: the client and the observer are of the configuration
+pub record IsAsked (c : Configuration) (client id observer : ℕ) (key : List ℕ) : Type 0 where
+  pub client_there : client < c.clients
+  pub low : 1 ≤ id
+  pub id_fits : id < 2 ^ 64
+  pub observer_there : observer < c.observers
+  pub key_is : IsKey key
+
 abbrev pub OutIs : Configuration → Out → Type 0
 OutIs c (outs.Submitted r) = IsRequest c r
 OutIs c (outs.Busy client) = client < c.clients
-OutIs c (outs.Reading client id observer key) = ⊥
-OutIs c (outs.Answered client id observer position result) = ⊥
+OutIs c (outs.Reading client id observer key) = IsAsked c client id observer key
 OutIs c _ = ⊤
 
 abbrev pub OutsAre : Configuration → List Out → Type 0
@@ -80,15 +99,11 @@ pub record IsOp (op : List ℕ) : Type 0 where
   pub bytes : IsBytes op
   pub short : length op ≤ MAX_OP_BYTES
 
--- an input submits such an op, and asks for no key
-abbrev pub GivenIs : Given → Type 0
-GivenIs (Submit op) = IsOp op
-GivenIs (Read observer key) = ⊥
-GivenIs _ = ⊤
-
-no_read : (i : Given) → GivenIs i → IsNoRead i
-no_read (Read observer key) is = is
-no_read _ is = tt
+-- an input submits such an op, or asks an observer that is there for such a key
+abbrev pub GivenIs : Configuration → Given → Type 0
+GivenIs c (Submit op) = IsOp op
+GivenIs c (Read observer key) = (observer < c.observers) × IsKey key
+GivenIs c _ = ⊤
 
 -- ---- replicas
 
@@ -213,6 +228,18 @@ module _ (c : Configuration) where
   controller_tells s (Ticked tick) = controller_tick_are s tick
   controller_tells s _ = tt
 
+-- ---- observers
+
+module _ {S : Type 0} (m : Meaning S) (c : Configuration) where
+  observer_took_are : (s : Observer) (r : Result Datagram Bad) → OutsAre c (observer.on_datagram m s r).1
+  observer_took_are s (Ok (datagrams.Read r)) = (tt, tt)
+  observer_took_are s _ = tt
+
+  pub observer_tells : (s : Observer) (i : Given) → OutsAre c (observer.next m s i).1
+  unfolding observer.next
+  observer_tells s (Packet bytes) = observer_took_are s (reading bytes)
+  observer_tells s _ = tt
+
 -- ---- clients
 
 -- its number, and no op of its own that waits
@@ -247,31 +274,65 @@ module _ (c : Configuration) (k : ℕ) (within : k < c.clients) (s : ClientState
   retry_tells [] = tt
   retry_tells (q ∷ qs) = (tt, retry_tells qs)
 
-  row_tells : (i : Given) → GivenIs i → (y : ClientState × List Out) → Row s i y → ClientTells c k y
+  row_tells : (i : Given) → GivenIs c i → (y : ClientState × List Out) → Row s i y → ClientTells c k y
   row_tells i fits y (Rests nothing) = quiet_client
   row_tells i fits y (SaysBusy op of busy) = record { tells = (own, tt); stays = is }
   row_tells i fits y (Opens op waiting can (inl (of, left))) = absurd (let none = is.waits in cc)
   row_tells i fits y (Opens op waiting can (inr (of, same))) =
       subst (λ (ops : List (List ℕ)). ClientTells c k (client.begin (record s { waiting = ops }) (client.request_of s op))) same
-      (submit_tells op can (subst GivenIs of fits))
+      (submit_tells op can (subst (GivenIs c) of fits))
   row_tells i fits y (Repeats of) = record { tells = retry_tells (open_requests s); stays = is }
   row_tells i fits y (Keeps p has e quorum) = record { tells = tt; stays = record { number = is.number; waits = is.waits } }
   row_tells i fits y (Accepts p leaders has e quorum) =
       record { tells = (tt, tt); stays = record { number = is.number; waits = is.waits } }
 
-  requests_tell : (i : Given) → GivenIs i → ClientTells c k (client.next s i)
+  requests_tell : (i : Given) → GivenIs c i → ClientTells c k (client.next s i)
   requests_tell i fits = row_tells i fits (client.next s i) (row_of s i)
 
--- its requests are so, and no read of it waits
+-- a step of its reads, which keep its number
+record ReadsTell (c : Configuration) (k : ℕ) (y : Reads × List Out) : Type 0 where
+  tells : OutsAre c y.1
+  stays : y.0.number ≡ k
+
+module _ (c : Configuration) (k : ℕ) (within : k < c.clients) (s : Reads) (is : s.number ≡ k) where
+  reader_there : s.number < c.clients
+  reader_there = omega (arith, within, is)
+
+  reads_row_tell : (i : Given) → GivenIs c i → (y : Reads × List Out) → rows.Row s i y → ReadsTell c k y
+  reads_row_tell i fits y (rows.Rests nothing) = record { tells = tt; stays = is }
+  reads_row_tell i fits y (rows.SaysBusy other key of busy) = record { tells = (reader_there, tt); stays = is }
+  reads_row_tell i fits y (rows.Asks other key of can) =
+      let asked = subst (GivenIs c) of fits in
+      let left = ltb-true s.last_id (2 ^ 64 - 1) (and_parts (is_none s.pending) (nat_lt s.last_id (2 ^ 64 - 1)) can).1 in
+      record {
+        tells = (
+          record {
+            client_there = reader_there;
+            low = omega arith;
+            id_fits = omega (arith, left);
+            observer_there = asked.0;
+            key_is = asked.1;
+          },
+          (tt, tt),
+        );
+        stays = is;
+      }
+  reads_row_tell i fits y (rows.Repeats r of e) = record { tells = (tt, tt); stays = is }
+  reads_row_tell i fits y (rows.Ends r a has e answers) = record { tells = (tt, tt); stays = is }
+
+  reads_tell : (i : Given) → GivenIs c i → ReadsTell c k (reads.next s i)
+  reads_tell i fits = reads_row_tell i fits (reads.next s i) (reads_row s i)
+
+-- its requests are so, and its reads have its number
 pub record IsClient (k : ℕ) (s : Client) : Type 0 where
   pub requests : ClientIs k s.requests
-  pub reads : s.reads.pending ≡ None
+  pub reads : s.reads.number ≡ k
 
-pub client_tells : (c : Configuration) (k : ℕ) → k < c.clients → (s : Client) → IsClient k s → (i : Given) → GivenIs i
+pub client_tells : (c : Configuration) (k : ℕ) → k < c.clients → (s : Client) → IsClient k s → (i : Given) → GivenIs c i
     → OutsAre c (core.next s i).1 × IsClient k (core.next s i).0
 client_tells c k within s is i fits =
-    let tells = requests_tell c k within s.requests is.requests i fits in
-    let alone = step_alone s.requests s.reads i is.reads (no_read i fits) in (
-      subst (OutsAre c) (sym (ap (λ (r : Client × List Out). r.1) alone)) tells.tells,
-      record { requests = tells.stays; reads = ap (λ (r : Client × List Out). r.0.reads.pending) alone ∙ is.reads },
+    let first = requests_tell c k within s.requests is.requests i fits in
+    let later = reads_tell c k within s.reads is.reads i fits in (
+      both_are c (client.next s.requests i).1 (reads.next s.reads i).1 first.tells later.tells,
+      record { requests = first.stays; reads = later.stays },
     )

@@ -26,12 +26,12 @@ use Rattle.network.specs.Network.{Sent}
 use Rattle.replay.specs.Destinations.{IsDestOf}
 use Rattle.transcript_rows.specs.Rows.{actor_fits, dest_fits, pair_fits, request_fits, entry_fits, row_fits, IsTypedRequest, RowFits}
 use Rattle.transcript_rows.specs.LineRows.{row_of}
-use Rattle.transcript_rows.specs.declared.row.Row.TheVariants.{Dead, Submit, Accept, Busy, State, Slot, Member}
+use Rattle.transcript_rows.specs.declared.row.Row.TheVariants.{Dead, Submit, Accept, Busy, Read, Answer, State, Slot, Watching, Member}
 use Rattle.transcript_rows.specs.declared.row.Row.TheVariants as rows
 use Rattle.transcript_rows.specs.declared.row.TheConstants.{MAX_SENT_BYTES}
 use Rattle.judged_runs.proofs.Datagrams.{IsSpelled}
 use Rattle.judged_runs.proofs.Lines.{LineIs}
-use Rattle.judged_runs.proofs.Outs.{IsRequest}
+use Rattle.judged_runs.proofs.Outs.{IsRequest, IsAsked}
 
 pub both : (a b : Bool) → a ≡ true → b ≡ true → a && b ≡ true
 both true b e f = f
@@ -89,6 +89,16 @@ module _ (c : Configuration) (counts : Counts c) where
     pub bytes : IsBytes result
     pub short : length result ≤ MAX_RESULT_BYTES
 
+  -- what a result that was read needs
+  pub record IsReadResult (k n observer position : ℕ) (result : List ℕ) : Type 0 where
+    pub client : k < c.clients
+    pub low : 1 ≤ n
+    pub id : n < 2 ^ 64
+    pub there : observer < c.observers
+    pub high : position < 2 ^ 32
+    pub bytes : IsBytes result
+    pub short : length result ≤ MAX_RESULT_BYTES
+
   -- what a datagram needs
   pub record IsSent (s : Sent) : Type 0 where
     pub dest : IsDestOf c s.dest
@@ -102,6 +112,22 @@ module _ (c : Configuration) (counts : Counts c) where
     ranges = both (pair_fits client id) (nat_le (length result) MAX_RESULT_BYTES) (pair_in client id h.client h.low)
         (le-leb (length result) MAX_RESULT_BYTES h.short);
     typed = (h.id, h.bytes);
+  }
+
+  read_row : (client id observer : ℕ) (key : List ℕ) → IsAsked c client id observer key → RowFits (Read client id observer key)
+  read_row client id observer key h = record {
+    ranges = both (pair_fits client id) (nat_lt observer MAX_OBSERVERS) (pair_in client id h.client_there h.low)
+        (lt-ltb observer MAX_OBSERVERS (omega (arith, h.observer_there, counts.observers)));
+    typed = record { id_fits = h.id_fits; bytes = h.key_is.bytes; some = h.key_is.some; most = h.key_is.most };
+  }
+
+  answer_row : (client id observer position : ℕ) (result : List ℕ) → IsReadResult client id observer position result
+      → RowFits (Answer client id observer position result)
+  answer_row client id observer position result h = record {
+    ranges = both (pair_fits client id) _ (pair_in client id h.client h.low)
+        (both (nat_lt observer MAX_OBSERVERS) (nat_le (length result) MAX_RESULT_BYTES)
+        (lt-ltb observer MAX_OBSERVERS (omega (arith, h.there, counts.observers))) (le-leb (length result) MAX_RESULT_BYTES h.short));
+    typed = record { id_fits = h.id; position_fits = h.high; bytes = h.bytes };
   }
 
   sent_row : (index : ℕ) (from : Actor) (dest : Dest) (bytes : List ℕ) → IsActorOf c from → index < 2 ^ 64
@@ -120,16 +146,20 @@ module _ (c : Configuration) (counts : Counts c) where
 
   pub line_row : (sent : List Sent) (l : Line) → LineIs c sent l → length sent ≤ 2 ^ 64
       → ((client id : ℕ) (result : List ℕ) → l ≡ lines.Accept client id result → IsResult client id result)
+      → ((client id observer position : ℕ) (result : List ℕ) → l ≡ lines.Answer client id observer position result
+      → IsReadResult client id observer position result)
       → ((s : Sent) (i : ℕ) → slice_get sent i ≡ Some s → IsSent s) → RowFits (row_of l)
-  line_row sent (lines.Dead actor) h few accepts sends = record { ranges = actor_in actor h; typed = tt }
-  line_row sent (lines.Submit r) h few accepts sends = submit_row r h
-  line_row sent (lines.Accept client id result) h few accepts sends = accept_row client id result (accepts client id result refl)
-  line_row sent (lines.Busy client) h few accepts sends =
+  line_row sent (lines.Dead actor) h few accepts answers sends = record { ranges = actor_in actor h; typed = tt }
+  line_row sent (lines.Submit r) h few accepts answers sends = submit_row r h
+  line_row sent (lines.Accept client id result) h few accepts answers sends = accept_row client id result (accepts client id result refl)
+  line_row sent (lines.Busy client) h few accepts answers sends =
       record { ranges = lt-ltb client MAX_CLIENTS (omega (arith, h, counts.clients)); typed = tt }
-  line_row sent (lines.Send index from dest bytes) h few accepts sends =
+  line_row sent (lines.Read client id observer key) h few accepts answers sends = read_row client id observer key h
+  line_row sent (lines.Answer client id observer position result) h few accepts answers sends =
+      answer_row client id observer position result (answers client id observer position result refl)
+  line_row sent (lines.Send index from dest bytes) h few accepts answers sends =
       let near = slice_get_within sent index (record { from = from; dest = dest; bytes = bytes }) h.1 in
       sent_row index from dest bytes h.0 (omega (arith, near, few)) (sends _ index h.1)
-  line_row sent _ h few accepts sends = absurd h
 
   -- ---- the lines at the end
 
@@ -159,6 +189,10 @@ module _ (c : Configuration) (counts : Counts c) where
       slot_typed i slot e h high
       (both (nat_lt i MAX_REPLICAS) _ (lt-ltb i MAX_REPLICAS (omega (arith, own, counts.replicas)))
       (both (nat_le 1 slot) (entry_fits e) (le-leb 1 slot low) (entry_in e h)))
+
+  pub watching_row : (i : ℕ) (crashed : Bool) (position : ℕ) → i < c.observers → position < 2 ^ 32 → RowFits (Watching i crashed position)
+  watching_row i crashed position own high =
+      record { ranges = lt-ltb i MAX_OBSERVERS (omega (arith, own, counts.observers)); typed = high }
 
   pub member_row : (place : ℕ) (r : Request) → 1 ≤ place → place < 2 ^ 32 → IsRequest c r → RowFits (Member place r)
   member_row place r low high h =

@@ -1,14 +1,17 @@
 -- What is written of a run spells its transcript: each of its lines is in its ranges.
 use Rattle.std.proofs.Common.{◌≡◌, ◌∙◌, ◌+◌, ◌*◌, ◌≤◌, ◌<◌, ◌^◌, ℕ, zero, suc, Bool, true, List, [], ◌∷◌, ◌++◌, length, map, take, refl}
 use Rattle.std.proofs.Common.{sym, ap, subst}
-use Rattle.std.proofs.Common.{arith, length-append, Some}
-use Rattle.std.specs.Prelude.{◌/◌, Ok, count_by, slice_get}
+use Rattle.std.proofs.Common.{arith, length-append, inl, inr}
+use Rattle.std.specs.Prelude.{◌/◌, ◌%◌, Option, Some, None, Ok, count_by, slice_get}
+use Rattle.std.specs.Int.{w16, to_be_bytes}
 use Rattle.std.specs.List.{list_all}
 use Rattle.std.proofs.lemmas.Bool.{and_parts}
 use Rattle.std.proofs.lemmas.List.{length-map}
+use Rattle.std.proofs.lemmas.Nat.{mod_below}
 use Rattle.std.proofs.lemmas.List.Folds.{list_all-append}
 use Rattle.std.proofs.lemmas.Option.{slice_get_within}
-use Rattle.lemmas.proofs.Members.{Has-append_left, Has-filter, Has-first, Has-from_filter, Has-rest}
+use Rattle.lemmas.proofs.Bytes.{byte_first, bytes_both, no_bytes}
+use Rattle.lemmas.proofs.Members.{Has-append_left, Has-filter, Has-first, Has-from_filter, Has-push_cases, Has-rest}
 use Rattle.execution_laws.proofs.Shortness.{result_fits}
 use Rattle.nop_types.specs.Checkpoints.{KeepsTo}
 use Rattle.nop_types.specs.Configuration.{Configuration, is_configuration}
@@ -19,8 +22,10 @@ use Rattle.nop_types.specs.Lines.{Line}
 use Rattle.nop_types.specs.Lists.{Has}
 use Rattle.nop_types.specs.Logs.{Trimmed, length_of}
 use Rattle.nop_types.specs.Meaning.{Meaning}
-use Rattle.nop_types.specs.Services.{AnswersAreBytes}
-use Rattle.nop_types.specs.declared.limits.TheConstants.{MAX_LENGTH}
+use Rattle.nop_types.specs.Histories.{answer_from, history_of}
+use Rattle.nop_types.specs.Reads.{state_after}
+use Rattle.nop_types.specs.Services.{AnswersAreBytes, IsBytes, OpsAreBytes, get_of}
+use Rattle.nop_types.specs.declared.limits.TheConstants.{MAX_LENGTH, MAX_RESULT_BYTES}
 use Rattle.nop_types.specs.declared.header.Header.{Header}
 use Rattle.nop_types.specs.declared.output.Actor.{Actor}
 use Rattle.nop_types.specs.declared.request.Entry.{Entry}
@@ -29,6 +34,8 @@ use Rattle.nop_types.specs.declared.request.Request.{Request}
 use Rattle.protocol.specs.Conf.{Conf}
 use Rattle.protocol.specs.LocalState.{LocalState}
 use Rattle.refinement.specs.Projection.{local_state_of}
+use Rattle.observer.specs.ObserverSteps.{Observer}
+use Rattle.observer.specs.Observing.{position}
 use Rattle.replica_core.specs.ReplicaSteps.{Replica}
 use Rattle.replica_rows.specs.Within.{ResultsShort}
 use Rattle.replica_state.specs.State.{PointsMeet}
@@ -41,7 +48,7 @@ use Rattle.safety.specs.Following.{is_spoken, spoken, all_brought, FollowsWhole}
 use Rattle.safety.specs.Safe.{SafelyPassed}
 use Rattle.schedule_text.specs.declared.event.Event.{Event}
 use Rattle.network.specs.Network.{Sent}
-use Rattle.transcript_reader.specs.Transcripts.{Transcript, Spells, AllFit, is_event, is_state, members, body, transcript_lines}
+use Rattle.transcript_reader.specs.Transcripts.{Transcript, Spells, AllFit, is_event, is_state, is_watching, members, body, transcript_lines}
 use Rattle.transcript_reader.specs.declared.limits.TheConstants.{MAX_TRANSCRIPT_LINES}
 use Rattle.transcript_rows.specs.Rows.{RowFits, row_text}
 use Rattle.transcript_rows.specs.LineRows.{row_of}
@@ -55,14 +62,15 @@ use Rattle.whole_world.specs.Whole.{WholeWorld, Brings, whole_run, whole_step}
 use Rattle.world.specs.Archive.{with_archive}
 use Rattle.world.specs.Ending.{final_text}
 use Rattle.world.specs.Seats.{Seated}
-use Rattle.world.specs.WorldSteps.{Happened, run, history}
+use Rattle.world.specs.WorldSteps.{Happened, run, history, log_of, main_log}
 use Rattle.judged_runs.proofs.Datagrams.{datagram_is}
 use Rattle.judged_runs.proofs.Lines.{LinesShow, runs_tell}
 use Rattle.judged_runs.proofs.Ops.{AreRead, read_fit}
-use Rattle.judged_runs.proofs.Outs.{IsRequest}
-use Rattle.judged_runs.proofs.Rows.{both, Counts, counts_of, IsResult, IsSent, EntryIs, line_row, state_row, slot_row, member_row}
+use Rattle.judged_runs.proofs.Outs.{IsRequest, IsAsked}
+use Rattle.judged_runs.proofs.Rows.{both, Counts, counts_of, IsResult, IsReadResult, IsSent, EntryIs, line_row, state_row, slot_row}
+use Rattle.judged_runs.proofs.Rows.{watching_row, member_row}
 use Rattle.judged_runs.proofs.Texts.{run_text, lines_counted}
-use Rattle.judged_runs.specs.Runs.{slot_rows, rows_of, state_rows, transcript_of, is_line_end, HasRoom}
+use Rattle.judged_runs.specs.Runs.{slot_rows, rows_of, state_rows, watching_rows, transcript_of, is_line_end, HasRoom}
 
 -- ---- lists of rows
 
@@ -97,6 +105,10 @@ all_states archive i [] = refl
 all_states archive i (p ∷ ps) =
     both_all is_state (rows_of archive i p) (state_rows archive (i + 1) ps) (all_slots i 1 (take p.state.state.sync.sync_point archive))
     (all_states archive (i + 1) ps)
+
+all_watching : (i : ℕ) (ps : List (Seated Observer)) → list_all is_watching (watching_rows i ps) ≡ true
+all_watching i [] = refl
+all_watching i (p ∷ ps) = all_watching (i + 1) ps
 
 -- ---- the lines at the end
 
@@ -143,6 +155,21 @@ module _ (c : Configuration) (counts : Counts c) where
         (states_fit (i + 1) ps
         (λ j q h. let e : i + suc j ≡ (i + 1) + j = omega arith in subst (λ (k : ℕ). IsShown k q) e (all (suc j) q h)))
 
+  -- what is shown of an observer
+  record IsWatched (i : ℕ) (p : Seated Observer) : Type 0 where
+    own : i < c.observers
+    high : position p.state.heard.state < 2 ^ 32
+
+  watching_fit : (i : ℕ) (ps : List (Seated Observer)) → ((j : ℕ) (p : Seated Observer) → slice_get ps j ≡ Some p → IsWatched (i + j) p)
+      → AllFit (watching_rows i ps)
+  watching_fit i [] all = tt
+  watching_fit i (p ∷ ps) all =
+      let here : IsWatched i p = (let e : i + 0 ≡ i = omega arith in subst (λ (k : ℕ). IsWatched k p) e (all 0 p refl)) in (
+        watching_row c counts i p.crashed (position p.state.heard.state) here.own here.high,
+        watching_fit (i + 1) ps
+            (λ j q h. let e : i + suc j ≡ (i + 1) + j = omega arith in subst (λ (k : ℕ). IsWatched k q) e (all (suc j) q h)),
+      )
+
   members_fit : (place : ℕ) (rs : List Request) → 1 ≤ place → place + length rs ≤ 2 ^ 32 → ((r : Request) → Has rs r → IsRequest c r)
       → AllFit (members place rs)
   members_fit place [] low room all = tt
@@ -167,12 +194,37 @@ few d h most =
     let t : Transcript = transcript_of d h in
     let all : List Row = members 1 (history h.world) in
     let a = length-map (body t) row_text in
-    let b = length-append t.events (t.states ++ (all ++ End ∷ [])) in
-    let e = length-append t.states (all ++ End ∷ []) in
+    let b = length-append t.events (t.states ++ (t.observers ++ (all ++ End ∷ []))) in
+    let e = length-append t.states (t.observers ++ (all ++ End ∷ [])) in
+    let o = length-append t.observers (all ++ End ∷ []) in
     let g = length-append all (End ∷ []) in
     let k = length_members 1 (history h.world) in
     let l = length-map h.lines row_of in
-    record { lines = omega (arith, most, a, b, e, g, k, l); members = omega (arith, most, a, b, e, g, k, l) }
+    record { lines = omega (arith, most, a, b, e, o, g, k, l); members = omega (arith, most, a, b, e, o, g, k, l) }
+
+-- ---- what is read
+
+two_bytes : (n : ℕ) → IsBytes (to_be_bytes w16 n)
+two_bytes n =
+    byte_first (n / 256 % 256) (n % 256 ∷ []) (mod_below (n / 256) 256 (omega arith))
+    (byte_first (n % 256) [] (mod_below n 256 (omega arith)) no_bytes)
+
+get_bytes : (key : List ℕ) → IsBytes key → IsBytes (get_of key)
+unfolding get_of
+get_bytes key all =
+    byte_first 71 (to_be_bytes w16 (length key) ++ key) (omega arith)
+    (bytes_both (to_be_bytes w16 (length key)) key (two_bytes (length key)) all)
+
+-- what is answered to one more op
+answer_behind : {S : Type 0} (m : Meaning S) (s : S) (rs : List Request) (r : Request)
+    → answer_from m s (rs ++ r ∷ []) (length rs) ≡ Some (m.answer (state_after m s rs) r.op)
+answer_behind m s [] r = refl
+answer_behind m s (x ∷ rs) r = answer_behind m (m.after s x.op) rs r
+
+states_sound : {S : Type 0} (m : Meaning S) (IsSound : S → Type 0) → KeepsTo m IsSound → (s : S) (rs : List Request) → IsSound s
+    → IsSound (state_after m s rs)
+states_sound m IsSound keeps s [] sound = sound
+states_sound m IsSound keeps s (r ∷ rs) sound = states_sound m IsSound keeps (m.after s r.op) rs (keeps.stays s r.op sound)
 
 -- ---- the run
 
@@ -290,21 +342,79 @@ module _ {S : Type 0} (m : Meaning S) (IsSound : S → Type 0) (keeps : KeepsTo 
       record { own = own; within = within i p there; synced = synced_is i p own there } in
       subst (λ (k : ℕ). IsShown c counts h.world.archive k p) same here
 
+  -- ---- reads
+
+  log_is_short : (i : ℕ) (o : Option (Seated Replica)) → slice_get h.world.replicas i ≡ o → length (log_of h.world.archive o) < 2 ^ 32
+  log_is_short i None there = omega arith
+  log_is_short i (Some p) there =
+      let log = p.state.state.log in
+      let limit : length_of Trimmed log ≤ MAX_LENGTH = (within i p there).log.limit in
+      let few = prefix_short c counts log.sync_point h.world.archive in
+      let parts = length-append (take log.sync_point h.world.archive) log.entries in
+      omega (arith, limit, few, parts)
+
+  main_is_short : length (main_log h.world) < 2 ^ 32
+  unfolding main_log
+  main_is_short = log_is_short _ (slice_get h.world.replicas _) refl
+
+  read_is_bytes : (rs : List Request) (key : List ℕ) → OpsAreBytes rs → IsBytes key
+      → IsBytes (m.answer (state_after m m.opening rs) (get_of key))
+  read_is_bytes rs key all of_key =
+      let r : Request = record { client = 0; id = 0; op = get_of key } in
+      bytes (rs ++ r ∷ []) (length rs) (m.answer (state_after m m.opening rs) (get_of key))
+      (λ q has. elim (Has-push_cases rs r q has) [
+        | inl old ↦ all q old
+        | inr new ↦ subst (λ (x : Request). IsBytes x.op) new (get_bytes key of_key)
+      ])
+      (answer_behind m m.opening rs r)
+
+  read_result : (k client id observer place : ℕ) (result : List ℕ)
+      → slice_get h.lines k ≡ Some (lines.Answer client id observer place result) → IsReadResult c counts client id observer place result
+  read_result k client id observer place result there =
+      let right = safely.reads.lines.right k client id observer place result there in
+      let own : IsAsked c client id observer right.key =
+      lines_show.lines (lines.Read client id observer right.key) (right.asked.place, right.asked.line) in
+      let rs : List Request = history_of (take place (main_log h.world)) in
+      let op : List ℕ = get_of right.key in
+      let all : OpsAreBytes rs =
+      λ r has. (member_is r (subst (λ (xs : List Request). Has xs r) (sym right.is.members.1)
+      (Has-append_left rs right.is.members.0 r has))).bytes in
+      record {
+        client = own.client_there;
+        low = own.low;
+        id = own.id_fits;
+        there = own.observer_there;
+        high = omega (arith, right.is.within, main_is_short);
+        bytes = subst IsBytes (sym right.is.gives) (read_is_bytes rs right.key all own.key_is.bytes);
+        short = subst (λ (xs : List ℕ). length xs ≤ MAX_RESULT_BYTES) (sym right.is.gives)
+            (keeps.short (state_after m m.opening rs) op (states_sound m IsSound keeps m.opening rs keeps.opens));
+      }
+
+  watched : (i : ℕ) (p : Seated Observer) → slice_get h.world.observers i ≡ Some p → IsWatched c counts (0 + i) p
+  watched i p there =
+      let own : i < c.observers = omega (arith, slice_get_within h.world.observers i p there, lines_show.observers) in
+      let same : i ≡ 0 + i = omega arith in
+      let here : IsWatched c counts i p = record { own = own; high = (reached.at.both.beside.observers i p there).position } in
+      subst (λ (k : ℕ). IsWatched c counts k p) same here
+
   -- ---- all of it
 
   line_fits : IsFew h → (l : Line) → Has h.lines l → RowFits (row_of l)
   line_fits few l there =
       line_row c counts h.world.sent l (lines_show.lines l there) (omega (arith, lines_show.count, few.lines))
-      (λ client id result e. accepted there.0 client id result (there.1 ∙ ap Some e)) sent
+      (λ client id result e. accepted there.0 client id result (there.1 ∙ ap Some e))
+      (λ client id observer place result e. read_result there.0 client id observer place result (there.1 ∙ ap Some e)) sent
 
   rows_fit : IsFew h → AllFit (body (transcript_of header h))
   rows_fit few =
       let all : List Row = members 1 (history h.world) in
       let states : List Row = state_rows h.world.archive 0 h.world.replicas in
-      fit_both (map row_of h.lines) (states ++ (all ++ End ∷ [])) (mapped_fit h.lines (line_fits few))
-      (fit_both states (all ++ End ∷ []) (states_fit c counts h.world.archive 0 h.world.replicas shown)
+      let observers : List Row = watching_rows 0 h.world.observers in
+      fit_both (map row_of h.lines) (states ++ (observers ++ (all ++ End ∷ []))) (mapped_fit h.lines (line_fits few))
+      (fit_both states (observers ++ (all ++ End ∷ [])) (states_fit c counts h.world.archive 0 h.world.replicas shown)
+      (fit_both observers (all ++ End ∷ []) (watching_fit c counts 0 h.world.observers watched)
       (fit_both all (End ∷ []) (members_fit c counts 1 (history h.world) (omega arith) (omega (arith, few.members)) member_is)
-      (record { ranges = refl; typed = tt }, tt)))
+      (record { ranges = refl; typed = tt }, tt))))
 
   pub run_spells : HasRoom (transcript_line header.form c ++ (lines_text h.lines ++ final_text h.world))
       → Spells (transcript_of header h) (transcript_line header.form c ++ (lines_text h.lines ++ final_text h.world))
@@ -318,6 +428,7 @@ module _ {S : Type 0} (m : Meaning S) (IsSound : S → Type 0) (keeps : KeepsTo 
           header = is;
           events = all_events h.lines;
           states = all_states h.world.archive 0 h.world.replicas;
+          observers = all_watching 0 h.world.observers;
           rows = rows_fit (few header h most);
         };
         most = most;

@@ -13,12 +13,14 @@ use Rattle.nop_types.specs.Lines.{Line}
 use Rattle.nop_types.specs.Logs.{Trimmed, length_of}
 use Rattle.nop_types.specs.declared.request.Entry.{Entry}
 use Rattle.nop_types.specs.declared.request.Request.{Request}
+use Rattle.observer.specs.ObserverSteps.{Observer}
+use Rattle.observer.specs.Observing.{position}
 use Rattle.replica_core.specs.ReplicaSteps.{Replica}
 use Rattle.replica_state.specs.declared.state.ReplicaState.{ReplicaState}
 use Rattle.transcript_reader.specs.Transcripts.{Transcript, Spells, AllFit, members, body, transcript_lines, transcript_text}
 use Rattle.transcript_rows.proofs.RowLines.{is_inside, row_is_line, header_is_line}
 use Rattle.transcript_rows.proofs.RowTexts as texts
-use Rattle.transcript_rows.proofs.LineRows.{line_as_row, state_as_row, entry_as_row, member_as_row, end_as_row}
+use Rattle.transcript_rows.proofs.LineRows.{line_as_row, state_as_row, observer_as_row, entry_as_row, member_as_row, end_as_row}
 use Rattle.transcript_rows.specs.Rows.{row_text}
 use Rattle.transcript_rows.specs.LineRows.{row_of}
 use Rattle.transcript_rows.specs.declared.row.Row.{Row}
@@ -26,9 +28,9 @@ use Rattle.transcript_rows.specs.declared.row.Row.TheVariants.{End}
 use Rattle.transcript_text.specs.Transcript.{line_text, lines_text, transcript_line, replica_line, entry_line, history_line, end_line}
 use Rattle.world.specs.Ending.{history_text, final_text}
 use Rattle.world.specs.Seats.{Seated}
-use Rattle.world.specs.StateLines.{entries_text, replica_text, replicas_text}
+use Rattle.world.specs.StateLines.{entries_text, replica_text, replicas_text, observer_text, observers_text}
 use Rattle.world.specs.WorldSteps.{Happened, WorldState, history}
-use Rattle.judged_runs.specs.Runs.{slot_rows, rows_of, state_rows, transcript_of, is_line_end, HasRoom}
+use Rattle.judged_runs.specs.Runs.{slot_rows, rows_of, state_rows, watching_rows, transcript_of, is_line_end, HasRoom}
 
 -- ---- each part
 
@@ -62,6 +64,12 @@ module _ (archive : List Entry) where
       ∙ ap (λ (xs : List ℕ). xs ++ rows_text (state_rows archive (i + 1) ps)) (one_text i p)
       ∙ ap (λ (xs : List ℕ). replica_text archive i p ++ xs) (states_text (i + 1) ps)
 
+watching_text : (i : ℕ) (ps : List (Seated Observer)) → rows_text (watching_rows i ps) ≡ observers_text i ps
+watching_text i [] = refl
+watching_text i (p ∷ ps) =
+    ap (λ (xs : List ℕ). xs ++ rows_text (watching_rows (i + 1) ps)) (observer_as_row i p.crashed (position p.state.heard.state))
+    ∙ ap (λ (xs : List ℕ). observer_text i p ++ xs) (watching_text (i + 1) ps)
+
 members_text : (place : ℕ) (rs : List Request) → rows_text (members place rs) ≡ history_text place rs
 members_text place [] = refl
 members_text place (r ∷ rs) =
@@ -77,22 +85,26 @@ joined : (rows : List Row) → flat_map (λ (line : List ℕ). line) (map row_te
 joined [] = refl
 joined (row ∷ rows) = ap (λ (xs : List ℕ). row_text row ++ xs) (joined rows)
 
--- three parts, of which each is equal
-same_parts : (a b c x y z : List ℕ) → a ≡ x → b ≡ y → c ≡ z → a ++ (b ++ c) ≡ x ++ y ++ z
-same_parts a b c x y z e f g =
-    ap (λ (xs : List ℕ). xs ++ (b ++ c)) e ∙ ap (λ (xs : List ℕ). x ++ (xs ++ c)) f ∙ ap (λ (xs : List ℕ). x ++ (y ++ xs)) g
-    ∙ sym (append_assoc x y z)
+-- four parts, of which each is equal
+same_parts : (a b c d w x y z : List ℕ) → a ≡ w → b ≡ x → c ≡ y → d ≡ z → a ++ (b ++ (c ++ d)) ≡ w ++ x ++ y ++ z
+same_parts a b c d w x y z e f g h =
+    ap (λ (xs : List ℕ). xs ++ (b ++ (c ++ d))) e ∙ ap (λ (xs : List ℕ). w ++ (xs ++ (c ++ d))) f
+    ∙ ap (λ (xs : List ℕ). w ++ (x ++ (xs ++ d))) g ∙ ap (λ (xs : List ℕ). w ++ (x ++ (y ++ xs))) h
+    ∙ sym (append_assoc w x (y ++ z)) ∙ sym (append_assoc (w ++ x) y z)
 
-ends_text : (w : WorldState) → rows_text (state_rows w.archive 0 w.replicas ++ (members 1 (history w) ++ End ∷ [])) ≡ final_text w
+ends_text : (w : WorldState)
+    → rows_text (state_rows w.archive 0 w.replicas ++ (watching_rows 0 w.observers ++ (members 1 (history w) ++ End ∷ []))) ≡ final_text w
 unfolding final_text
 ends_text w =
     let states : List Row = state_rows w.archive 0 w.replicas in
+    let watching : List Row = watching_rows 0 w.observers in
     let all : List Row = members 1 (history w) in
-    flat_map-append row_text states (all ++ End ∷ [])
-    ∙ ap (λ (xs : List ℕ). rows_text states ++ xs) (flat_map-append row_text all (End ∷ []))
-    ∙ same_parts (rows_text states) (rows_text all) (rows_text (End ∷ []))
-    (replicas_text w.archive 0 w.replicas) (history_text 1 (history w)) end_line
-    (states_text w.archive 0 w.replicas) (members_text 1 (history w)) last_text
+    flat_map-append row_text states (watching ++ (all ++ End ∷ []))
+    ∙ ap (λ (xs : List ℕ). rows_text states ++ xs) (flat_map-append row_text watching (all ++ End ∷ []))
+    ∙ ap (λ (xs : List ℕ). rows_text states ++ (rows_text watching ++ xs)) (flat_map-append row_text all (End ∷ []))
+    ∙ same_parts (rows_text states) (rows_text watching) (rows_text all) (rows_text (End ∷ []))
+    (replicas_text w.archive 0 w.replicas) (observers_text 0 w.observers) (history_text 1 (history w)) end_line
+    (states_text w.archive 0 w.replicas) (watching_text 0 w.observers) (members_text 1 (history w)) last_text
 
 pub run_text : (d : Header) (h : Happened)
     → transcript_text (transcript_of d h) ≡ transcript_line d.form d.config ++ (lines_text h.lines ++ final_text h.world)
@@ -100,8 +112,8 @@ run_text d h =
     let t : Transcript = transcript_of d h in
     ap (λ (xs : List ℕ). transcript_line d.form d.config ++ xs)
     (joined (body t)
-    ∙ flat_map-append row_text t.events (t.states ++ (members 1 t.history ++ End ∷ []))
-    ∙ ap (λ (xs : List ℕ). xs ++ rows_text (t.states ++ (members 1 t.history ++ End ∷ []))) (events_text h.lines)
+    ∙ flat_map-append row_text t.events (t.states ++ (t.observers ++ (members 1 t.history ++ End ∷ [])))
+    ∙ ap (λ (xs : List ℕ). xs ++ rows_text (t.states ++ (t.observers ++ (members 1 t.history ++ End ∷ [])))) (events_text h.lines)
     ∙ ap (λ (xs : List ℕ). lines_text h.lines ++ xs) (ends_text h.world))
 
 -- ---- each line has its end

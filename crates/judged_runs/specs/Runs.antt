@@ -5,11 +5,13 @@ use Rattle.nop_types.specs.Legality.{Legal}
 use Rattle.nop_types.specs.Logs.{Trimmed, length_of}
 use Rattle.nop_types.specs.Meaning.{Meaning}
 use Rattle.nop_types.specs.declared.request.Entry.{Entry}
+use Rattle.observer.specs.ObserverSteps.{Observer}
+use Rattle.observer.specs.Observing.{position}
 use Rattle.replica_state.specs.declared.state.ReplicaState.{ReplicaState}
 use Rattle.replica_core.specs.ReplicaSteps.{Replica}
 use Rattle.transcript_rows.specs.LineRows.{row_of}
 use Rattle.transcript_rows.specs.declared.row.Row.{Row}
-use Rattle.transcript_rows.specs.declared.row.Row.TheVariants.{State, Slot}
+use Rattle.transcript_rows.specs.declared.row.Row.TheVariants.{State, Slot, Watching}
 use Rattle.transcript_reader.specs.Transcripts.{Transcript, Spells, said}
 use Rattle.transcript_reader.specs.declared.limits.TheConstants.{MAX_TRANSCRIPT_LINES}
 use Rattle.world.specs.Seats.{Seated}
@@ -31,13 +33,19 @@ abbrev pub state_rows : List Entry → ℕ → List (Seated Replica) → List Ro
 state_rows archive i [] = []
 state_rows archive i (p ∷ ps) = rows_of archive i p ++ state_rows archive (i + 1) ps
 
--- the lines of the events, the replicas at the end, and the history
+-- the observers, each with its position
+abbrev pub watching_rows : ℕ → List (Seated Observer) → List Row
+watching_rows i [] = []
+watching_rows i (p ∷ ps) = Watching i p.crashed (position p.state.heard.state) ∷ watching_rows (i + 1) ps
+
+-- the lines of the events, the replicas and the observers at the end, and the history
 abbrev pub transcript_of : Header → Happened → Transcript
 transcript_of header h =
     record {
       header = header;
       events = map row_of h.lines;
       states = state_rows h.world.archive 0 h.world.replicas;
+      observers = watching_rows 0 h.world.observers;
       history = history h.world;
     }
 

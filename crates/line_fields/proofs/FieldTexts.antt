@@ -13,11 +13,11 @@ use Rattle.hex.specs.Hex.{IsBytes, decode_of, encode_lower, encode_with, lower_d
 use Rattle.hex.proofs.HexLemmas.{decode_of-encode_lower, length-encode_with}
 use Rattle.nop_types.specs.Configuration.{Configuration, is_configuration}
 use Rattle.nop_types.specs.declared.limits.TheConstants.{MAX_REPLICAS}
-use Rattle.nop_types.specs.declared.limits.TheConstants.{MAX_SEQUENCERS, MAX_CLIENTS, MAX_CONTROLLERS, MAX_OBSERVERS}
+use Rattle.nop_types.specs.declared.limits.TheConstants.{MAX_SEQUENCERS, MAX_CLIENTS, MAX_CONTROLLERS, MAX_OBSERVERS, MAX_KEY_BYTES}
 use Rattle.nop_types.specs.declared.output.Actor.{Actor}
 use Rattle.nop_types.specs.declared.output.Actor.TheVariants as actors
 use Rattle.line_fields.specs.Fields.{fields, fields_on, is_text, digit_on, number_on, number_of, number_below, numbered, actor_of}
-use Rattle.line_fields.specs.Fields.{from_one, by_number, as_option, bytes_of, IsActorOf}
+use Rattle.line_fields.specs.Fields.{from_one, by_number, as_option, bytes_of, key_in, key_of, IsActorOf}
 use Rattle.transcript_text.specs.LineText.{after_space}
 use Rattle.transcript_text.specs.Transcript.{actor_text, hex_text}
 
@@ -211,6 +211,15 @@ bytes_again (b ∷ bs) h =
     let t = two_digits_first b bs in
     digits_again (encode_lower (b ∷ bs)) (b ∷ bs) (rw t.3 (longer_is_other 45 t.0 t.1 t.2))
     (omega (arith, length-encode_with lower_digits (b ∷ bs))) (decode_of-encode_lower (b ∷ bs) h)
+
+pub key_again : (key : List ℕ) → 1 ≤ length key → length key ≤ MAX_KEY_BYTES → IsBytes key → key_of (hex_text key) ≡ Some key
+key_again key some most bytes =
+    ap key_in (bytes_again key bytes) ∙ rw (le-leb 1 (length key) some, le-leb (length key) MAX_KEY_BYTES most) refl
+
+-- the digits of one byte or more are no `-`
+pub no_dash : (bytes : List ℕ) → 1 ≤ length bytes → is_text (codes "-") (hex_text bytes) ≡ false
+no_dash [] some = absurd (omega arith)
+no_dash (b ∷ bs) some = let t = two_digits_first b bs in rw t.3 (longer_is_other 45 t.0 t.1 t.2)
 
 digit_marked : (d : ℕ) → d < 16 → is_mark (slice_index lower_digits d) ≡ true
 digit_marked d small = AllPass-from_list_all is_mark lower_digits refl d 0 small

@@ -1,10 +1,11 @@
 -- The fields of a line, and what single fields spell.
-use Rattle.std.specs.Prelude.{ℕ, zero, suc, take, drop, ◌<◌, ◌+◌, ◌-◌, ◌*◌, ◌^◌, List, [], ◌∷◌, ◌++◌, Bool, Option, Some, None}
+use Rattle.std.specs.Prelude.{ℕ, zero, suc, take, drop, length, ◌<◌, ◌+◌, ◌-◌, ◌*◌, ◌^◌, List, [], ◌∷◌, ◌++◌, Bool, Option, Some, None}
 use Rattle.std.specs.Prelude.{Result, Ok, Err, codes, nat_eq, nat_lt, nat_le, ◌==◌, ◌&&◌, if◌then◌else◌}
 use Rattle.std.specs.Cmp.Lexicographic.{pointwise}
 use Rattle.hex.specs.Hex.{decode_of}
 use Rattle.hex.specs.declared.error.FromHexError.{FromHexError}
 use Rattle.nop_types.specs.Configuration.{Configuration}
+use Rattle.nop_types.specs.declared.limits.TheConstants.{MAX_KEY_BYTES}
 use Rattle.nop_types.specs.declared.output.Actor.{Actor}
 use Rattle.nop_types.specs.declared.output.Actor.TheVariants.{Replica, Sequencer, Client, Controller, Observer}
 
@@ -100,6 +101,10 @@ abbrev pub controller_number : Option Actor → Option ℕ
 controller_number (Some (Controller i)) = Some i
 controller_number _ = None
 
+abbrev pub observer_number : Option Actor → Option ℕ
+observer_number (Some (Observer i)) = Some i
+observer_number _ = None
+
 -- ---- bytes in hexadecimal
 
 abbrev pub as_option : Result (List ℕ) FromHexError → Option (List ℕ)
@@ -110,3 +115,14 @@ as_option (Err e) = None
 unfoldable pub bytes_of : List ℕ → Option (List ℕ)
 bytes_of [] = None
 bytes_of (d ∷ ds) = if is_text (codes "-") (d ∷ ds) then Some [] else as_option (decode_of (d ∷ ds))
+
+-- a key has 1 to 64 bytes
+abbrev pub as_key : List ℕ → Option (List ℕ)
+as_key bytes = if nat_le 1 (length bytes) && nat_le (length bytes) MAX_KEY_BYTES then Some bytes else None
+
+abbrev pub key_in : Option (List ℕ) → Option (List ℕ)
+key_in None = None
+key_in (Some bytes) = as_key bytes
+
+abbrev pub key_of : List ℕ → Option (List ℕ)
+key_of field = key_in (bytes_of field)

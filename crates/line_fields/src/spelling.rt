@@ -1,11 +1,11 @@
 //! What single fields spell.
 
 ghost use Rattle.std.specs.Prelude.{◌≡◌, ◌*◌, ◌≤◌, length, IfOk};
-ghost use Rattle.line_fields.specs.Fields.{actor_of, by_number, bytes_of, digit_on, lettered, number_of};
-ghost use Rattle.line_fields.specs.Fields.{number_on, number_below};
+ghost use Rattle.line_fields.specs.Fields.{actor_of, as_key, by_number, bytes_of, digit_on, key_of};
+ghost use Rattle.line_fields.specs.Fields.{lettered, number_of, number_on, number_below};
 
 use crate::split::is_word;
-use nop_types::{Actor, Bytes, Config, MAX_OP_BYTES, NoMemory, Op};
+use nop_types::{Actor, Bytes, Config, Key, MAX_KEY_BYTES, MAX_OP_BYTES, NoMemory, Op};
 use std::alloc::Global;
 
 fn digit(n: u64, d: u8) -> Option<u64>
@@ -118,6 +118,27 @@ pub fn op(alloc: Global, field: &[u8]) -> Result<Option<Op>, NoMemory>
 {
     match bytes(alloc, field)? {
         Some(bytes) => Ok(Some(Op::from_vec(bytes.into_vec()))),
+        None => Ok(None),
+    }
+}
+
+fn as_key(bytes: Bytes) -> Option<Key>
+    ensures { result ≡ as_key bytes }
+{
+    let len = bytes.as_slice().len();
+    if 1 <= len && len <= MAX_KEY_BYTES {
+        Some(Key::from_vec(bytes.into_vec()))
+    } else {
+        None
+    }
+}
+
+/// A key in hexadecimal, of 1 to `MAX_KEY_BYTES` bytes.
+pub fn key(alloc: Global, field: &[u8]) -> Result<Option<Key>, NoMemory>
+    ensures { IfOk result (λ key. key ≡ key_of field.now) }
+{
+    match bytes(alloc, field)? {
+        Some(bytes) => Ok(as_key(bytes)),
         None => Ok(None),
     }
 }

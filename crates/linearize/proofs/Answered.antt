@@ -82,6 +82,7 @@ module _ (before left : Option (List ℕ)) (s : SoFar) (count : ℕ) (read : IsT
   input = record {
     fit = subst (λ (ls : List Line). AllFit (map row_of ls)) (sym read.claims)
         (claims_fit read.whole.events
-        (fit_front read.whole.events (read.whole.states ++ (members 1 read.whole.history ++ End ∷ [])) read.spells.fits.rows));
+        (fit_front read.whole.events (read.whole.states ++ (read.whole.observers ++ (members 1 read.whole.history ++ End ∷ [])))
+        read.spells.fits.rows));
     numbered = (numbered before left s count read).places;
   }

@@ -127,6 +127,7 @@ module _ {S : Type 0} (m : Meaning S) (claims : List Claim) (history : List Requ
         header = refl;
         events = all_events (lines_of claims);
         states = refl;
+        observers = refl;
         rows = fit_both (map row_of (lines_of claims)) (members 1 history ++ End ∷ []) fit
             (fit_both (members 1 history) (End ∷ []) (members_fit 1 history (omega arith) (omega (arith, room)) submitted_fit)
             (record { ranges = refl; typed = tt }, tt));

@@ -20,7 +20,7 @@ header = record { form = 1; config = record { replicas = 1; sequencers = 1; clie
 
 -- the transcript of these claims with a history
 abbrev pub transcript_of : List Line → List Request → Transcript
-transcript_of claims history = record { header = header; events = map row_of claims; states = []; history = history }
+transcript_of claims history = record { header = header; events = map row_of claims; states = []; observers = []; history = history }
 
 -- none where nothing was decided
 unfoldable pub answer_text : Result Answer CheckError → List ℕ

@@ -16,6 +16,7 @@ pub mod Meaning
 pub mod Parts
 pub mod PlainChanges
 pub mod Ranges
+pub mod Reads
 pub mod Services
 pub mod Sessions
 pub mod Slots

@@ -25,9 +25,10 @@
 //! `host`, `limits`. Definitions: `specs/Execution` (`exec`, what the execution of a log leaves;
 //! `is_executed`, by `Windows` and the first clients of the log), `Tables` (what is kept for a
 //! client), `Checkpoints`, `Sessions` (`home`: the controller that gives out a session), `Headers`
-//! (the first line of a schedule, in its two forms), `Histories` (`history_of`: the requests that
-//! are executed), `Legality` (`Legal`: when lines agree with a history), `Services`
-//! (`AnswersAreBytes`), `Ranges` (of each field of a message), `Parts` (`IsPart`: which bytes are a
+//! (the first line of a schedule, in its three forms), `Histories` (`history_of`: the requests that
+//! are executed), `Legality` (`Legal`: when lines agree with a history), `Reads` (`ReadsAreRight`:
+//! when what was read agrees with a log), `Services` (`AnswersAreBytes`; `get_of`: the op that asks
+//! for a key), `Ranges` (of each field of a message), `Parts` (`IsPart`: which bytes are a
 //! part of a long message), `Logs` and `CheckpointedLogs` (a log with its sync point, trimmed as in
 //! what runs, or kept whole), `PlainChanges` (a change whose log is a list, as the protocol tells
 //! it).

@@ -1,10 +1,10 @@
 -- The step table of an observer: what leaders tell comes in fragments, and each read is answered at once.
-use Rattle.std.specs.Prelude.{ℕ, List, [], ◌∷◌, ◌++◌, length, Result, Ok}
-use Rattle.std.specs.Int.{w16, to_be_bytes}
+use Rattle.std.specs.Prelude.{ℕ, List, [], ◌∷◌, Result, Ok}
 use Rattle.nop_types.specs.Configuration.{Configuration}
 use Rattle.nop_types.specs.Given.{Given, Packet}
 use Rattle.nop_types.specs.Logs.{Trimmed}
 use Rattle.nop_types.specs.Meaning.{Meaning}
+use Rattle.nop_types.specs.Services.{get_of}
 use Rattle.nop_types.specs.declared.datagram.Answer.{Answer}
 use Rattle.nop_types.specs.declared.datagram.Datagram.{Datagram}
 use Rattle.nop_types.specs.declared.datagram.Datagram.TheVariants as datagrams
@@ -27,10 +27,6 @@ pub record Observer : Type 0 where
 
 abbrev pub opening : Configuration → ℕ → Observer
 opening config number = record { config = config; number = number; heard = hearing.opening config.replicas }
-
--- the op that asks a service for a key: G, the key's length in two bytes, and the key
-unfoldable pub get_of : List ℕ → List ℕ
-get_of key = 71 ∷ to_be_bytes w16 (length key) ++ key
 
 module _ {S : Type 0} (m : Meaning S) where
   abbrev pub answer_to : Observer → Read → Answer

@@ -1,11 +1,11 @@
 ghost use Rattle.std.specs.Prelude.{◌≡◌, IfOk};
-ghost use Rattle.observer.specs.ObserverSteps.{get_of};
+ghost use Rattle.nop_types.specs.Services.{get_of};
 
 use nop_types::{Key, NoMemory};
 use std::alloc::Global;
 
 /// The op that asks a service for a key.
-#[tactic(auto, unfolding(crate::specs::ObserverSteps::get_of))]
+#[tactic(auto, unfolding(nop_types::specs::Services::get_of))]
 pub(crate) fn get_of(alloc: Global, key: &Key) -> Result<Vec<u8>, NoMemory>
     ensures { IfOk result (λ op. op.items ≡ get_of key.now) }
 {

@@ -15,13 +15,13 @@
 //! position falls (`positions_rise`).
 //!
 //! What the messages mean, and that the answers are those of the one history, is in `observer_laws` and
-//! `observed_runs`.
+//! `safety`.
 //!
 //! Calls: `Observer::new`, `step` by the trait, `position`.
 //!
 //! Files: `told`, `entering` (entries and checkpoints executed), `synced`, `asking` (the op for a key),
-//! `observer`, `laws`. Definitions: `specs/ObserverSteps` (`next`, `get_of`), `Hearing`, `Observing`,
-//! `Known`.
+//! `observer`, `laws`. Definitions: `specs/ObserverSteps` (`next`), `Hearing`, `Observing`, `Known`; the op is
+//! `get_of` of `nop_types`.
 #![tactic(auto)]
 
 mod asking;

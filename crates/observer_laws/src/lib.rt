@@ -10,7 +10,7 @@
 //! Nothing of the protocol is changed or asked anew: no replica hears an observer.
 //!
 //! Definitions: `specs/Watching` (`Watched`, `ReadsMain`), `Trimmed`. For runs of the world see
-//! `observed_runs`.
+//! `safety`.
 #![tactic(auto)]
 
 mod laws;

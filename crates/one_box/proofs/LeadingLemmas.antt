@@ -24,7 +24,7 @@ use Rattle.transcript_text.specs.Transcript.{line_text, lines_text}
 use Rattle.world.specs.Actors as world
 use Rattle.network.specs.declared.lines.Lines.{Lines}
 use Rattle.network.specs.LineCounts.{is_accept}
-use Rattle.world.specs.Others.{seats, Who, AReplica, Another, who}
+use Rattle.world.specs.Others.{seats, Who, AReplica, Another, AnObserver, who}
 use Rattle.world.specs.Seats.{Seated}
 use Rattle.network.specs.Network.{Did}
 use Rattle.world.specs.WorldSteps.{WorldState, Refusal, Happened, step, step_at, step_of, then_at, tick_if, stimulus_of, go_on, run_from}
@@ -71,7 +71,7 @@ at_refusal next f (Some p) r h is = cc
 of_refusal : {S : Type 0} (m : Meaning S) (w : WorldState) (x : Who) (r : Refusal) (h : Happened) → step_of m w x (Err r) ≡ Ok h → ⊥
 of_refusal m w (AReplica i) r h is = at_refusal _ _ (slice_get w.replicas i) r h is
 of_refusal m w (Another k i) r h is = at_refusal _ _ (slice_get (seats k w.others) i) r h is
-of_refusal m w _ r h is = cc
+of_refusal m w (AnObserver i) r h is = at_refusal _ _ (slice_get w.observers i) r h is
 
 tick_taken : {S : Type 0} (m : Meaning S) (w : WorldState) (x : Who) (tick : Tick) (h : Happened) (b : Bool)
     → step_of m w x (tick_if b tick) ≡ Ok h → b ≡ true

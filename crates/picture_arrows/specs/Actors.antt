@@ -3,7 +3,7 @@ use Rattle.std.specs.Prelude.{ℕ, zero, suc, List, [], ◌∷◌, ◌++◌, Boo
 use Rattle.std.specs.List.{list_any}
 use Rattle.nop_types.specs.Configuration.{Configuration}
 use Rattle.nop_types.specs.declared.output.Actor.{Actor}
-use Rattle.nop_types.specs.declared.output.Actor.TheVariants.{Replica, Sequencer, Client, Controller}
+use Rattle.nop_types.specs.declared.output.Actor.TheVariants.{Replica, Sequencer, Client, Controller, Observer}
 use Rattle.picture.specs.Actors.{same}
 use Rattle.picture.specs.declared.data.Row.{Row}
 use Rattle.picture.specs.declared.data.Loss.{Loss}
@@ -14,7 +14,8 @@ numbered make (suc n) = numbered make n ++ make n ∷ []
 
 abbrev pub actors_of : Configuration → List Actor
 actors_of c =
-    ((numbered Controller c.controllers ++ numbered Client c.clients) ++ numbered Sequencer c.sequencers) ++ numbered Replica c.replicas
+    (((numbered Controller c.controllers ++ numbered Client c.clients) ++ numbered Sequencer c.sequencers) ++ numbered Replica c.replicas)
+    ++ numbered Observer c.observers
 
 abbrev pub has : List Actor → Actor → Bool
 has actors a = list_any (λ b. same b a) actors

@@ -79,7 +79,16 @@ fn put_replicas(count: u8, actors: &mut Vec<Actor>) -> Result<(), NoMemory>
     Ok(())
 }
 
-/// All actors of a configuration, from left to right: controllers, clients, sequencers, replicas.
+fn put_observers(count: u8, actors: &mut Vec<Actor>) -> Result<(), NoMemory>
+    ensures { OnOk result (actors.new.items ≡ actors.old.items ++ numbered kinds.Observer count) }
+{
+    for i in 0..count {
+        actors.push(Actor::Observer(i))?;
+    }
+    Ok(())
+}
+
+/// All actors of a configuration, from left to right: controllers, clients, sequencers, replicas, observers.
 pub fn actors(alloc: Global, config: Config) -> Result<Vec<Actor>, NoMemory>
     ensures { IfOk result (λ v. v.items ≡ actors_of config) }
 {
@@ -88,6 +97,7 @@ pub fn actors(alloc: Global, config: Config) -> Result<Vec<Actor>, NoMemory>
     put_clients(config.clients(), &mut actors)?;
     put_sequencers(config.sequencers(), &mut actors)?;
     put_replicas(config.replicas(), &mut actors)?;
+    put_observers(config.observers(), &mut actors)?;
     Ok(actors)
 }
 

@@ -15,7 +15,8 @@ ghost use Rattle.picture_arrows.specs.Missed.{
 use crate::flight::Flight;
 use crate::lane_actors::{has, is_replica, is_sequencer};
 use nop_types::{
-    Actor, Dest, MAX_CLIENTS, MAX_CONTROLLERS, MAX_REPLICAS, MAX_SEQUENCERS, NoMemory,
+    Actor, Dest, MAX_CLIENTS, MAX_CONTROLLERS, MAX_OBSERVERS, MAX_REPLICAS, MAX_SEQUENCERS,
+    NoMemory,
 };
 use picture::{Loss, Text, same};
 use std::alloc::Global;
@@ -24,7 +25,8 @@ use std::alloc::Global;
 const MAX_ACTORS: usize = MAX_REPLICAS as usize
     + MAX_SEQUENCERS as usize
     + MAX_CLIENTS as usize
-    + MAX_CONTROLLERS as usize;
+    + MAX_CONTROLLERS as usize
+    + MAX_OBSERVERS as usize;
 
 /// An actor that crashed in a row.
 #[derive(Clone, Copy)]

@@ -12,7 +12,9 @@ use Rattle.picture_labels.specs.declared.datagrams.Label.{Label}
 abbrev pub purpose_of : Datagram → Purpose
 purpose_of (datagrams.Request request) = purposes.Request
 purpose_of (datagrams.Stamped stamped) = purposes.Request
+purpose_of (datagrams.Read read) = purposes.Request
 purpose_of (datagrams.Reply reply) = purposes.Reply
+purpose_of (datagrams.Answer answer) = purposes.Reply
 purpose_of (datagrams.Fragment fragment) = purposes.Peer
 purpose_of _ = purposes.Session
 

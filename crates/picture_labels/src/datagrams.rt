@@ -5,7 +5,7 @@ ghost use Rattle.oum_codec.specs.Reading.{reading};
 ghost use Rattle.picture_labels.specs.Datagrams.{IsNoDatagram, mark_of, mark_shown, purpose_of};
 
 use crate::naming::{note_of, put_request, put_result, put_session, put_view};
-use nop_types::{Body, Datagram, Fragment, Log, NoMemory, Peer, Reply, View};
+use nop_types::{Answer, Body, Datagram, Fragment, Log, NoMemory, Peer, Reply, View};
 use op_text::OpText;
 use oum_codec::read_datagram;
 use peer_codec::read_peer;
@@ -82,6 +82,13 @@ fn put_reply<T: OpText>(alloc: Global, reply: &Reply, to: &mut Text) -> Result<(
     Ok(())
 }
 
+fn put_answer<T: OpText>(alloc: Global, answer: &Answer, to: &mut Text) -> Result<(), NoMemory> {
+    to.put("answer ");
+    put_request(answer.client, answer.id, to);
+    put_slot(" at ", answer.position, to);
+    put_result::<T>(alloc, answer.result.as_slice(), to)
+}
+
 /// A word and a session.
 fn put_ordered(word: &str, session: u64, to: &mut Text) {
     to.put(word);
@@ -127,7 +134,11 @@ fn put_datagram<T: OpText>(
         Datagram::Ping { round, .. } => put_slot("ping ", *round, to),
         Datagram::Pong { round, .. } => put_slot("pong ", *round, to),
         Datagram::Fragment(fragment) => put_fragment(fragment, peer, to),
-        _ => {}
+        Datagram::Read(read) => {
+            to.put("read ");
+            put_request(read.client, read.id, to);
+        }
+        Datagram::Answer(answer) => put_answer::<T>(alloc, answer, to)?,
     }
     Ok(())
 }
@@ -142,6 +153,8 @@ fn put_brief<T: OpText>(
         Datagram::Request(request) => to.numbered("#", request.id),
         Datagram::Stamped(stamped) => put_stamp(stamped.session, stamped.number, to),
         Datagram::Reply(reply) => to.numbered("reply #", reply.id),
+        Datagram::Read(read) => to.numbered("read #", read.id),
+        Datagram::Answer(answer) => to.numbered("answer #", answer.id),
         _ => put_datagram::<T>(alloc, datagram, peer, to)?,
     }
     Ok(())
@@ -151,8 +164,8 @@ fn purpose_of(datagram: &Datagram) -> Purpose
     ensures { result ≡ purpose_of datagram.now }
 {
     match datagram {
-        Datagram::Request(_) | Datagram::Stamped(_) => Purpose::Request,
-        Datagram::Reply(_) => Purpose::Reply,
+        Datagram::Request(_) | Datagram::Stamped(_) | Datagram::Read(_) => Purpose::Request,
+        Datagram::Reply(_) | Datagram::Answer(_) => Purpose::Reply,
         Datagram::Fragment(_) => Purpose::Peer,
         _ => Purpose::Session,
     }

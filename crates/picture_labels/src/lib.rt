@@ -9,7 +9,7 @@
 //! characters, and one that begins with `0x` its digits alone; the first word of an op shows whole.
 //! The texts themselves are tested (`checks/pictures.sh`).
 //!
-//! Calls, for `drawing`: `describe`, `read_lines`, `note_of`, `put_op`, `put_request`, `put_view`.
+//! Calls, for `drawing`: `describe`, `read_lines`, `note_of`, `put_key`, `put_op`, `put_request`, `put_view`.
 //!
 //! Files: `datagrams`, `said` (clients), `naming`; `specs/Datagrams`, `Clients`.
 #![tactic(auto)]
@@ -19,5 +19,5 @@ mod naming;
 mod said;
 
 pub use datagrams::{Label, describe};
-pub use naming::{note_of, put_op, put_request, put_view};
+pub use naming::{note_of, put_key, put_op, put_request, put_view};
 pub use said::read_lines;

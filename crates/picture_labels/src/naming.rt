@@ -97,6 +97,11 @@ fn put_hex(bytes: &[u8], to: &mut Text) {
     }
 }
 
+/// Appends the front of a key.
+pub fn put_key(key: &[u8], to: &mut Text) {
+    put_prefix(key, to);
+}
+
 /// Appends an op in the words of its service; of bytes that are none the first, in hexadecimal.
 pub fn put_op<T: OpText>(alloc: Global, op: &[u8], to: &mut Text) -> Result<(), NoMemory> {
     match T::words(alloc, op)? {

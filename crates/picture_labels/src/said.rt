@@ -22,8 +22,8 @@ fn mark_of(word: &str) -> Option<Mark>
     ensures { IfSome result IsOfClient }
 {
     match word {
-        "submit" => Some(Mark::Submitted),
-        "accept" => Some(Mark::Accepted),
+        "submit" | "read" => Some(Mark::Submitted),
+        "accept" | "answer" => Some(Mark::Accepted),
         "busy" | "dead" => Some(Mark::Refused),
         _ => None,
     }
@@ -33,6 +33,11 @@ fn put_said(word: &str, id: &str, to: &mut Text) {
     match word {
         "busy" => to.put("busy"),
         "dead" => to.put("crashed"),
+        "read" | "answer" => {
+            to.put(word);
+            to.put(" ");
+            to.put(id);
+        }
         _ => {
             to.put("#");
             to.put(id);
@@ -48,15 +53,26 @@ fn first_word(line: &str) -> (&str, &str) {
     }
 }
 
+/// What was read of an observer, and at which position.
+fn put_answered<T: OpText>(alloc: Global, rest: &str, to: &mut Text) -> Result<(), NoMemory> {
+    let (_observer, rest) = first_word(rest);
+    let (position, hex) = first_word(rest);
+    to.put(" at ");
+    to.put(position);
+    put_result::<T>(alloc, &answer_of(alloc, hex)?, to)
+}
+
 fn line_note<T: OpText>(alloc: Global, mark: Mark, word: &str, rest: &str) -> Result<Note, NoMemory>
     ensures { IfOk result (λ n. n.mark ≡ mark) }
 {
     let (_client, rest) = first_word(rest);
-    let (id, hex) = first_word(rest);
+    let (id, rest) = first_word(rest);
     let mut text = Text::new(alloc);
     put_said(word, id, &mut text);
-    if word == "accept" {
-        put_result::<T>(alloc, &answer_of(alloc, hex)?, &mut text)?;
+    match word {
+        "accept" => put_result::<T>(alloc, &answer_of(alloc, rest)?, &mut text)?,
+        "answer" => put_answered::<T>(alloc, rest, &mut text)?,
+        _ => {}
     }
     note_of(mark, text)
 }

@@ -1,22 +1,25 @@
 -- What actors send goes to actors of the configuration, and what clients submit is theirs.
-use Rattle.std.proofs.Common.{◌≡◌, ◌≤◌, ◌<◌, ◌+◌, ℕ, Bool, true, false, Option, Some, None, refl, sym, ap, subst, arith}
+use Rattle.std.proofs.Common.{◌≡◌, ◌≤◌, ◌<◌, ◌+◌, ℕ, Bool, true, false, Option, Some, None, refl, sym, ap, subst, ◌∙◌, arith}
 use Rattle.std.proofs.Common.{List, [], ◌∷◌, ◌++◌, inl, inr, map}
-use Rattle.std.specs.Prelude.{⊤, IfSome, nat_lt, nat_le, ◌==◌, ◌&&◌, ◌||◌, Result, Ok, slice_index}
+use Rattle.std.specs.Prelude.{⊤, ◌⊎◌, IfSome, nat_lt, nat_le, ◌==◌, ◌&&◌, ◌||◌, Result, Ok, slice_index}
 use Rattle.std.specs.Int.{w32, w64}
 use Rattle.std.specs.List.{AllByRecursion}
 use Rattle.std.proofs.lemmas.Bool.{ltb-true}
 use Rattle.std.proofs.lemmas.Nat.{mod_below}
 use Rattle.nop_types.specs.Configuration.{Configuration}
 use Rattle.nop_types.specs.Given.{Given, Packet, Ticked}
+use Rattle.nop_types.specs.Given as given
 use Rattle.nop_types.specs.Lines as lines
 use Rattle.nop_types.specs.Lines.{Line}
 use Rattle.nop_types.specs.Lists.{Has}
-use Rattle.nop_types.specs.Ranges.{ReplyFits}
+use Rattle.nop_types.specs.Meaning.{Meaning}
+use Rattle.nop_types.specs.Ranges.{ReadFits, ReplyFits}
 use Rattle.nop_types.specs.declared.input.Tick.{Tick}
 use Rattle.nop_types.specs.declared.input.Tick.TheVariants as ticks
 use Rattle.nop_types.specs.declared.datagram.Datagram.{Datagram}
 use Rattle.nop_types.specs.declared.datagram.Datagram.TheVariants as datagrams
 use Rattle.nop_types.specs.declared.datagram.Fragment.{Fragment}
+use Rattle.nop_types.specs.declared.datagram.Read.{Read}
 use Rattle.nop_types.specs.declared.datagram.Reply.{Reply}
 use Rattle.nop_types.specs.declared.datagram.Stamped.{Stamped}
 use Rattle.nop_types.specs.declared.kinds.TheConstants as kinds
@@ -30,13 +33,16 @@ use Rattle.nop_types.specs.declared.request.Request.{Request}
 use Rattle.oum_codec.specs.declared.bad.Bad.{Bad}
 use Rattle.oum_codec.specs.Numbers.{be_bytes}
 use Rattle.oum_codec.specs.Reading.{reading}
-use Rattle.oum_codec.specs.Spelling.{spelling, header, stamped_bytes, reply_bytes, request_bytes, install_bytes, ping_bytes, fragment_bytes, read_bytes}
+use Rattle.oum_codec.specs.Spelling.{spelling, header, stamped_bytes, reply_bytes, request_bytes, install_bytes, ping_bytes, fragment_bytes, answer_bytes}
+use Rattle.oum_codec.proofs.Datagrams.{reads_again}
 use Rattle.fragments.specs.Cutting.{sends_of}
-use Rattle.lemmas.proofs.Members.{Has-none, Has-cases}
+use Rattle.lemmas.proofs.Members.{Has-none, Has-cases, Has-first, Has-rest}
 use Rattle.client_reads.specs.declared.state.Reading.{Reading}
 use Rattle.client_reads.specs.declared.state.Reads.{Reads}
 use Rattle.client_reads.specs.ReadSteps as reads
 use Rattle.client_reads.specs.Rows as rows
+use Rattle.client_reads.specs.Runs.{IsRead, KeyFits}
+use Rattle.client_reads.proofs.Ranges.{step_sends}
 use Rattle.client_reads.proofs.RowLemmas.{row_of as reads_row}
 use Rattle.client_quorum.specs.declared.state.ClientState.{ClientState}
 use Rattle.client_quorum.specs.ClientSteps as client
@@ -50,6 +56,8 @@ use Rattle.sequencer.specs.SequencerSteps as sequencer
 use Rattle.session_control.specs.declared.state.ControllerState.{ControllerState}
 use Rattle.session_control.specs.declared.state.TheConstants.{MISSED_END}
 use Rattle.session_control.specs.ControllerSteps as controller
+use Rattle.observer.specs.ObserverSteps as observer
+use Rattle.observer.specs.ObserverSteps.{Observer}
 use Rattle.replica_state.specs.declared.sending.Sending.{Sending}
 use Rattle.replica_state.specs.declared.sending.Sending.TheVariants.{ToClient, ToReplicas, Trims}
 use Rattle.replica_core.specs.Posting.{posted}
@@ -67,20 +75,21 @@ pub record IsReplyTo (client : ℕ) (bytes : List ℕ) : Type 0 where
   pub spelled : bytes ≡ spelling (datagrams.Reply reply)
   pub to : reply.client ≡ client
 
--- a datagram goes to an actor of the configuration, or to a client that is sent a reply
+-- a datagram goes to an actor of the configuration, or is a reply to the client that it goes to
 abbrev pub Goes : Configuration → Dest → List ℕ → Type 0
 Goes c Replicas bytes = ⊤
 Goes c Sequencers bytes = ⊤
 Goes c (One (actors.Replica i)) bytes = i < c.replicas
 Goes c (One (actors.Sequencer j)) bytes = j < c.sequencers
-Goes c (One (actors.Client k)) bytes = IsReplyTo k bytes
+Goes c (One (actors.Client k)) bytes = IsReplyTo k bytes ⊎ (k < c.clients)
 Goes c (One (actors.Controller k)) bytes = k < c.controllers
 Goes c (One (actors.Observer i)) bytes = i < c.observers
 
--- of these datagrams each Install and each Ping names a controller of the configuration
+-- of these datagrams each Install and each Ping names a controller of the configuration, and each Read a client of it
 pub record Names (c : Configuration) (Is : Datagram → Type 0) : Type 0 where
   pub installs : (k j session : ℕ) → Is (datagrams.Install k j session) → k < c.controllers
   pub pings : (k j round : ℕ) → Is (datagrams.Ping k j round) → k < c.controllers
+  pub reads : (r : Read) → ReadFits r → Is (datagrams.Read r) → r.client < c.clients
 
 -- so of what the bytes spell
 abbrev pub NamesIn : Configuration → List ℕ → Type 0
@@ -104,23 +113,47 @@ both_go c [] ys f g = g
 both_go c (x ∷ xs) ys f g = (f.0, both_go c xs ys f.1 g)
 
 abbrev is_asking : ℕ → Bool
-is_asking kind = (kind == kinds.INSTALL) || (kind == kinds.PING)
+is_asking kind = (kind == kinds.INSTALL) || ((kind == kinds.PING) || (kind == kinds.READ))
 
--- a datagram of another kind names no controller
+-- a datagram of another kind names neither a controller nor a client
 other_kind : (c : Configuration) (kind : ℕ) (rest : List ℕ) → is_asking kind ≡ false → NamesIn c (header kind ++ rest)
 other_kind c kind rest other = record {
   installs = λ k j session is.
       let e = subst (λ (n : ℕ). is_asking n ≡ false) (ap (λ (xs : List ℕ). slice_index xs 3) is) other in absurd cc;
   pings = λ k j round is.
       let e = subst (λ (n : ℕ). is_asking n ≡ false) (ap (λ (xs : List ℕ). slice_index xs 3) is) other in absurd cc;
+  reads = λ r fits is.
+      let e = subst (λ (n : ℕ). is_asking n ≡ false) (ap (λ (xs : List ℕ). slice_index xs 3) is) other in absurd cc;
 }
 
--- one of these two names the controller that is in it
-own_name : (c : Configuration) (kind k : ℕ) (rest : List ℕ) → k < c.controllers → NamesIn c (header kind ++ k ∷ rest)
-own_name c kind k rest own = record {
+-- one that is no Read names the controller that is in it
+own_name : (c : Configuration) (kind k : ℕ) (rest : List ℕ) → (kind == kinds.READ) ≡ false → k < c.controllers
+    → NamesIn c (header kind ++ k ∷ rest)
+own_name c kind k rest other own = record {
   installs = λ i j session is. subst (λ (n : ℕ). n < c.controllers) (ap (λ (xs : List ℕ). slice_index xs 4) is) own;
   pings = λ i j round is. subst (λ (n : ℕ). n < c.controllers) (ap (λ (xs : List ℕ). slice_index xs 4) is) own;
+  reads = λ r fits is.
+      let e = subst (λ (n : ℕ). (n == kinds.READ) ≡ false) (ap (λ (xs : List ℕ). slice_index xs 3) is) other in absurd cc;
 }
+
+-- a Read of a client names that client
+read_name : (c : Configuration) (number : ℕ) (dest : Dest) (bytes : List ℕ) → number < c.clients → IsRead number dest bytes
+    → NamesIn c bytes
+read_name c number dest bytes own is =
+    let x : Read = record { client = number; id = is.id; key = is.key } in
+    record {
+      installs = λ k j session e.
+          let other : (kinds.INSTALL == kinds.READ) ≡ true =
+          subst (λ (n : ℕ). (n == kinds.READ) ≡ true) (ap (λ (xs : List ℕ). slice_index xs 3) (sym is.spells.spelled ∙ e)) refl in absurd cc;
+      pings = λ k j round e.
+          let other : (kinds.PING == kinds.READ) ≡ true =
+          subst (λ (n : ℕ). (n == kinds.READ) ≡ true) (ap (λ (xs : List ℕ). slice_index xs 3) (sym is.spells.spelled ∙ e)) refl in absurd cc;
+      reads = λ r fits e.
+          let both : Ok (datagrams.Read x) ≡ Ok (datagrams.Read r) =
+          sym (reads_again (datagrams.Read x) is.spells.fits) ∙ ap reading (sym is.spells.spelled ∙ e) ∙ reads_again (datagrams.Read r) fits in
+          let same : x ≡ r = cc in
+          subst (λ (y : Read). y.client < c.clients) same own;
+    }
 
 -- ---- what comes of them in the world
 
@@ -194,7 +227,7 @@ unfolding posted
 posted_goes c number [] some fits all = tt
 posted_goes c number (ToClient r ∷ sends) some fits all = (
   record {
-    goes = record { reply = r; fits = fits.0; spelled = refl; to = refl };
+    goes = inl (record { reply = r; fits = fits.0; spelled = refl; to = refl });
     names = other_kind c kinds.REPLY (reply_bytes r) refl;
   },
   posted_goes c number sends some fits.1 all.1,
@@ -259,41 +292,88 @@ module _ (c : Configuration) (s : ClientState) (own : s.number < c.clients) wher
   requests_go i = row_goes i (client.next s i) (row_of s i)
 
 -- the read that waits is to an observer of the configuration
-abbrev pub HasPlace : Configuration → Option Reading → Type 0
+abbrev HasPlace : Configuration → Option Reading → Type 0
 HasPlace c pending = IfSome pending (λ r. r.observer < c.observers)
 
--- it stays so, and goes there
-record ReadsGo (c : Configuration) (y : Reads × List Out) : Type 0 where
-  stays : HasPlace c y.0.pending
-  sends : OutsGo c y.1
+-- and the reads are those of a client of it
+pub record IsReader (c : Configuration) (s : Reads) : Type 0 where
+  pub pending : HasPlace c s.pending
+  pub number : s.number < c.clients
 
-module _ (c : Configuration) (s : Reads) (is : HasPlace c s.pending) where
-  read_goes : (r : Reading) → r.observer < c.observers → OutGoes c (reads.sent s.number r)
-  read_goes r there = record {
-    goes = there;
-    names = other_kind c kinds.READ (read_bytes (record { client = s.number; id = r.id; key = r.key })) refl;
-  }
+-- a key that is asked for is in its ranges
+asked_fits : (c : Configuration) (i : Given) → IsAskedOf c i → KeyFits i
+asked_fits c (given.Read observer key) asked = asked.1
+asked_fits c _ asked = tt
 
-  reads_row_goes : (i : Given) → IsAskedOf c i → (y : Reads × List Out) → rows.Row s i y → ReadsGo c y
-  reads_row_goes i asked y (rows.Rests nothing) = record { stays = is; sends = tt }
-  reads_row_goes i asked y (rows.SaysBusy observer key of busy) = record { stays = is; sends = (tt, tt) }
-  reads_row_goes i asked y (rows.Asks observer key of may) =
-      let there : observer < c.observers = subst (IsAskedOf c) of asked in
-      record { stays = there; sends = (tt, (read_goes (reads.reading_of s observer key) there, tt)) }
-  reads_row_goes i asked y (rows.Repeats r of e) =
-      let there : r.observer < c.observers = subst (HasPlace c) e is in record { stays = is; sends = (read_goes r there, tt) }
-  reads_row_goes i asked y (rows.Ends r a has e answers) = record { stays = tt; sends = (tt, tt) }
+-- what these outputs send are Reads of a client
+abbrev SendReads : (number : ℕ) → List Out → Type 0
+SendReads number os = (dest : Dest) (bytes : List ℕ) → Has os (outs.Send dest bytes) → IsRead number dest bytes
 
-  reads_go : (i : Given) → IsAskedOf c i → ReadsGo c (reads.next s i)
-  reads_go i asked = reads_row_goes i asked (reads.next s i) (reads_row s i)
+module _ (c : Configuration) (s : Reads) (is : IsReader c s) where
+  row_stays : (i : Given) → IsAskedOf c i → (y : Reads × List Out) → rows.Row s i y → IsReader c y.0
+  row_stays i asked y (rows.Asks observer key of may) =
+      record { pending = (subst (IsAskedOf c) of asked).0; number = is.number }
+  row_stays i asked y (rows.Ends r a has e answers) = record { pending = tt; number = is.number }
+  row_stays i asked y _ = is
 
-module _ (c : Configuration) (s : Client) (is : HasPlace c s.reads.pending) (i : Given) (asked : IsAskedOf c i) where
-  pub client_goes : s.requests.number < c.clients → OutsGo c (core.next s i).1
-  client_goes own =
-      both_go c (client.next s.requests i).1 (reads.next s.reads i).1 (requests_go c s.requests own i) (reads_go c s.reads is i asked).sends
+  reads_stay : (i : Given) → IsAskedOf c i → IsReader c (reads.next s i).0
+  reads_stay i asked = row_stays i asked (reads.next s i) (reads_row s i)
 
-  pub client_placed : HasPlace c (core.next s i).0.reads.pending
-  client_placed = (reads_go c s.reads is i asked).stays
+  read_goes : (r : Reading) (os : List Out) → Has os (reads.sent s.number r) → SendReads s.number os → r.observer < c.observers
+      → OutGoes c (reads.sent s.number r)
+  read_goes r os has all there = record { goes = there; names = read_name c s.number _ _ is.number (all _ _ has) }
+
+  reads_row_go : (i : Given) → IsAskedOf c i → (y : Reads × List Out) → SendReads s.number y.1 → rows.Row s i y → OutsGo c y.1
+  reads_row_go i asked y all (rows.Rests nothing) = tt
+  reads_row_go i asked y all (rows.SaysBusy observer key of busy) = (tt, tt)
+  reads_row_go i asked y all (rows.Asks observer key of may) =
+      let r : Reading = reads.reading_of s observer key in
+      let again : Out = reads.sent s.number r in
+      let has : Has (reads.begin s r).1 again = Has-rest again _ (again ∷ []) (Has-first again again [] refl) in
+      (tt, (read_goes r (reads.begin s r).1 has all (subst (IsAskedOf c) of asked).0, tt))
+  reads_row_go i asked y all (rows.Repeats r of e) =
+      (read_goes r (reads.sent s.number r ∷ []) (Has-first _ _ [] refl) all (subst (HasPlace c) e is.pending), tt)
+  reads_row_go i asked y all (rows.Ends r a has e answers) = (tt, tt)
+
+  reads_go : (i : Given) → reads.IsWithin s → IsAskedOf c i → OutsGo c (reads.next s i).1
+  reads_go i within asked =
+      reads_row_go i asked (reads.next s i) (step_sends s i within (asked_fits c i asked)) (reads_row s i)
+
+module _ (c : Configuration) (s : Client) (is : IsReader c s.reads) (i : Given) (asked : IsAskedOf c i) where
+  pub client_goes : s.requests.number < c.clients → reads.IsWithin s.reads → OutsGo c (core.next s i).1
+  client_goes own within =
+      both_go c (client.next s.requests i).1 (reads.next s.reads i).1 (requests_go c s.requests own i) (reads_go c s.reads is i within asked)
+
+  pub client_placed : IsReader c (core.next s i).0.reads
+  client_placed = reads_stay c s.reads is i asked
+
+-- ---- observers
+
+-- a Read is in its ranges
+abbrev pub ReadIsIn : Result Datagram Bad → Type 0
+ReadIsIn (Ok (datagrams.Read r)) = ReadFits r
+ReadIsIn _ = ⊤
+
+-- so of what is given
+abbrev pub GivenIsIn : Given → Type 0
+GivenIsIn (Packet bytes) = ReadIsIn (reading bytes)
+GivenIsIn _ = ⊤
+
+module _ {S : Type 0} (m : Meaning S) (c : Configuration) (s : Observer) where
+  answering_goes : (r : Result Datagram Bad) → Names c (λ d. r ≡ Ok d) → ReadIsIn r → OutsGo c (observer.on_datagram m s r).1
+  answering_goes (Ok (datagrams.Read r)) names fits = (
+    record {
+      goes = inr (names.reads r fits refl);
+      names = other_kind c kinds.ANSWER (answer_bytes (observer.answer_to m s r)) refl;
+    },
+    tt,
+  )
+  answering_goes _ names fits = tt
+
+  pub observer_goes : (i : Given) → GivenNames c i → GivenIsIn i → OutsGo c (observer.next m s i).1
+  unfolding observer.next
+  observer_goes (Packet bytes) names fits = answering_goes (reading bytes) names fits
+  observer_goes _ names fits = tt
 
 -- ---- controllers
 
@@ -316,7 +396,7 @@ module _ (c : Configuration) where
   install_directs s is = record {
     stays = is;
     sends = (
-      record { goes = is.current; names = own_name c kinds.INSTALL s.number (s.current ∷ be_bytes w64 s.session) is.number },
+      record { goes = is.current; names = own_name c kinds.INSTALL s.number (s.current ∷ be_bytes w64 s.session) refl is.number },
       tt,
     );
   }
@@ -343,7 +423,7 @@ module _ (c : Configuration) where
   ask_if_directs true s is = record {
     stays = record { config = is.config; number = is.number; current = is.current };
     sends = (
-      record { goes = is.current; names = own_name c kinds.PING s.number (s.current ∷ be_bytes w32 (s.round + 1)) is.number },
+      record { goes = is.current; names = own_name c kinds.PING s.number (s.current ∷ be_bytes w32 (s.round + 1)) refl is.number },
       tt,
     );
   }

@@ -14,14 +14,15 @@ use Rattle.nop_types.specs.declared.output.Actor.TheVariants as actors
 use Rattle.client_reads.specs.ReadSteps as reads
 use Rattle.client_quorum.specs.ClientSteps as client
 use Rattle.client_quorum.specs.OpenRequests as opened
+use Rattle.observer.specs.ObserverSteps as observer
 use Rattle.replica_core.specs.ReplicaSteps as replica
 use Rattle.schedule_text.specs.declared.event.Event.{Event}
 use Rattle.schedule_text.specs.Fits.{EventFits, EventsFit}
 use Rattle.network.specs.Network.{sends_by, Did}
-use Rattle.world.specs.Others.{next, seats, Who, AReplica, Another, who, actor_at}
+use Rattle.world.specs.Others.{next, seats, Who, AReplica, Another, AnObserver, who, actor_at}
 use Rattle.world.specs.Seats.{Seated, Stimulus}
 use Rattle.world.specs.WorldSteps.{WorldState, Happened, Refusal, actor_of, stimulus_of, then_at, step_at, step_of, step, go_on, run_from}
-use Rattle.world.specs.WorldSteps.{at_replica, at_other, opening}
+use Rattle.world.specs.WorldSteps.{at_replica, at_other, at_observer, opening}
 use Rattle.std.specs.Prelude.{slice_get}
 use Rattle.replay.specs.Drawing.{generator_of, event_drawn}
 use Rattle.replay.specs.Generated.{drawn_config, first_event, world_after, drawn_from, drawn_events, RunsFrom}
@@ -93,7 +94,8 @@ module _ {S : Type 0} (m : Meaning S) where
   actor_grows w (Another k i) r h is =
       carried_grows w (actor_at (Another k i)) (at_other k w i) (λ p. refl)
       (step_at (next k) (slice_get (seats k w.others) i) r) h is
-  actor_grows w _ r h is = absurd cc
+  actor_grows w (AnObserver i) r h is =
+      carried_grows w (actors.Observer i) (at_observer w i) (λ p. refl) (step_at (observer.next m) (slice_get w.observers i) r) h is
 
   step_grows : (w : WorldState) (e : Event) (h : Happened) → step m w e ≡ Ok h → length w.sent ≤ length h.world.sent
   unfolding step

@@ -2,6 +2,7 @@
 use Rattle.std.proofs.Common.{◌≡◌, ◌≤◌, ◌<◌, ◌+◌, ◌*◌, ℕ, Bool, true, false, Some, refl, sym, ap, subst, ◌∙◌, arith, length}
 use Rattle.std.proofs.Common.{List, [], ◌∷◌, ◌++◌, inl, inr}
 use Rattle.std.specs.Prelude.{◌⊎◌, ◌/◌, ⊤, not, Result, Ok, Err, slice_get, slice_set}
+use Rattle.nop_types.specs.Ranges.{DatagramFits}
 use Rattle.std.specs.List.{AllByRecursion}
 use Rattle.std.proofs.lemmas.Option.{slice_get_within}
 use Rattle.nop_types.specs.Bounds.{Bounds}
@@ -30,6 +31,9 @@ use Rattle.execution_laws.proofs.Shortness.{result_fits}
 use Rattle.trimming.proofs.Bounds.{trimmed_keep_bounds}
 use Rattle.client_quorum.specs.Core.{Client}
 use Rattle.client_quorum.specs.declared.state.ClientState.{ClientState}
+use Rattle.client_reads.specs.ReadSteps as reads
+use Rattle.observer.specs.ObserverSteps as observer
+use Rattle.observer.specs.ObserverSteps.{Observer}
 use Rattle.session_control.specs.ControllerSteps as controller
 use Rattle.replica_core.specs.ReplicaSteps as replica
 use Rattle.replica_core.specs.ReplicaSteps.{Replica}
@@ -48,12 +52,14 @@ use Rattle.protocol.specs.Invariant.{Inv}
 use Rattle.protocol.proofs.Opening.{opening_meets}
 use Rattle.network.specs.Network.{Sent, sends_by, lines_by, Did, Nothing, Outputs}
 use Rattle.world.specs.Others.{Kind, Sequencers, Clients, Controllers, State, next, Others, seats}
-use Rattle.world.specs.Others.{Who, AReplica, Another, who, actor_at}
+use Rattle.world.specs.Others.{Who, AReplica, Another, AnObserver, who, actor_at}
+use Rattle.world.specs.Refusals.{HasActors}
 use Rattle.world.specs.Seats.{Seated, Stimulus, Takes, Crashes, moved_if, seat_step}
 use Rattle.world.specs.WorldSteps as world
-use Rattle.world.specs.WorldSteps.{WorldState, Happened, Refusal, actor_of, stimulus_of, at_replica, at_other}
+use Rattle.world.specs.WorldSteps.{WorldState, Happened, Refusal, actor_of, stimulus_of, at_replica, at_other, at_observer}
 use Rattle.world.specs.WorldSteps.{opening_client, opening_others, step_of, step, go_on, run_from}
 use Rattle.world.proofs.Others.{others_become}
+use Rattle.world.proofs.Refusals.{opening_has_actors, step_has_actors}
 use Rattle.whole_world.specs.Passed as whole_passed
 use Rattle.whole_world.specs.Shows.{ShowsActors}
 use Rattle.whole_world.specs.Whole.{WholeReplica, WholeWorld, Brings}
@@ -65,7 +71,7 @@ use Rattle.whole_world.proofs.Moving.{ran_holds}
 use Rattle.whole_world.proofs.Opening.{opening_stands, counted_get, counted_within}
 use Rattle.whole_world.proofs.Seats.{seats_hold}
 use Rattle.whole_world.proofs.Steps.{steps_lead}
-use Rattle.safety.specs.Following.{is_spoken, is_fragment, bytes_of, brought}
+use Rattle.safety.specs.Following.{is_spoken, is_apart, bytes_of, brought}
 use Rattle.safety.proofs.Beside.{Alike, Travels, real_letters}
 use Rattle.safety.proofs.Coming.{AllMayCome, IsAskedOf, AllAskedOf, event_comes, event_asks}
 use Rattle.safety.proofs.Following.{Both, world_after, opening_beside, both_then}
@@ -73,7 +79,8 @@ use Rattle.safety.proofs.Replicas.{WholeSeat, whole_seat}
 use Rattle.safety.proofs.Taking.{took}
 use Rattle.replay.specs.Destinations.{IsDestOf}
 use Rattle.replay.proofs.Addressed.{IsReplyTo, Goes, NamesIn, IsAddressed, OutsGo, SubmitsOf, GivenNames, IsPlaced, sent_goes, lines_are_of}
-use Rattle.replay.proofs.Addressed.{HasPlace, dead_is_of, posted_goes, sequencer_goes, client_goes, client_placed, controller_directs}
+use Rattle.replay.proofs.Addressed.{IsReader, ReadIsIn, GivenIsIn, dead_is_of, posted_goes, sequencer_goes, client_goes, client_placed}
+use Rattle.replay.proofs.Addressed.{observer_goes, controller_directs}
 use Rattle.replay.proofs.Asked.{AllAsked, HasAsked, moves_asked, none_asked}
 
 -- ---- the whole world beside a world
@@ -87,20 +94,21 @@ pub record At {S : Type 0} (m : Meaning S) (config : Configuration) (w : WorldSt
 
 -- ---- what holds of a world
 
--- a controller is one of the configuration, and so is the observer of which a client reads
+-- a controller is one of the configuration, and so are a client that reads and the observer that it asks
 abbrev OtherPlaced : (k : Kind) → Configuration → State k → Type 0
-OtherPlaced Clients c s = HasPlace c s.reads.pending
+OtherPlaced Clients c s = IsReader c s.reads
 OtherPlaced Controllers c s = IsPlaced c s
 OtherPlaced _ c s = ⊤
 
 abbrev ArePlaced : Configuration → Others → Type 0
 ArePlaced c o = (k : Kind) (i : ℕ) (q : Seated (State k)) → slice_get (seats k o) i ≡ Some q → OtherPlaced k c q.state
 
--- what was sent goes to actors of the configuration, what was submitted is of its clients, and its other actors are placed
+-- what was sent goes to actors of the configuration, what was submitted is of its clients, and all actors are there and placed
 record Good (config : Configuration) (w : WorldState) (ls : List Line) : Type 0 where
   sent : (s : Sent) → Has w.sent s → IsAddressed config s.dest s.bytes
   submits : SubmitsOf config ls
   others : ArePlaced config w.others
+  actors : HasActors w
 
 -- what an actor did
 abbrev DidGo : Configuration → Did → Type 0
@@ -128,8 +136,8 @@ record Keeps (config : Configuration) (w : WorldState) (h : Happened) : Type 0 w
   others : ArePlaced config h.world.others
 
 kept_good : (config : Configuration) (w : WorldState) (ls : List Line) (h : Happened) → Good config w ls → Keeps config w h
-    → Good config h.world (ls ++ h.lines)
-kept_good config w ls h good k = record {
+    → HasActors h.world → Good config h.world (ls ++ h.lines)
+kept_good config w ls h good k there = record {
   sent = λ s i. elim (Has-append_cases w.sent (sends_by k.from k.did) s (subst (λ (xs : List Sent). Has xs s) k.sent i)) [
     | inl before ↦ good.sent s before
     | inr now ↦ did_send config k.from k.did k.goes s now
@@ -139,6 +147,7 @@ kept_good config w ls h good k = record {
     | inr now ↦ did_say config k.from (length w.sent) k.did k.goes r (subst (λ (xs : List Line). Has xs (lines.Submit r)) k.lines now)
   ];
   others = k.others;
+  actors = there;
 }
 
 -- a seat whose steps send to actors of the configuration
@@ -253,17 +262,38 @@ module _ {S : Type 0} (m : Meaning S) (config : Configuration) (bounds : Bounds 
       record {
         installs = λ k j session e. names.installs k j session (sent_spelled bytes (datagrams.Install k j session) there e);
         pings = λ k j round e. names.pings k j round (sent_spelled bytes (datagrams.Ping k j round) there e);
+        reads = λ r fits e. names.reads r fits (sent_spelled bytes (datagrams.Read r) there e);
       }
   given_names (Packet bytes) (inr none) = record {
     installs = λ k j session e. absurd (let g = none.refused in cc);
     pings = λ k j round e. absurd (let g = none.refused in cc);
+    reads = λ r fits e. absurd (let g = none.refused in cc);
   }
   given_names _ may = tt
 
+  -- what comes to an observer is in its ranges
+  read_is_in : (d : Datagram) → DatagramFits d → ReadIsIn (Ok d)
+  read_is_in (datagrams.Read r) fits = fits
+  read_is_in _ fits = tt
+
+  given_is_in : (i : Given) → MayCome (bytes_of w.sent) i → GivenIsIn i
+  given_is_in (Packet bytes) (inl there) =
+      let known = travels.posts.network.datagrams bytes there in
+      subst ReadIsIn (sym (ap reading known.spells.spelled ∙ reads_again known.datagram known.spells.fits))
+      (read_is_in known.datagram known.spells.fits)
+  given_is_in (Packet bytes) (inr none) = subst ReadIsIn (sym none.refused) tt
+  given_is_in _ may = tt
+
+  whole_client : (k : ℕ) (old : Seated Client) → slice_get w.others.clients k ≡ Some old
+      → slice_get whole_one.others.clients k ≡ Some old
+  whole_client k old there = ap (λ (o : Others). slice_get o.clients k) (sym alike.others) ∙ there
+
+  reads_within : (k : ℕ) (old : Seated Client) → slice_get w.others.clients k ≡ Some old → reads.IsWithin old.state.reads
+  reads_within k old there = (at.at.stands.ranges.others Clients k old (whole_client k old there)).1
+
   own_number : (k : ℕ) (old : Seated Client) → slice_get w.others.clients k ≡ Some old → old.state.requests.number < config.clients
   own_number k old there =
-      let found : slice_get whole_one.others.clients k ≡ Some old =
-      ap (λ (o : Others). slice_get o.clients k) (sym alike.others) ∙ there in
+      let found : slice_get whole_one.others.clients k ≡ Some old = whole_client k old there in
       let is : old.state.requests.number ≡ k =
       ap (λ (s : ClientState). s.number) (sym (shown.others Clients k old found)) ∙ (inv.clients k).number in
       omega (
@@ -278,7 +308,7 @@ module _ {S : Type 0} (m : Meaning S) (config : Configuration) (bounds : Bounds 
       → MayCome (bytes_of w.sent) given → IsAskedOf config given → OutsGo config (next k old.state given).1
   other_goes Sequencers i old there given may asked = sequencer_goes config old.state given (given_names given may)
   other_goes Clients i old there given may asked =
-      client_goes config old.state (good.others Clients i old there) given asked (own_number i old there)
+      client_goes config old.state (good.others Clients i old there) given asked (own_number i old there) (reads_within i old there)
   other_goes Controllers i old there given may asked =
       (controller_directs config old.state given (good.others Controllers i old there)).sends
 
@@ -300,6 +330,19 @@ module _ {S : Type 0} (m : Meaning S) (config : Configuration) (bounds : Bounds 
             (seat_placed k config old old.crashed what asked (good.others k i old there)) (good.others k)) good.others;
       }
 
+  observer_keeps : (i : ℕ) (old : Seated Observer) (what : Stimulus) → AllMayCome (bytes_of w.sent) what
+      → Keeps config w (at_observer w i (seat_step (observer.next m) old what))
+  observer_keeps i old what brings = record {
+    from = actors.Observer i;
+    did = (seat_step (observer.next m) old what).1;
+    goes = seat_goes config (observer.next m) old old.crashed what
+        (λ given is. (let may = subst (AllMayCome (bytes_of w.sent)) is brings in
+        observer_goes m config old.state given (given_names given may) (given_is_in given may)));
+    sent = refl;
+    lines = refl;
+    others = good.others;
+  }
+
   -- ---- events
 
   actor_keeps : (x : Who) (r : Result Stimulus Refusal) (h : Happened)
@@ -311,16 +354,18 @@ module _ {S : Type 0} (m : Meaning S) (config : Configuration) (bounds : Bounds 
   actor_keeps (Another k i) r h brings asks e =
       let t = took (at_other k w i) (next k) (slice_get (seats k w.others) i) r h e in
       subst (Keeps config w) t.gives (other_keeps k i t.seat t.what t.there (brings t.what t.brought) (asks t.what t.brought))
-  actor_keeps _ r h brings asks e = absurd cc
+  actor_keeps (AnObserver i) r h brings asks e =
+      let t = took (at_observer w i) (observer.next m) (slice_get w.observers i) r h e in
+      subst (Keeps config w) t.gives (observer_keeps i t.seat t.what (brings t.what t.brought))
 
   world_config : w.config ≡ config
   world_config = alike.config ∙ at.at.stands.same
 
-  step_keeps : (x : Event) (h : Happened) → step m w x ≡ Ok h → Keeps config w h
+  step_keeps : (x : Event) (h : Happened) → EventFits x → step m w x ≡ Ok h → Keeps config w h
   unfolding step
-  step_keeps x h e =
+  step_keeps x h fits e =
       actor_keeps (who (actor_of x)) (stimulus_of w.config w.sent x) h (event_comes w.sent w.config x)
-      (λ what is. subst (λ (g : Configuration). AllAskedOf g what) world_config (event_asks w.config w.sent x what is)) e
+      (λ what is. subst (λ (g : Configuration). AllAskedOf g what) world_config (event_asks w.config w.sent x what fits is)) e
 
 -- ---- lists of events
 
@@ -329,6 +374,7 @@ pub record Reached {S : Type 0} (m : Meaning S) (config : Configuration) (h : Ha
   pub at : At m config h.world h.lines
   pub sent : (s : Sent) → Has h.world.sent s → IsAddressed config s.dest s.bytes
   pub submits : SubmitsOf config h.lines
+  pub actors : HasActors h.world
 
 module _ {S : Type 0} (m : Meaning S) (IsSound : S → Type 0) (keeps : KeepsTo m IsSound) (config : Configuration)
     (is_one : is_configuration config ≡ true) where
@@ -346,10 +392,11 @@ module _ {S : Type 0} (m : Meaning S) (IsSound : S → Type 0) (keeps : KeepsTo 
       both.fits (opening_stands m half config is_one count) in
       record { came = bs; both = both; conf = r.last; at = r.at }
 
-  one_good : (w : WorldState) (ls : List Line) (x : Event) (h : Happened) → At m config w ls → step m w x ≡ Ok h → Good config w ls
-      → Good config h.world (ls ++ h.lines)
-  one_good w ls x h at is good =
-      kept_good config w ls h good (step_keeps m config (trimmed_keep_bounds m IsSound keeps) count w ls at good x h is)
+  one_good : (w : WorldState) (ls : List Line) (x : Event) (h : Happened) → At m config w ls → EventFits x → step m w x ≡ Ok h
+      → Good config w ls → Good config h.world (ls ++ h.lines)
+  one_good w ls x h at fits is good =
+      kept_good config w ls h good (step_keeps m config (trimmed_keep_bounds m IsSound keeps) count w ls at good x h fits is)
+      (step_has_actors m w x h good.actors is)
 
   reach_then : (x : Event) (es : List Event) (w : WorldState) (ls : List Line) (h : Happened) → At m config w ls → EventFits x
       → Good config w ls
@@ -361,13 +408,13 @@ module _ {S : Type 0} (m : Meaning S) (IsSound : S → Type 0) (keeps : KeepsTo 
       let next : At m config g.world (ls ++ g.lines) =
       shown_after g.world (ls ++ g.lines) (at.came ++ (actor_of x, brought w x) ∷ [])
       (both_then m IsSound keeps config is_one w ls at.came x g at.both fits is) in
-      rest g.world (ls ++ g.lines) next (one_good w ls x g at is good) e
+      rest g.world (ls ++ g.lines) next (one_good w ls x g at fits is good) e
 
   reach : (es : List Event) (w : WorldState) (ls : List Line) (h : Happened) → At m config w ls → EventsFit es → Good config w ls
       → run_from m ls w es ≡ Ok h → Reached m config h
   reach [] w ls h at fit good e =
       let same : record { world = w; lines = ls } ≡ h = cc in
-      subst (Reached m config) same (record { at = at; sent = good.sent; submits = good.submits })
+      subst (Reached m config) same (record { at = at; sent = good.sent; submits = good.submits; actors = good.actors })
   reach (x ∷ es) w ls h at fit good e =
       reach_then x es w ls h at fit.0 good (λ v more at_v good_v g. reach es v more h at_v fit.1 good_v g) (step m w x) refl e
 
@@ -383,12 +430,18 @@ module _ {S : Type 0} (m : Meaning S) (IsSound : S → Type 0) (keeps : KeepsTo 
         current = some_sequencer;
       })
   others_placed Clients k q there =
-      subst (OtherPlaced Clients config) (counted_get (opening_client config) config.clients k q there) tt
+      subst (OtherPlaced Clients config) (counted_get (opening_client config) config.clients k q there)
+      (record { pending = tt; number = counted_within (opening_client config) config.clients k q there })
   others_placed _ k q there = tt
 
   nothing_sent : Good config (world.opening config) []
   nothing_sent =
-      record { sent = λ s h. absurd (Has-none s h); submits = λ r h. absurd (Has-none _ h); others = others_placed }
+      record {
+        sent = λ s h. absurd (Has-none s h);
+        submits = λ r h. absurd (Has-none _ h);
+        others = others_placed;
+        actors = opening_has_actors config;
+      }
 
   opening_at : At m config (world.opening config) []
   opening_at = shown_after (world.opening config) [] [] (record { fits = tt; beside = opening_beside m config is_one })
@@ -415,12 +468,12 @@ module _ {S : Type 0} (m : Meaning S) (config : Configuration) (h : Happened) (r
       (moves_asked m half (opening config) r.at.at.ran.moves (opening_meets m half config (counts_from config is_one).replicas) r.at.at.ran.may
       (none_asked config))
 
-  -- a reply is no fragment
+  -- a reply is neither a fragment nor an answer
   also_whole : (s : Sent) (y : Reply) → Has h.world.sent s → reading s.bytes ≡ Ok (datagrams.Reply y)
       → Has (world_after m config r.at.came).sent s
   also_whole s y i e = subst (λ (xs : List Sent). Has xs s) same_worlds.sent
-      (Has-filter (λ (x : Sent). not (is_fragment (reading x.bytes))) s h.world.sent i
-      (ap (λ (d : Result Datagram Bad). not (is_fragment d)) e))
+      (Has-filter (λ (x : Sent). not (is_apart (reading x.bytes))) s h.world.sent i
+      (ap (λ (d : Result Datagram Bad). not (is_apart d)) e))
 
   replied : (s : Sent) (y : Reply) → Has h.world.sent s → reading s.bytes ≡ Ok (datagrams.Reply y) → HasAsked r.at.conf.lines y.client
   replied s y i e = asked y (r.at.at.stands.carries.only s (datagrams.Reply y) (also_whole s y i e) e)
@@ -440,7 +493,7 @@ module _ {S : Type 0} (m : Meaning S) (config : Configuration) (h : Happened) (r
   dest_of : (s : Sent) → Has h.world.sent s → (dest : Dest) → Goes config dest s.bytes → IsDestOf config dest
   dest_of s i dests.Replicas go = tt
   dest_of s i dests.Sequencers go = tt
-  dest_of s i (dests.One (actors.Client k)) go = client_there k s i go
+  dest_of s i (dests.One (actors.Client k)) go = elim go [ inl is ↦ client_there k s i is | inr below ↦ below ]
   dest_of s i _ go = go
 
   pub sent_to_actors : (s : Sent) → Has h.world.sent s → IsDestOf config s.dest

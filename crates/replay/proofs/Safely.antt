@@ -64,6 +64,7 @@ module _ {S : Type 0} (m : Meaning S) (IsSound : S → Type 0) (keeps : KeepsTo 
       let well = schedule_well m c (opening c) 1 lines good in
       let h = well.leads [] in
       let within = and_parts (gives d.form c) (is_configuration c) (headers_fit line d is) in
+      let safely = runs_are_safe m IsSound keeps c s.events h.0 within.1 well.fit h.1 in
       record {
         header = d;
         first = line;
@@ -74,7 +75,8 @@ module _ {S : Type 0} (m : Meaning S) (IsSound : S → Type 0) (keeps : KeepsTo 
         are = λ i. record { events = s.events; bad = good i };
         happened = h.0;
         led = h.1;
-        safely = runs_are_safe m IsSound keeps c s.events h.0 within.1 well.fit h.1;
+        safely = safely;
+        reads = safely.reads.lines;
         text =
             ap (λ (ls : List (List ℕ)). (output_of_lines m true ls).text) cut
             ∙ ap (λ (r : Result Header Rule). (begun m true lines r).text) is

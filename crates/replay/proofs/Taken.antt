@@ -3,11 +3,10 @@ use Rattle.std.proofs.Common.{◌≡◌, ◌≤◌, ◌<◌, ◌-◌, ℕ, Bool,
 use Rattle.std.proofs.Common.{length, List, min}
 use Rattle.std.specs.Prelude.{⊤, nat_lt, nat_le, ◌==◌, if◌then◌else◌, Result, Ok, slice_get}
 use Rattle.std.proofs.lemmas.Bool.{lt-ltb}
-use Rattle.std.proofs.lemmas.List.{length-map}
 use Rattle.rand_pcg.specs.Lcg.{Lcg}
 use Rattle.nop_types.specs.Checkpoints.{KeepsTo}
 use Rattle.nop_types.specs.Configuration.{Configuration}
-use Rattle.nop_types.specs.Given.{Given, Packet, Ticked, Submit}
+use Rattle.nop_types.specs.Given.{Given, Packet, Ticked, Submit, Read}
 use Rattle.nop_types.specs.Lists.{Has}
 use Rattle.nop_types.specs.Meaning.{Meaning}
 use Rattle.nop_types.specs.declared.input.Tick.{Tick}
@@ -18,6 +17,7 @@ use Rattle.nop_types.specs.declared.output.Dest.{Dest}
 use Rattle.nop_types.specs.declared.output.Dest.TheVariants.{Replicas, Sequencers, One}
 use Rattle.nop_types.specs.declared.output.Out.{Out}
 use Rattle.lemmas.proofs.Places.{slice_get-some}
+use Rattle.observer.specs.ObserverSteps as observer
 use Rattle.replica_core.specs.ReplicaSteps as replica
 use Rattle.schedule_text.specs.declared.event.Event.{Event}
 use Rattle.schedule_text.specs.declared.event.Event.TheVariants as events
@@ -26,21 +26,17 @@ use Rattle.schedule_text.specs.EventText.{HasWord, HasLine, IsEventOf}
 use Rattle.schedule_text.specs.Fits.{EventFits}
 use Rattle.schedule_text.specs.Ticks.{takes_tick}
 use Rattle.network.specs.Network.{Sent, Did}
-use Rattle.world.specs.Others.{next, Others, seats, count, Who, AReplica, Another, who}
+use Rattle.world.specs.Others.{next, seats, count, Who, AReplica, Another, AnObserver, who}
 use Rattle.world.specs.Refusals.{HasActors}
 use Rattle.world.specs.Seats.{Seated, Stimulus, Takes, Crashes}
-use Rattle.world.specs.WorldSteps.{WorldState, Happened, Refusal, tick_if, datagram_at, stimulus_of, then_at, step_at, step_of, step}
-use Rattle.world.specs.WorldSteps.{at_replica, at_other}
+use Rattle.world.specs.WorldSteps.{WorldState, Happened, Refusal, tick_if, read_if, datagram_at, stimulus_of, then_at, step_at, step_of, step}
+use Rattle.world.specs.WorldSteps.{at_replica, at_other, at_observer}
 use Rattle.replay.specs.Drawing.{draw, put_drawn, get_drawn, taker_drawn, delivery_drawn, back_drawn, deliver_drawn}
 use Rattle.replay.specs.Drawing.{replica_tick_drawn, retry_drawn, crash_drawn, install_drawn, rare_drawn}
 use Rattle.replay.specs.Drawing.{often_drawn, seldom_drawn, event_drawn}
 use Rattle.replay.specs.Generated.{drawn_config}
 use Rattle.replay.specs.Generating.{IsTaken, Led, MayDraw}
 use Rattle.replay.specs.Destinations.{IsDestOf}
-use Rattle.whole_world.specs.Whole.{WholeWorld}
-use Rattle.safety.specs.Following.{plain, trimmed_seat}
-use Rattle.safety.proofs.Beside.{Alike}
-use Rattle.safety.proofs.Following.{world_after}
 use Rattle.replay.proofs.Reaching.{Reached, events_reach, sent_to_actors}
 
 -- ---- events that are not refused
@@ -54,11 +50,11 @@ IsSent sent _ = ⊤
 abbrev IsOneOf : Configuration → Who → Type 0
 IsOneOf c (AReplica i) = i < c.replicas
 IsOneOf c (Another k i) = i < count k c
-IsOneOf c _ = ⊥
+IsOneOf c (AnObserver i) = i < c.observers
 
-actor_there : (c : Configuration) → c.observers ≡ 0 → (a : Actor) → IsActorOf c a → IsOneOf c (who a)
-actor_there c none (actors.Observer i) h = absurd (omega (arith, h, none))
-actor_there c none _ h = h
+actor_there : (c : Configuration) (a : Actor) → IsActorOf c a → IsOneOf c (who a)
+actor_there c (actors.Observer i) h = h
+actor_there c _ h = h
 
 seat_taken : {S : Type 0} (act : Seated S × Did → Happened) (next : S → Given → S × List Out) (xs : List (Seated S)) (i : ℕ)
     (what : Stimulus) → i < length xs → IsTaken (then_at act (step_at next (slice_get xs i) (Ok what)))
@@ -66,16 +62,17 @@ seat_taken act next xs i what l =
     let p = slice_get-some xs i l in
     (_, ap (λ o. then_at act (step_at next o (Ok what))) p.1)
 
-module _ {S : Type 0} (m : Meaning S) (w : WorldState) (has : HasActors w) (none : w.config.observers ≡ 0) where
+module _ {S : Type 0} (m : Meaning S) (w : WorldState) (has : HasActors w) where
   seat_there : (x : Who) (what : Stimulus) → IsOneOf w.config x → IsTaken (step_of m w x (Ok what))
   seat_there (AReplica i) what h =
       seat_taken (at_replica w i) (replica.next m) w.replicas i what (omega (arith, h, has.replicas))
   seat_there (Another k i) what h =
       seat_taken (at_other k w i) (next k) (seats k w.others) i what (omega (arith, h, has.others k))
-  seat_there _ what h = absurd h
+  seat_there (AnObserver i) what h =
+      seat_taken (at_observer w i) (observer.next m) w.observers i what (omega (arith, h, has.observers))
 
   actor_taken : (a : Actor) (what : Stimulus) → IsActorOf w.config a → IsTaken (step_of m w (who a) (Ok what))
-  actor_taken a what h = seat_there (who a) what (actor_there w.config none a h)
+  actor_taken a what h = seat_there (who a) what (actor_there w.config a h)
 
   brought : (a : Actor) (r : Result Stimulus Refusal) (what : Stimulus) → r ≡ Ok what → IsActorOf w.config a
       → IsTaken (step_of m w (who a) r)
@@ -94,6 +91,9 @@ module _ {S : Type 0} (m : Meaning S) (w : WorldState) (has : HasActors w) (none
   event_taken (events.Install k j) h sent =
       brought (actors.Controller k) (tick_if (nat_lt j w.config.sequencers) (ticks.Install j)) (Takes (Ticked (ticks.Install j)))
       (ap (λ (b : Bool). tick_if b (ticks.Install j)) (lt-ltb j w.config.sequencers h.1)) h.0
+  event_taken (events.Read n o key) h sent =
+      brought (actors.Client n) (read_if (nat_lt o w.config.observers) o key) (Takes (Read o key))
+      (ap (λ (b : Bool). read_if b o key) (lt-ltb o w.config.observers h.1)) h.0
   event_taken (events.Crash a) h sent = actor_taken a Crashes h
   event_taken (events.Junk a bytes) h sent = absurd sent
 
@@ -211,18 +211,6 @@ module _ {S : Type 0} (m : Meaning S) (IsSound : S → Type 0) (keeps : KeepsTo 
       → Reached m drawn_config (record { world = w; lines = ls })
   reached es w ls led = events_reach m IsSound keeps drawn_config refl es (record { world = w; lines = ls }) led.fit led.is
 
-  has_actors : (h : Happened) → Reached m drawn_config h → HasActors h.world
-  has_actors h r =
-      let v : WholeWorld = world_after m drawn_config r.at.came in
-      let alike : Alike m h.world h.lines v = r.at.both.beside.alike in
-      let shown = r.at.at.stands.actors in
-      let same : v.config ≡ h.world.config = sym alike.config in
-      record {
-        replicas = sym (length-map h.world.replicas plain) ∙ ap length alike.replicas ∙ length-map v.replicas (trimmed_seat m)
-            ∙ shown.replica_count ∙ ap (λ (c : Configuration). c.replicas) same;
-        others = λ k. ap (λ (o : Others). length (seats k o)) alike.others ∙ shown.other_count k ∙ ap (count k) same;
-      }
-
   config_is : (h : Happened) → Reached m drawn_config h → h.world.config ≡ drawn_config
   config_is h r = r.at.both.beside.alike.config ∙ r.at.at.stands.same
 
@@ -231,7 +219,7 @@ module _ {S : Type 0} (m : Meaning S) (IsSound : S → Type 0) (keeps : KeepsTo 
       → IsTaken (step m w e)
   taken_there es w ls e led of sent =
       let r = reached es w ls led in
-      event_taken m w (has_actors _ r) (ap (λ (k : Configuration). k.observers) (config_is _ r)) e
+      event_taken m w r.actors e
       (subst (λ (k : Configuration). IsEventOf k e) (sym (config_is _ r)) of) sent
 
   pub drawn_goes_on : (w : WorldState) (g : Lcg) → MayDraw m w → GoesOn m w (event_drawn w.sent g).0

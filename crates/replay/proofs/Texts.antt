@@ -16,7 +16,7 @@ use Rattle.world.specs.declared.step_error.StepError.TheVariants as steps
 use Rattle.world.specs.Actors.{Happens}
 use Rattle.world.specs.SeatOutcomes as world
 use Rattle.world.specs.Ending.{history_text, final_text}
-use Rattle.world.specs.StateLines.{replicas_text}
+use Rattle.world.specs.StateLines.{observers_text, replicas_text}
 use Rattle.world.specs.WorldSteps.{WorldState, Refusal, Happened, step, opening, history}
 use Rattle.replay.specs.Output.{BadLine, bad_text, refused_line, ending, text_after, schedule_from, rest, begun}
 use Rattle.replay.specs.Output.{output_of_lines, output}
@@ -37,7 +37,8 @@ end_line_some = λ e. absurd cc
 
 pub final_text_some : (w : WorldState) → final_text w ≢ []
 unfolding final_text
-final_text_some w = some_right (replicas_text w.archive 0 w.replicas ++ history_text 1 (history w)) end_line end_line_some
+final_text_some w =
+    some_right (replicas_text w.archive 0 w.replicas ++ observers_text 0 w.observers ++ history_text 1 (history w)) end_line end_line_some
 
 -- nothing of what is gathered and of an error line was written
 pub refused_unwritten : (a : Option (List ℕ)) (pending : List ℕ) (b : BadLine) → AppendsPrefix a a (pending ++ bad_text b)

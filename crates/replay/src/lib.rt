@@ -12,7 +12,8 @@
 //!
 //! The transcript's first line has the form of the schedule's header.
 //!
-//! At Ok, of an observable source, the run of the bytes is safe (clause `safe`, `RunsSafely`).
+//! At Ok, of an observable source, the run of the bytes is safe, and what was read in it is right
+//! (clause `safe`, `RunsSafely`).
 //! A write that failed is always told: the sink's count of faults rises by one at WriteFault, and
 //! stays at every other answer (clause `count`, of `generate` too). The source's count rises by
 //! one at ReadFault, and stays at Ok and Malformed (clause `reads`). After a read that failed the

@@ -30,8 +30,8 @@ pub fn log_stays_in_ranges()
         → has_room k l ≡ true → LogIsIn k (appended l e) }
     ensures noop { (k : Keeping) (l : Log) (n : ℕ) →
         LogIsIn k l → LogIsIn k (with_noop k l n) }
-    ensures raise { (l : Log) (n : ℕ) → LogIsIn Whole l → l.sync_point ≤ n → n ≤ length l.entries
-        → LogIsIn Whole (record l { sync_point = n }) }
+    ensures raise { (l : Log) (n : ℕ) → LogIsIn Whole l → l.sync_point ≤ n
+        → n ≤ length l.entries → LogIsIn Whole (record l { sync_point = n }) }
     ensures adopt { (k : Keeping) (new own : Log) → LogIsIn k new → LogIsIn k own
         → LogIsIn k (adopted k new own) }
     ensures overlay { (k : Keeping) (new own : Log) → LogIsIn k new → LogIsIn k own

@@ -30,11 +30,20 @@ polls reply follower";
 /// What it writes.
 const CLIENT_LINES: &str = "submit c0 1 5000016b000176\naccept c0 1 6e6f6e65\nserved 2 lost 0\n";
 
+/// A client that reads, and gets the answer at its second poll.
+const READ: &str = "\
+nopaxos read --id 0 --observer 0 --replicas 3 --sequencers 1 --turns 3 6b
+polls nothing answer";
+
+/// What it writes.
+const READ_LINES: &str = "read c0 1 o0 6b\nanswer c0 1 o0 0 6e6f6e65\nserved 2 lost 0\n";
+
 /// Nodes of the other kinds, to which nothing comes.
-const NODES: [&str; 3] = [
+const NODES: [&str; 4] = [
     "nopaxos node --id 2 --replicas 3 --sequencers 1 --turns 3",
     "nopaxos sequencer --id 0 --replicas 3 --sequencers 1 --turns 3",
     "nopaxos controller --id 1 --replicas 3 --sequencers 1 --turns 3",
+    "nopaxos observer --id 1 --replicas 3 --sequencers 1 --turns 3",
 ];
 
 /// A run in which a call fails; calls of a kind count from 1.
@@ -100,6 +109,7 @@ fn each_read_fails(rt: HostRuntime) {
 fn each_write_fails(rt: HostRuntime) {
     check_writes(&rt, rt.alloc(), REPLAY, TRANSCRIPT);
     check_writes(&rt, rt.alloc(), CLIENT, CLIENT_LINES);
+    check_writes(&rt, rt.alloc(), READ, READ_LINES);
     let text = format!(in rt.alloc(); "{LINES}served 3 lost 0 stray 0\n").expect(&rt, "memory");
     check_writes(&rt, rt.alloc(), SMALL, &text);
     let given = failing(&rt, rt.alloc(), REPLAY, "writes 0", 0);
@@ -115,8 +125,8 @@ fn each_read_of_a_check_fails(rt: HostRuntime) {
     check_read_of_a_check(&rt, rt.alloc(), 22, Status::Done, "legal 1 1 1\n");
 }
 
-/// An attach or a poll that fails ends a client, which has written what it submitted, and a cluster and the other nodes, which have
-/// written nothing.
+/// An attach or a poll that fails ends a client, which has written what it submitted or asked for, and a cluster and the other nodes,
+/// which have written nothing.
 #[test]
 fn each_attach_and_each_poll_fails(rt: HostRuntime) {
     for words in &NODES {
@@ -126,6 +136,9 @@ fn each_attach_and_each_poll_fails(rt: HostRuntime) {
     let submitted = "submit c0 1 5000016b000176\n";
     check_calls(&rt, rt.alloc(), CLIENT, "attaches", 1, "");
     check_calls(&rt, rt.alloc(), CLIENT, "instead failure", 2, submitted);
+    let asked = "read c0 1 o0 6b\n";
+    check_calls(&rt, rt.alloc(), READ, "attaches", 1, "");
+    check_calls(&rt, rt.alloc(), READ, "instead failure", 2, asked);
     check_calls(&rt, rt.alloc(), SMALL, "attaches", 4, "");
     check_calls(&rt, rt.alloc(), SMALL, "instead failure", 12, "");
 }

@@ -82,6 +82,11 @@ pub fn datagram(rt: &impl Abort, alloc: Global, word: &str) -> Bytes
         "reply" =>
             "4e4f030300000000000000000000000001000000010000000000000000000000010100046e6f6e65",
         "follower" => "4e4f03030100000000000000000000000100000001000000000000000000000001000000",
+        // The request with message number 2, where number 1 is missing.
+        "later" =>
+            "4e4f03020000000000000001000000000000000200000000000000000000000100075000016b000176",
+        "read" => "4e4f030900000000000000000000000100016b",
+        "answer" => "4e4f030a000000000000000000000000000000000100046e6f6e65",
         _ => word,
     };
     let bytes = hex::decode(alloc, digits).expect(rt, "hexadecimal");

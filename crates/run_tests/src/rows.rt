@@ -380,4 +380,87 @@ replica r2 up normal 0 1 2 1
 entry r2 1 c0 1 5000016b000176
 history 1 c0 1 5000016b000176
 end
+----
+nopaxos 3 replicas 3 sequencers 1 clients 1 controllers 1 observers 1
+submit c0 5000016b000176
+deliver 0 s0
+deliver 1 r0
+deliver 1 r1
+tick r0 sync
+deliver 4 r1
+deliver 5 r0
+deliver 4 o0
+read c0 o0 6b
+deliver 7 o0
+deliver 8 c0
+deliver 6 o0
+read c0 o0 6b
+deliver 9 o0
+deliver 10 c0
+=>
+transcript 3 replicas 3 sequencers 1 clients 1 controllers 1 observers 1
+submit c0 1 5000016b000176
+send 0 c0 s* request 25
+send 1 s0 r* stamped 41
+send 2 r0 c0 reply 40
+send 3 r1 c0 reply 36
+send 4 r0 r* fragment 61
+send 5 r1 r0 fragment 35
+send 6 r0 r* fragment 35
+read c0 1 o0 6b
+send 7 c0 o0 read 19
+send 8 o0 c0 answer 27
+answer c0 1 o0 0 6e6f6e65
+read c0 2 o0 6b
+send 9 c0 o0 read 19
+send 10 o0 c0 answer 25
+answer c0 2 o0 1 3d76
+replica r0 up normal 0 1 1 1
+entry r0 1 c0 1 5000016b000176
+replica r1 up normal 0 1 1 0
+replica r2 up normal 0 1 0 0
+observer o0 up 1
+history 1 c0 1 5000016b000176
+end
+----
+nopaxos 3 replicas 3 sequencers 1 clients 1 controllers 1 observers 1
+submit c0 5000016b000176
+deliver 0 s0
+deliver 1 r0
+deliver 1 r1
+tick r0 sync
+deliver 4 r1
+deliver 5 r0
+read c0 o0 6b
+deliver 7 o0
+deliver 8 c0
+deliver 6 o0
+read c0 o0 6b
+deliver 9 o0
+deliver 10 c0
+=>
+transcript 3 replicas 3 sequencers 1 clients 1 controllers 1 observers 1
+submit c0 1 5000016b000176
+send 0 c0 s* request 25
+send 1 s0 r* stamped 41
+send 2 r0 c0 reply 40
+send 3 r1 c0 reply 36
+send 4 r0 r* fragment 61
+send 5 r1 r0 fragment 35
+send 6 r0 r* fragment 35
+read c0 1 o0 6b
+send 7 c0 o0 read 19
+send 8 o0 c0 answer 27
+answer c0 1 o0 0 6e6f6e65
+read c0 2 o0 6b
+send 9 c0 o0 read 19
+send 10 o0 c0 answer 27
+answer c0 2 o0 0 6e6f6e65
+replica r0 up normal 0 1 1 1
+entry r0 1 c0 1 5000016b000176
+replica r1 up normal 0 1 1 0
+replica r2 up normal 0 1 0 0
+observer o0 up 0
+history 1 c0 1 5000016b000176
+end
 ";

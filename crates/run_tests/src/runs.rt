@@ -267,12 +267,96 @@ polls stamped
 served 1 lost 0
 |
 41016 4e4f030300000000000000000000000001000000010000000000000000000000010100046e6f6e65
+----
+nopaxos node --id 0 --replicas 3 --sequencers 1 --turns 1
+polls later
+=> Done
+served 1 lost 0
+|
+41001 4e4f030800000000000000000100000001120000000000000000000000000100000001
+41002 4e4f030800000000000000000100000001120000000000000000000000000100000001
+----
+nopaxos node --id 0 --replicas 3 --sequencers 1 --observers 2 --turns 1
+polls later
+=> Done
+served 1 lost 0
+|
+41001 4e4f030800000000000000000100000001120000000000000000000000000100000001
+41002 4e4f030800000000000000000100000001120000000000000000000000000100000001
+41032 4e4f030800000000000000000100000001120000000000000000000000000100000001
+41033 4e4f030800000000000000000100000001120000000000000000000000000100000001
+----
+nopaxos node --observers 2 --id 0 --replicas 3 --sequencers 1 --turns 1
+polls later
+sends of 1: 2 3 4
+=> Done
+served 1 lost 3
+|
+41001 4e4f030800000000000000000100000001120000000000000000000000000100000001
+----
+nopaxos node --id 0 --replicas 1 --sequencers 1 --observers 4 --turns 1
+polls later
+=> Done
+served 1 lost 0
+|
+41016 4e4f030300000000000000000000000001000000020000000000000000000000010100046e6f6e65
+----
+nopaxos observer --id 0 --replicas 3 --sequencers 1 --turns 1
+polls read
+=> Done
+served 1 lost 0
+|
+41016 4e4f030a000000000000000000000000000000000100046e6f6e65
+----
+nopaxos observer --id 3 --replicas 3 --sequencers 1 --turns 2
+polls stamped request
+=> Done
+served 2 lost 0
+|
+----
+nopaxos observer --id 0 --replicas 3 --sequencers 1
+polls nothing failure
+=> LinkFault
+|
+----
+nopaxos read --id 0 --observer 0 --replicas 3 --sequencers 1 --turns 3 6b
+polls answer
+=> Done
+read c0 1 o0 6b
+answer c0 1 o0 0 6e6f6e65
+served 1 lost 0
+|
+41032 4e4f030900000000000000000000000100016b
+----
+nopaxos read --id 0 --observer 0 --replicas 3 --sequencers 1 --turns 3 6B
+polls nothing answer
+sends of 1: 1
+=> Done
+read c0 1 o0 6b
+answer c0 1 o0 0 6e6f6e65
+served 2 lost 1
+|
+----
+nopaxos read --id 0 --observer 3 --replicas 3 --sequencers 1 --turns 2 6b
+polls answer reply
+=> Unanswered
+read c0 1 o3 6b
+served 2 lost 0
+|
+41035 4e4f030900000000000000000000000100016b
+----
+nopaxos read --id 0 --observer 0 --replicas 3 --sequencers 1 --turns 3 6b
+polls failure
+=> LinkFault
+read c0 1 o0 6b
+|
+41032 4e4f030900000000000000000000000100016b
 ";
 
 /// How words end that are not taken.
 const USAGE: &str = "\
 Usage
-usage: nopaxos replay | gen | node | sequencer | controller | client | cluster | check
+usage: nopaxos replay | gen | node | sequencer | controller | client | cluster | check | observer | read
 |
 ";
 
@@ -319,7 +403,26 @@ nopaxos cluster --replicas 3 --sequencers 1 50
 nopaxos cluster --replicas 3 --sequencers 1 --clients 0 50
 nopaxos cluster --replicas 3 --sequencers 1 --clients 17 50
 nopaxos cluster --replicas 3 --sequencers 1 --clients 1 --turns 0 50
-nopaxos cluster --replicas 3 --sequencers 1 --clients 1 --turns 10001 50";
+nopaxos cluster --replicas 3 --sequencers 1 --clients 1 --turns 10001 50
+nopaxos cluster --replicas 3 --sequencers 1 --clients 1 --observers 1 50
+nopaxos node --id 0 --replicas 3 --sequencers 1 --observers
+nopaxos node --id 0 --replicas 3 --sequencers 1 --observers 5
+nopaxos node --id 0 --replicas 3 --sequencers 1 --observers 1 --observers 1
+nopaxos sequencer --id 0 --replicas 3 --sequencers 1 --observers 1
+nopaxos observer --replicas 3 --sequencers 1
+nopaxos observer --id 4 --replicas 3 --sequencers 1
+nopaxos observer --id 0 --replicas 4 --sequencers 1
+nopaxos observer --id 0 --replicas 3 --sequencers 1 6b
+nopaxos read --id 0 --replicas 3 --sequencers 1 6b
+nopaxos read --observer 0 --replicas 3 --sequencers 1 6b
+nopaxos read --id 4294967296 --observer 0 --replicas 3 --sequencers 1 6b
+nopaxos read --id 0 --observer 4 --replicas 3 --sequencers 1 6b
+nopaxos read --id 0 --observer 0 --replicas 3 --sequencers 1
+nopaxos read  --id 0 --observer 0 --replicas 3 --sequencers 1
+nopaxos read --id 0 --observer 0 --replicas 3 --sequencers 1 6
+nopaxos read --id 0 --observer 0 --replicas 3 --sequencers 1 6x
+nopaxos read --id 0 --observer 0 --replicas 3 --sequencers 1 6b 6b
+nopaxos read --id 0 --observer 0 --replicas 3 --sequencers 1 6b6b6b6b6b6b6b6b6b6b6b6b6b6b6b6b6b6b6b6b6b6b6b6b6b6b6b6b6b6b6b6b6b6b6b6b6b6b6b6b6b6b6b6b6b6b6b6b6b6b6b6b6b6b6b6b6b6b6b6b6b6b6b6b6b";
 
 /// A run of the table. Where it has no schedule, the source has the one put.
 fn check_run(rt: &impl Abort, alloc: Global, run: &str) {

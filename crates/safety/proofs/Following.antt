@@ -1,5 +1,5 @@
 -- Lists of events: the real world follows the whole one, and so it did at each time before.
-use Rattle.std.proofs.Common.{◌≡◌, ℕ, zero, suc, refl, sym, ap, subst, ◌∙◌, List, [], ◌∷◌, ◌++◌, append_assoc, true}
+use Rattle.std.proofs.Common.{◌≡◌, ◌≤◌, ◌<◌, arith, ℕ, zero, suc, refl, sym, ap, subst, ◌∙◌, List, [], ◌∷◌, ◌++◌, append_assoc, true}
 use Rattle.std.specs.Prelude.{map, Result, Ok, Err}
 use Rattle.std.proofs.lemmas.List.{append-nil, map-append}
 use Rattle.lemmas.proofs.Members.{Has-none}
@@ -12,6 +12,8 @@ use Rattle.nop_types.specs.Meaning.{Meaning}
 use Rattle.nop_types.specs.declared.output.Actor.{Actor}
 use Rattle.fragments.specs.Runs as fragments
 use Rattle.replica_rows.specs.Within.{ResultsShort}
+use Rattle.fragments.proofs.Came.{opening_came}
+use Rattle.observer.specs.ObserverSteps as observer
 use Rattle.replica_core.specs.ReplicaSteps as replica
 use Rattle.schedule_text.specs.declared.event.Event.{Event}
 use Rattle.schedule_text.specs.Fits.{EventFits, EventsFit}
@@ -32,7 +34,7 @@ use Rattle.whole_world.proofs.Safe.{whole_runs_are_safe}
 use Rattle.whole_world.proofs.TrimmedRows.{rows_trim_where}
 use Rattle.whole_world.proofs.Trimming.{safe_can_trim}
 use Rattle.safety.specs.Following.{brought, rest_brings, brought_from, plain, trimmed_seat}
-use Rattle.safety.proofs.Beside.{Beside}
+use Rattle.safety.proofs.Beside.{Beside, Listens}
 use Rattle.safety.proofs.Steps.{Followed, brought_fits, event_follows}
 
 -- ---- the opening
@@ -47,6 +49,9 @@ same_opening m c (suc n) =
 
 none_carried : (x : fragments.Sent) → Has opening_network.carried.sent x → ⊥
 none_carried x h = Has-none _ (opening_network.carried.spelled x h).has
+
+few_observers : (config : Configuration) (n : ℕ) → is_configuration config ≡ true → n < config.observers → n ≤ 3
+few_observers config n is less = grind (arith, is, less)
 
 pub opening_beside : {S : Type 0} (m : Meaning S) (config : Configuration) → is_configuration config ≡ true
     → Beside m (world.opening config) [] (whole.opening config)
@@ -72,6 +77,10 @@ opening_beside m config is = record {
         (opening_in_network config i is (counted_within (replica.opening config) config.replicas i q e));
   };
   archive = archive_opens config is;
+  observers = λ i q e.
+      let low : i < config.observers = counted_within (observer.opening config) config.observers i q e in
+      subst (Listens []) (counted_get (observer.opening config) config.observers i q e)
+      (record { number = few_observers config i is low; came = opening_came [] config.replicas; position = omega arith });
 }
 
 -- ---- at each time
@@ -118,7 +127,7 @@ module _ {S : Type 0} (m : Meaning S) (IsSound : S → Type 0) (keeps : KeepsTo 
   both_then t ls bs x h both fits is =
       let b : Actor × Brings = (actor_of x, brought t x) in
       let w : WholeWorld = world_after m config bs in
-      let fit : BringsFits b.1 = brought_fits t x fits in
+      let fit : BringsFits b.1 = brought_fits t both.beside.travels.posts.network.datagrams x fits in
       let all : AllFit (bs ++ b ∷ []) = fits_more bs b both.fits fit in
       let next : world_after m config (bs ++ b ∷ []) ≡ whole_step m w b.0 b.1 = one_more m config _ bs b in
       let now : IsSafe m config bs = (whole_runs_are_safe m short config bs is_one both.fits).at_last in
@@ -134,6 +143,7 @@ module _ {S : Type 0} (m : Meaning S) (IsSound : S → Type 0) (keeps : KeepsTo 
           travels = followed.travels;
           archive = subst (λ (a : List _). IsArchive a (whole_step m w b.0 b.1)) (sym followed.archive)
               (archives_go_on m short config bs is_one both.fits t.archive both.beside.archive b.0 b.1 fit);
+          observers = followed.observers;
         });
       }
 

@@ -3,6 +3,9 @@ pub mod Beside
 pub mod Coming
 pub mod Following
 pub mod KeptLogs
+pub mod Listening
+pub mod Observed
+pub mod Observers
 pub mod OtherSends
 pub mod Others
 pub mod Outputs

@@ -1,4 +1,4 @@
--- An event of a client, a sequencer or the controller: the state is the same, and so is what comes to it.
+-- An event of a client, a sequencer or a controller: the state is the same, and so is what comes to it.
 use Rattle.std.proofs.Common.{◌≡◌, ℕ, zero, suc, Bool, true, false, List, [], ◌∷◌, ◌++◌, length, Option, Some, None}
 use Rattle.std.proofs.Common.{refl, sym, ap, subst, ◌∙◌, inl, inr}
 use Rattle.std.specs.Prelude.{Result, Ok, Err, ◌⊎◌, ◌||◌, not, filter, slice_get}
@@ -7,7 +7,8 @@ use Rattle.std.specs.Str.{bytes_eq}
 use Rattle.std.proofs.lemmas.Cmp.{nat_list_eq_equiv}
 use Rattle.std.proofs.lemmas.List.Elements.{filter-append}
 use Rattle.lemmas.proofs.Members.{Has-filter}
-use Rattle.nop_types.specs.Given.{Given, Packet, Ticked, Submit}
+use Rattle.nop_types.specs.Given.{Given, Packet, Ticked, Submit, Read}
+use Rattle.nop_types.specs.declared.datagram.Answer.{Answer}
 use Rattle.nop_types.specs.Lines.{Line}
 use Rattle.nop_types.specs.Lists.{Has}
 use Rattle.nop_types.specs.Meaning.{Meaning}
@@ -28,16 +29,16 @@ use Rattle.std.specs.Prelude.{nat_lt}
 use Rattle.network.specs.Network.{Sent, Did, Outputs, sends_of, sends_by, lines_by}
 use Rattle.world.specs.Others.{Kind, State, next, Others, seats, with_seat, Who, AReplica, Another, who, actor_at}
 use Rattle.world.specs.Seats.{Seated, Stimulus, Takes, Crashes, seated, moved_if, seat_step}
-use Rattle.world.specs.WorldSteps.{WorldState, Happened, Refusal, actor_of, tick_if, datagram_at, junk_of, stimulus_of, then_at}
+use Rattle.world.specs.WorldSteps.{WorldState, Happened, Refusal, actor_of, tick_if, read_if, datagram_at, junk_of, stimulus_of, then_at}
 use Rattle.world.specs.WorldSteps.{step_at, step_of, step, at_other}
-use Rattle.safety.specs.Following.{brought, sent_to, datagram_to, is_spoken, is_fragment, other_datagrams}
-use Rattle.safety.proofs.Beside.{Alike, is_replica}
+use Rattle.safety.specs.Following.{brought, sent_to, datagram_to, is_spoken, is_apart, other_datagrams}
+use Rattle.safety.proofs.Beside.{Alike, is_another}
 use Rattle.whole_world.specs.Whole as whole
-use Rattle.whole_world.specs.Whole.{WholeWorld, Brings, was_sent, given_if, junk_if, input_of, is_crash, at_seat, seat_of, lines_of}
+use Rattle.whole_world.specs.Whole.{WholeWorld, Brings, was_sent, given_if, junk_if, heard_if, input_of, is_crash, at_seat, seat_of, lines_of}
 use Rattle.whole_world.specs.Whole.{step_other, whole_step}
 use Rattle.safety.proofs.Sends.{AreOther, others_kept, lines_spoken, other_sends, other_ignores}
 
--- ---- what was sent in the real world and is no fragment was sent in the whole one
+-- ---- what was sent in the real world, neither a fragment nor an answer, was sent in the whole one
 
 finds : (bytes : List ℕ) (sent : List Sent) (s : Sent) → bytes_eq s.bytes bytes ≡ true → (i : ℕ) → slice_get sent i ≡ Some s
     → list_any (λ (x : Sent). bytes_eq x.bytes bytes) sent ≡ true
@@ -53,10 +54,10 @@ finds bytes (x ∷ xs) s same (suc i) at = later (bytes_eq x.bytes bytes) (finds
     later false h = h
 
 pub other_was_sent : (real sent : List Sent) (i : ℕ) (s : Sent) → other_datagrams real ≡ sent → slice_get real i ≡ Some s
-    → is_fragment (reading s.bytes) ≡ false → was_sent sent s.bytes ≡ true
+    → is_apart (reading s.bytes) ≡ false → was_sent sent s.bytes ≡ true
 other_was_sent real sent i s same at other =
-    let kept : Has (filter (λ (x : Sent). not (is_fragment (reading x.bytes))) real) s =
-    Has-filter (λ (x : Sent). not (is_fragment (reading x.bytes))) s real (i, at) (ap not other) in
+    let kept : Has (filter (λ (x : Sent). not (is_apart (reading x.bytes))) real) s =
+    Has-filter (λ (x : Sent). not (is_apart (reading x.bytes))) s real (i, at) (ap not other) in
     let found : Has sent s = subst (λ (xs : List Sent). Has xs s) same kept in
     finds s.bytes sent s (nat_list_eq_equiv.refl s.bytes) found.0 found.1
 
@@ -117,7 +118,7 @@ module _ {A : Type 0} (next : A → Given → A × List Out) where
     takes : (g : Given) (what : Stimulus) (b : Brings) → Takes g ≡ what → is_crash b ≡ false → input_of sent b ≡ Some g → Meets what b
     takes g what b e c i = subst (λ (x : Stimulus). Meets x b) e (c, inl i)
 
-    equal_meets : (i : ℕ) (s : Sent) → slice_get w.sent i ≡ Some s → is_fragment (reading s.bytes) ≡ false → (what : Stimulus)
+    equal_meets : (i : ℕ) (s : Sent) → slice_get w.sent i ≡ Some s → is_apart (reading s.bytes) ≡ false → (what : Stimulus)
         → Takes (Packet s.bytes) ≡ what → Meets what (whole.Equal s.bytes)
     equal_meets i s at other what e =
         takes (Packet s.bytes) what (whole.Equal s.bytes) e refl
@@ -128,14 +129,20 @@ module _ {A : Type 0} (next : A → Given → A × List Out) where
     unheard_meets s f r what e =
         subst (λ (x : Stimulus). Meets x whole.Nothing) e (refl, inr (refl, unheard s.bytes f r))
 
-    packet_meets : (a : Actor) → is_replica (who a) ≡ false → (i : ℕ) (s : Sent) → slice_get w.sent i ≡ Some s
+    heard_meets : (s : Sent) (x : Answer) → reading s.bytes ≡ Ok (datagrams.Answer x) → (what : Stimulus)
+        → Takes (Packet s.bytes) ≡ what → Meets what (whole.Heard s.bytes)
+    heard_meets s x r what e =
+        takes (Packet s.bytes) what (whole.Heard s.bytes) e refl (ap (λ (y : Result Datagram Bad). heard_if y s.bytes) r)
+
+    packet_meets : (a : Actor) → is_another (who a) ≡ true → (i : ℕ) (s : Sent) → slice_get w.sent i ≡ Some s
         → (r : Result Datagram Bad) → reading s.bytes ≡ r → (what : Stimulus) → Takes (Packet s.bytes) ≡ what
         → Meets what (datagram_to w a s.bytes r)
     packet_meets (actors.Replica k) other i s at r is what e = absurd cc
     packet_meets _ other i s at (Ok (datagrams.Fragment f)) is what e = unheard_meets s f is what e
-    packet_meets a other i s at _ is what e = equal_meets i s at (ap is_fragment is) what e
+    packet_meets _ other i s at (Ok (datagrams.Answer x)) is what e = heard_meets s x is what e
+    packet_meets a other i s at _ is what e = equal_meets i s at (ap is_apart is) what e
 
-    sent_meets : (a : Actor) → is_replica (who a) ≡ false → (i : ℕ) (o : Option Sent) → slice_get w.sent i ≡ o → (what : Stimulus)
+    sent_meets : (a : Actor) → is_another (who a) ≡ true → (i : ℕ) (o : Option Sent) → slice_get w.sent i ≡ o → (what : Stimulus)
         → datagram_at i (length w.sent) o ≡ Ok what → Meets what (sent_to w a o)
     sent_meets a other i None at what e = absurd cc
     sent_meets a other i (Some s) at what e =
@@ -145,6 +152,12 @@ module _ {A : Type 0} (next : A → Given → A × List Out) where
     tick_meets false tick what e = absurd cc
     tick_meets true tick what e = let is : Takes (Ticked tick) ≡ what = cc in takes (Ticked tick) what (whole.Timer tick) is refl refl
 
+    read_meets : (b : Bool) (observer : ℕ) (key : List ℕ) (what : Stimulus) → read_if b observer key ≡ Ok what
+        → Meets what (whole.Ask observer key)
+    read_meets false observer key what e = absurd cc
+    read_meets true observer key what e =
+        let is : Takes (Read observer key) ≡ what = cc in takes (Read observer key) what (whole.Ask observer key) is refl refl
+
     junk_meets : (bytes : List ℕ) (r : Result Datagram Bad) → reading bytes ≡ r → (what : Stimulus) → junk_of bytes r ≡ Ok what
         → Meets what (whole.Junk bytes)
     junk_meets bytes (Ok d) is what e = absurd cc
@@ -152,7 +165,7 @@ module _ {A : Type 0} (next : A → Given → A × List Out) where
         let got : Takes (Packet bytes) ≡ what = cc in
         takes (Packet bytes) what (whole.Junk bytes) got refl (ap (λ (x : Result Datagram Bad). junk_if x bytes) is)
 
-    event_meets : (e : Event) → is_replica (who (actor_of e)) ≡ false → (what : Stimulus) → stimulus_of w.config w.sent e ≡ Ok what
+    event_meets : (e : Event) → is_another (who (actor_of e)) ≡ true → (what : Stimulus) → stimulus_of w.config w.sent e ≡ Ok what
         → Meets what (brought w e)
     unfolding stimulus_of
     event_meets (events.Submit number op) other what is =
@@ -160,6 +173,7 @@ module _ {A : Type 0} (next : A → Given → A × List Out) where
     event_meets (events.Deliver index actor) other what is = sent_meets actor other index (slice_get w.sent index) refl what is
     event_meets (events.Tick actor tick) other what is = tick_meets (takes_tick actor tick) tick what is
     event_meets (events.Install k j) other what is = tick_meets (nat_lt j w.config.sequencers) (ticks.Install j) what is
+    event_meets (events.Read client observer key) other what is = read_meets (nat_lt observer w.config.observers) observer key what is
     event_meets (events.Crash actor) other what is = let got : Crashes ≡ what = cc in
         subst (λ (x : Stimulus). Meets x whole.Crash) got refl
     event_meets (events.Junk actor bytes) other what is = junk_meets bytes (reading bytes) refl what is
@@ -172,7 +186,7 @@ module _ {S : Type 0} (m : Meaning S) (t : WorldState) (ls : List Line) (w : Who
       ∙ ap (λ (x : List Line). x ++ filter is_spoken more) f.lines ∙ ap (λ (x : List Line). w.lines ++ x) e
 
   pub sends_go_on : (more : List Sent) (sent : List Sent) → other_datagrams more ≡ sent → other_datagrams (t.sent ++ more) ≡ w.sent ++ sent
-  sends_go_on more sent e = filter-append (λ (s : Sent). not (is_fragment (reading s.bytes))) t.sent more
+  sends_go_on more sent e = filter-append (λ (s : Sent). not (is_apart (reading s.bytes))) t.sent more
       ∙ ap (λ (x : List Sent). x ++ other_datagrams more) f.sent ∙ ap (λ (x : List Sent). w.sent ++ x) e
 
   abbrev After : Happened → WholeWorld → Type 0
@@ -202,18 +216,18 @@ module _ {S : Type 0} (m : Meaning S) (t : WorldState) (ls : List Line) (w : Who
       (other_after k i (seat_step (next k) p what) (seat_of (next k) p g (input_of w.sent g))
       (alike (next k) (other_sends k) (actor_at (Another k i)) p what g (input_of w.sent g) (meets what refl)))
 
-  by_actor : (e : Event) (x : Who) → who (actor_of e) ≡ x → is_replica x ≡ false → (h : Happened)
+  by_actor : (e : Event) (x : Who) → who (actor_of e) ≡ x → is_another x ≡ true → (h : Happened)
       → step_of m t x (stimulus_of t.config t.sent e) ≡ Ok h → After h (whole.step_of m w x (brought t e))
   by_actor e (AReplica i) is other h at = absurd cc
   by_actor e (Another k i) is other h at =
       subst (λ (o : Others). After h (step_other k w i (slice_get (seats k o) i) (brought t e))) f.others
       (other_step k i (slice_get (seats k t.others) i) (stimulus_of t.config t.sent e) (brought t e) h
-      (event_meets (next k) (other_ignores k) t w.sent f.sent e (ap is_replica is)) at)
+      (event_meets (next k) (other_ignores k) t w.sent f.sent e (ap is_another is)) at)
   by_actor e _ is other h at = absurd cc
 
--- what comes to an actor that is no replica
+-- what comes to a sequencer, a client or a controller
 pub others_follow : {S : Type 0} (m : Meaning S) (t : WorldState) (ls : List Line) (w : WholeWorld) (e : Event) (h : Happened)
-    → Alike m t ls w → is_replica (who (actor_of e)) ≡ false → step m t e ≡ Ok h
+    → Alike m t ls w → is_another (who (actor_of e)) ≡ true → step m t e ≡ Ok h
     → Alike m h.world (ls ++ h.lines) (whole_step m w (actor_of e) (brought t e))
 unfolding step
 others_follow m t ls w e h f other at = by_actor m t ls w f e (who (actor_of e)) refl other h at

@@ -29,7 +29,7 @@ use Rattle.replica_state.specs.declared.sending.Sending.TheVariants.{ToClient, T
 use Rattle.replica_state.specs.Sends.{SendingFits, message_count}
 use Rattle.network.specs.Network.{Sent, sends_of}
 use Rattle.network.proofs.LineLemmas.{sends_of-append}
-use Rattle.safety.specs.Following.{is_fragment, other_datagrams}
+use Rattle.safety.specs.Following.{is_apart, other_datagrams}
 use Rattle.whole_world.specs.Whole.{replies_in}
 use Rattle.safety.proofs.Sends.{one_kept, reply_is}
 
@@ -55,7 +55,7 @@ can_be_cut p number fits low high = record {
   few = not_more (piece_count (peer.spelling p)) MAX_FRAGMENTS (λ more. message_is_cut p fits (inr more));
 }
 
-one_gone : (s : Sent) (b : Bool) (xs : List Sent) → b ≡ true → xs ≡ [] → cond (not b) (s ∷ xs) xs ≡ []
+pub one_gone : (s : Sent) (b : Bool) (xs : List Sent) → b ≡ true → xs ≡ [] → cond (not b) (s ∷ xs) xs ≡ []
 one_gone s true xs e none = none
 one_gone s false xs e none = absurd cc
 
@@ -64,8 +64,8 @@ fragments_gone : (from : Actor) (dest : Dest) (fs : List Fragment) → EachFits 
 fragments_gone from dest [] h = refl
 fragments_gone from dest (f ∷ fs) h =
     one_gone (record { from = from; dest = dest; bytes = datagram.spelling (datagrams.Fragment f) })
-    (is_fragment (reading (datagram.spelling (datagrams.Fragment f)))) (other_datagrams (sends_of from (cutting.sends_of dest fs)))
-    (ap is_fragment (reads_again (datagrams.Fragment f) (h.each f (0, refl)))) (fragments_gone from dest fs (rest_fits f fs h))
+    (is_apart (reading (datagram.spelling (datagrams.Fragment f)))) (other_datagrams (sends_of from (cutting.sends_of dest fs)))
+    (ap is_apart (reads_again (datagrams.Fragment f) (h.each f (0, refl)))) (fragments_gone from dest fs (rest_fits f fs h))
 
 message_gone : (from : Actor) (number : ℕ) (dest : Dest) (p : Peer) → PeerFits p → 1 ≤ number → number < 2 ^ 64
     → other_datagrams (sends_of from (message_outs number dest p)) ≡ []
@@ -80,13 +80,13 @@ unfolding posted
 posted_others from number [] fits high = refl
 posted_others from number (ToClient r ∷ sends) fits high =
     one_kept (record { from = from; dest = dests.One (actors.Client r.client); bytes = datagram.spelling (datagrams.Reply r) })
-    (is_fragment (reading (datagram.spelling (datagrams.Reply r)))) (other_datagrams (sends_of from (posted number sends)))
+    (is_apart (reading (datagram.spelling (datagrams.Reply r)))) (other_datagrams (sends_of from (posted number sends)))
     (sends_of from (replies_in sends)) (reply_is r) (posted_others from number sends fits.1 high)
 posted_others from number (ToReplicas dest p ∷ sends) fits high =
     let here : List Out = message_outs (number + 1) dest p in
     let rest : List Out = posted (number + 1) sends in
     ap other_datagrams (sends_of-append from here rest)
-    ∙ filter-append (λ (s : Sent). not (is_fragment (reading s.bytes))) (sends_of from here) (sends_of from rest)
+    ∙ filter-append (λ (s : Sent). not (is_apart (reading s.bytes))) (sends_of from here) (sends_of from rest)
     ∙ ap (λ (xs : List Sent). xs ++ other_datagrams (sends_of from rest))
     (message_gone from (number + 1) dest p fits.0 (omega arith) (omega (arith, high)))
     ∙ posted_others from (number + 1) sends fits.1 (omega (arith, high))

@@ -11,6 +11,7 @@ use Rattle.std.proofs.lemmas.List.{append-nil, map-append}
 use Rattle.nop_types.specs.Given.{Given, Packet, Ticked}
 use Rattle.nop_types.specs.Lines.{Line}
 use Rattle.nop_types.specs.Meaning.{Meaning}
+use Rattle.nop_types.specs.declared.datagram.Answer.{Answer}
 use Rattle.nop_types.specs.declared.datagram.Datagram.{Datagram}
 use Rattle.nop_types.specs.declared.datagram.Datagram.TheVariants as datagrams
 use Rattle.nop_types.specs.declared.datagram.Fragment.{Fragment}
@@ -50,11 +51,11 @@ use Rattle.schedule_text.specs.declared.event.Event.{Event}
 use Rattle.schedule_text.specs.declared.event.Event.TheVariants as events
 use Rattle.network.specs.Network.{Sent, Did, Nothing, Outputs, sends_of, sends_by, lines_by}
 use Rattle.world.specs.Seats.{Seated, Stimulus, Takes, Crashes, seated, moved_if, seat_step}
-use Rattle.world.specs.WorldSteps.{WorldState, Happened, Refusal, actor_of, tick_if, datagram_at, junk_of, stimulus_of, then_at, step_at}
+use Rattle.world.specs.WorldSteps.{WorldState, Happened, Refusal, actor_of, tick_if, read_if, datagram_at, junk_of, stimulus_of, then_at, step_at}
 use Rattle.world.specs.Others.{who}
 use Rattle.world.specs.WorldSteps.{step_of, step, at_replica}
 use Rattle.world.proofs.Places.{slice_set-found}
-use Rattle.safety.specs.Following.{brought, sent_to, datagram_to, fragment_at, fragment_if, completes, is_spoken, is_fragment, other_datagrams}
+use Rattle.safety.specs.Following.{brought, sent_to, datagram_to, fragment_at, fragment_if, completes, is_spoken, is_fragment, is_apart, other_datagrams}
 use Rattle.safety.specs.Following.{plain, trimmed_seat, trimmed_letter}
 use Rattle.safety.specs.Following.{bytes_of, JoinsTrimmed}
 use Rattle.safety.proofs.Beside.{Alike, Travels, real_letters}
@@ -68,7 +69,7 @@ use Rattle.whole_world.specs.Whole.{WholeReplica, WholeWorld, Letter, Brings, gi
 use Rattle.whole_world.specs.Whole.{whole_step, step_replica, effect_of, arrival_of, arrival_given, arrival_read, message_if}
 use Rattle.safety.proofs.Others.{other_was_sent, lines_go_on, sends_go_on}
 use Rattle.safety.proofs.Posted.{posted_others}
-use Rattle.safety.proofs.Sends.{lines_spoken}
+use Rattle.safety.proofs.Sends.{lines_spoken, no_fragment}
 use Rattle.safety.proofs.Travels.{travels_quiet, travels_row}
 
 -- ---- the lists of replicas
@@ -285,11 +286,16 @@ module _ {S : Type 0} (m : Meaning S) (t : WorldState) (ls : List Line) (v : Who
     )
 
     equal_goes : (k : ℕ) (x : Sent) → slice_get t.sent k ≡ Some x → (r : Result Datagram Bad) → reading x.bytes ≡ r
-        → is_fragment r ≡ false → Goes (Packet x.bytes) (whole.Equal x.bytes)
+        → is_apart r ≡ false → Goes (Packet x.bytes) (whole.Equal x.bytes)
     equal_goes k x at r is c =
-        bytes_go (whole.Equal x.bytes) x.bytes r is c refl
+        bytes_go (whole.Equal x.bytes) x.bytes r is (no_fragment r c) refl
         (ap (λ (y : Bool). arrival_given (given_if y x.bytes))
-        (other_was_sent t.sent v.sent k x follows.sent at (ap is_fragment is ∙ c)))
+        (other_was_sent t.sent v.sent k x follows.sent at (ap is_apart is ∙ c)))
+
+    -- an answer is for clients
+    heard_goes : (x : Sent) (a : Answer) → reading x.bytes ≡ Ok (datagrams.Answer a) → Goes (Packet x.bytes) (whole.Heard x.bytes)
+    heard_goes x a is =
+        bytes_go (whole.Heard x.bytes) x.bytes (Ok (datagrams.Answer a)) is refl refl (sym (ap arrival_read is))
 
     fragment_goes : (x : Sent) (f : Fragment) → reading x.bytes ≡ Ok (datagrams.Fragment f)
         → ((bytes : List ℕ) → (taken s.reassembly f).1 ≡ Some bytes → JoinsTrimmed m v f bytes)
@@ -310,6 +316,7 @@ module _ {S : Type 0} (m : Meaning S) (t : WorldState) (ls : List Line) (v : Who
         → ((f : Fragment) (bytes : List ℕ) → reading x.bytes ≡ Ok (datagrams.Fragment f) → (taken s.reassembly f).1 ≡ Some bytes
         → JoinsTrimmed m v f bytes) → Goes (Packet x.bytes) (datagram_to t (actors.Replica i) x.bytes r)
     packet_goes k x at (Ok (datagrams.Fragment f)) is joins = fragment_goes x f is (λ bytes. joins f bytes is)
+    packet_goes k x at (Ok (datagrams.Answer a)) is joins = heard_goes x a is
     packet_goes k x at d is joins = equal_goes k x at d is refl
 
     sent_goes : (k : ℕ) (o : Option Sent) → slice_get t.sent k ≡ o → (g : Given) → datagram_at k (length t.sent) o ≡ Ok (Takes g)
@@ -356,6 +363,10 @@ module _ {S : Type 0} (m : Meaning S) (t : WorldState) (ls : List Line) (v : Who
   tick_crashes true tick is = absurd cc
   tick_crashes false tick is = absurd cc
 
+  read_crashes : (c : Bool) (observer : ℕ) (key : List ℕ) → read_if c observer key ≡ Ok Crashes → ⊥
+  read_crashes true observer key is = absurd cc
+  read_crashes false observer key is = absurd cc
+
   junk_crashes : (bytes : List ℕ) (r : Result Datagram Bad) → junk_of bytes r ≡ Ok Crashes → ⊥
   junk_crashes bytes (Ok d) is = absurd cc
   junk_crashes bytes (Err bad) is = absurd cc
@@ -366,6 +377,7 @@ module _ {S : Type 0} (m : Meaning S) (t : WorldState) (ls : List Line) (v : Who
   crash_brings (events.Deliver k actor) is = absurd (sent_crashes k (length t.sent) (slice_get t.sent k) is)
   crash_brings (events.Tick actor tick) is = absurd (tick_crashes (takes_tick actor tick) tick is)
   crash_brings (events.Install k j) is = absurd (tick_crashes (nat_lt j t.config.sequencers) (ticks.Install j) is)
+  crash_brings (events.Read client observer key) is = absurd (read_crashes (nat_lt observer t.config.observers) observer key is)
   crash_brings (events.Crash actor) is = refl
   crash_brings (events.Junk actor bytes) is = absurd (junk_crashes bytes (reading bytes) is)
 
@@ -376,11 +388,14 @@ module _ {S : Type 0} (m : Meaning S) (t : WorldState) (ls : List Line) (v : Who
     abbrev from : Actor
     from = actors.Replica i
 
-    -- both worlds after an event, and what was added to the archive
+    -- both worlds after an event, and what was added to the archive and to the network
     pub record After (h : Happened) (u : WholeWorld) (sends : List Sending) : Type 0 where
       pub alike : Alike m h.world (ls ++ h.lines) u
       pub travels : Travels h.world.sent h.world.replicas (real_letters m u)
       pub archive : h.world.archive ≡ with_sends t.archive sends
+      pub posted : List Sent
+      pub sent : h.world.sent ≡ t.sent ++ posted
+      pub observers : h.world.observers ≡ t.observers
 
     abbrev pub row_of : Event → Effect
     row_of e = effect_of m q.state (arrival_of v (brought t e))
@@ -435,6 +450,9 @@ module _ {S : Type 0} (m : Meaning S) (t : WorldState) (ls : List Line) (v : Who
       };
       travels = carries;
       archive = archive;
+      posted = sends_by from x.1;
+      sent = refl;
+      observers = refl;
     }
 
     -- where nothing is sent

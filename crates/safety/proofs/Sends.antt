@@ -1,4 +1,5 @@
--- What an actor that is no replica sends is no fragment, and its lines are those of which the whole world speaks.
+-- What a sequencer, a client or a controller sends is neither a fragment nor an answer, and its lines are those of which the whole
+-- world speaks.
 use Rattle.std.proofs.Common.{◌≡◌, ℕ, ◌+◌, Bool, true, false, cond, List, [], ◌∷◌, ◌++◌, Option, Some, None, map, refl, ap}
 use Rattle.std.specs.Prelude.{Result, Ok, Err, not, filter, ⊤}
 use Rattle.nop_types.specs.Given.{Given, Packet, Ticked}
@@ -37,13 +38,17 @@ use Rattle.session_control.specs.ControllerSteps as controller
 use Rattle.session_control.specs.declared.state.ControllerState.{ControllerState}
 use Rattle.network.specs.Network.{Sent, sends_of, lines_from}
 use Rattle.world.specs.Others.{Kind, Sequencers, Clients, Controllers, State, next}
-use Rattle.safety.specs.Following.{is_spoken, is_fragment, other_datagrams}
+use Rattle.safety.specs.Following.{is_spoken, is_fragment, is_apart, other_datagrams}
 use Rattle.whole_world.specs.Whole.{lines_of}
 
--- ---- datagrams of the other kinds are no fragments, in whatever ranges
+-- ---- datagrams of the other kinds, in whatever ranges
+
+pub no_fragment : (r : Result Datagram Bad) → is_apart r ≡ false → is_fragment r ≡ false
+no_fragment (Ok (datagrams.Fragment f)) e = absurd cc
+no_fragment _ e = refl
 
 abbrev IsOther : Result Datagram Bad → Type 0
-IsOther r = is_fragment r ≡ false
+IsOther r = is_apart r ≡ false
 
 then_other : {A : Type 0} (r : Result A Bad) (next : A → Result Datagram Bad) → ((x : A) → IsOther (next x)) → IsOther (r >>= next)
 then_other (Ok x) next h = h x
@@ -126,7 +131,7 @@ pub read_is : (r : Read) → IsOther (reading (spelling (datagrams.Read r)))
 unfolding reading
 read_is r = read_other (read_bytes r)
 
--- ---- outputs without fragments
+-- ---- outputs without fragments and answers
 
 abbrev pub AreOther : List Out → Type 0
 AreOther [] = ⊤
@@ -145,7 +150,7 @@ one_kept s false xs ys e same = ap (λ (zs : List Sent). s ∷ zs) same
 pub others_kept : (from : Actor) (os : List Out) → AreOther os → other_datagrams (sends_of from os) ≡ sends_of from os
 others_kept from [] h = refl
 others_kept from (outs.Send dest bytes ∷ rest) h =
-    one_kept (record { from = from; dest = dest; bytes = bytes }) (is_fragment (reading bytes)) (other_datagrams (sends_of from rest))
+    one_kept (record { from = from; dest = dest; bytes = bytes }) (is_apart (reading bytes)) (other_datagrams (sends_of from rest))
     (sends_of from rest) h.0 (others_kept from rest h.1)
 others_kept from (_ ∷ rest) h = others_kept from rest h
 

@@ -1,25 +1,34 @@
 -- Each run is safe: the whole world is, and the real one follows it.
-use Rattle.std.proofs.Common.{◌≡◌, ℕ, zero, suc, ◌+◌, ◌≤◌, true, Some, refl, sym, ap, subst, ◌∙◌, arith, length, List, [], ◌∷◌, ◌++◌}
-use Rattle.std.proofs.Common.{take, drop}
-use Rattle.std.specs.Prelude.{Result, Ok, Err, slice_get}
+use Rattle.std.proofs.Common.{◌≡◌, ℕ, zero, suc, ◌+◌, ◌≤◌, ◌<◌, true, Option, Some, None, refl, sym, ap, subst, ◌∙◌, arith}
+use Rattle.std.proofs.Common.{length, List, [], ◌∷◌, ◌++◌, take, drop}
+use Rattle.std.specs.Prelude.{Result, Ok, Err, ◌^◌, slice_get}
 use Rattle.std.proofs.lemmas.List.{drop_all}
 use Rattle.nop_types.specs.Checkpoints.{KeepsTo}
 use Rattle.nop_types.specs.Configuration.{Configuration, is_configuration}
 use Rattle.nop_types.specs.Histories.{history_of}
 use Rattle.nop_types.specs.Legality.{Legal}
 use Rattle.nop_types.specs.Lines.{Line}
+use Rattle.nop_types.specs.Logs.{Log, Trimmed, length_of}
 use Rattle.nop_types.specs.Meaning.{Meaning}
+use Rattle.nop_types.specs.Views.{leader_of}
+use Rattle.nop_types.specs.declared.limits.TheConstants.{MAX_LENGTH}
 use Rattle.nop_types.specs.declared.output.Actor.{Actor}
+use Rattle.nop_types.specs.declared.request.Entry.{Entry}
 use Rattle.lemmas.proofs.Places.{Splits-at}
 use Rattle.execution_laws.proofs.Shortness.{result_fits}
+use Rattle.trimming.specs.Trimming.{trim}
+use Rattle.trimming.proofs.Logs.{length_trims}
+use Rattle.replica_core.specs.ReplicaSteps.{Replica}
+use Rattle.read_laws.proofs.Runs.{runs_receive, runs_read_right}
 use Rattle.replica_rows.specs.Within.{ResultsShort}
 use Rattle.schedule_text.specs.declared.event.Event.{Event}
 use Rattle.schedule_text.specs.Fits.{EventFits, EventsFit}
+use Rattle.world.specs.Archive.{with_archive}
 use Rattle.world.specs.Seats.{Seated}
 use Rattle.world.specs.SeatOutcomes.{Refuses}
 use Rattle.world.specs.Agreement.{Agreed}
 use Rattle.world.specs.WorldSteps as world
-use Rattle.world.specs.WorldSteps.{WorldState, Happened, Refusal, step, go_on, run_from, history}
+use Rattle.world.specs.WorldSteps.{WorldState, Happened, Refusal, step, go_on, run_from, main_log, main_view, log_of, history}
 use Rattle.world.specs.declared.step_error.StepError.{StepError}
 use Rattle.world.specs.declared.step_error.StepError.TheVariants as errors
 use Rattle.whole_world.specs.Passed as whole_passed
@@ -30,10 +39,13 @@ use Rattle.whole_world.specs.Whole.{WholeReplica, WholeWorld, Brings, whole_run}
 use Rattle.whole_world.proofs.Safe.{whole_runs_are_safe}
 use Rattle.whole_world.proofs.Trimming.{safe_can_trim}
 use Rattle.safety.specs.Following.{spoken, plain, trimmed_seat, all_brought, whole_after, FollowsWhole, RunsFollowWhole}
+use Rattle.safety.specs.Observers.{ObserversReadTheHistory}
+use Rattle.safety.specs.Reads.{Reads}
 use Rattle.safety.specs.Safe.{Followed, SafelyPassed, RunsAreSafe, LeadTo, IsRefusedBy, Running}
 use Rattle.safety.proofs.Agreement.{agree}
 use Rattle.safety.proofs.Following.{Both, Front, Follows, world_after, run_follows}
 use Rattle.safety.proofs.KeptLogs.{IsKept, real_is_whole, same_text, main_same}
+use Rattle.safety.proofs.Observed.{came_reads, received_is_right, received_reads}
 use Rattle.safety.proofs.Replicas.{WholeSeat, whole_seat}
 use Rattle.safety.proofs.SpokenLines.{legal_with_all}
 use Rattle.safety.proofs.Travels.{joins_trimmed}
@@ -124,7 +136,44 @@ module _ {S : Type 0} (m : Meaning S) (IsSound : S → Type 0) (keeps : KeepsTo 
         let f : FollowsWhole m h w = follows_at bs h.world h.lines follows.both in
         agree m h.world w f.replicas f.logs f.main at_last.agreed
 
+    -- ---- reads
+
+    -- the main log has fewer than 2^32 slots
+    log_few : (i : ℕ) (o : Option (Seated Replica)) → slice_get h.world.replicas i ≡ o → length (log_of h.world.archive o) < 2 ^ 32
+    log_few i None found = omega arith
+    log_few i (Some p) found =
+        let bs : List (Actor × Brings) = all_brought m config es in
+        let w : WholeWorld = world_after m config bs in
+        let both : Both m config h.world h.lines bs = follows.both in
+        let x : WholeSeat m w.replicas i p = whole_seat m h.world.replicas w.replicas i p both.beside.alike.replicas found in
+        let k : IsKept h.world.archive x.seat = kept bs h.world h.lines both i x.seat x.there in
+        let l : Log = x.seat.state.state.log in
+        let log : p.state.state.log ≡ trim m l = ap (λ (q : Seated WholeReplica). q.state.state.log) x.same in
+        let all : with_archive h.world.archive p.state.state.log ≡ l.entries = real_is_whole m h.world.archive p x.seat x.same k in
+        let len : length_of Trimmed (trim m l) ≡ length l.entries =
+        length_trims m l (let a = k.points in let b = k.within in omega (arith, a, b)) in
+        let limit : length_of Trimmed p.state.state.log ≤ MAX_LENGTH = (both.beside.travels.members i p found).within.log.limit in
+        let same : length (with_archive h.world.archive p.state.state.log) ≡ length_of Trimmed p.state.state.log =
+        ap (λ (xs : List Entry). length xs) all ∙ sym len ∙ ap (λ (y : Log). length_of Trimmed y) (sym log) in
+        omega (arith, same, limit)
+
+    main_few : length (main_log h.world) < 2 ^ 32
+    unfolding main_log
+    main_few =
+        log_few (leader_of (main_view h.world) h.world.config.replicas)
+        (slice_get h.world.replicas (leader_of (main_view h.world) h.world.config.replicas)) refl
+
+    reads : Reads m config at_last.conf h
+    reads = record {
+      lines = runs_read_right m IsSound keeps config es h (main_log h.world) is fit e
+          (record { few = main_few; right = received_reads m IsSound keeps config es h at_last follows_whole });
+      received = runs_receive m config es h is fit e;
+      observers = λ i p at. received_is_right m IsSound keeps config es h at_last follows_whole i p.state
+          (runs_receive m config es h is fit e i p at);
+    }
+
     pub safely : SafelyPassed m config es h
+    unfolding at_last safe_at
     safely = record {
       whole = whole_runs_are_safe m short config (all_brought m config es) is follows.both.fits;
       follows = follows_whole;
@@ -133,6 +182,7 @@ module _ {S : Type 0} (m : Meaning S) (IsSound : S → Type 0) (keeps : KeepsTo 
         agreed = agreed;
         legal = legal;
       };
+      reads = reads;
     }
 
 pub runs_are_safe : {S : Type 0} (m : Meaning S) (IsSound : S → Type 0) → KeepsTo m IsSound → RunsAreSafe m
@@ -140,6 +190,11 @@ runs_are_safe m IsSound keeps config es h is fit e = safely m IsSound keeps conf
 
 pub runs_follow_whole : {S : Type 0} (m : Meaning S) (IsSound : S → Type 0) → KeepsTo m IsSound → RunsFollowWhole m
 runs_follow_whole m IsSound keeps config es h is fit e = follows_whole m IsSound keeps config is es h fit e
+
+pub observers_read_the_history : {S : Type 0} (m : Meaning S) (IsSound : S → Type 0) → KeepsTo m IsSound → ObserversReadTheHistory m
+observers_read_the_history m IsSound keeps config es h is fit e i came may =
+    let p : SafelyPassed m config es h = runs_are_safe m IsSound keeps config es h is fit e in
+    came_reads m IsSound keeps config es h p.whole.at_last p.follows i came may
 
 -- ---- the loop over the events
 

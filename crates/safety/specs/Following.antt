@@ -33,8 +33,8 @@ use Rattle.world.specs.WorldSteps.{WorldState, Happened, Refusal, actor_of, step
 use Rattle.network_laws.specs.Network.{fragments_among, Network}
 use Rattle.whole_world.specs.Shows.{peers_of}
 use Rattle.whole_world.specs.Whole as whole
-use Rattle.whole_world.specs.Whole.{WholeReplica, WholeWorld, Letter, Brings, Nothing, Op, Timer, Junk, Equal}
-use Rattle.whole_world.specs.Whole.{Message, Crash, letter_of, whole_run}
+use Rattle.whole_world.specs.Whole.{WholeReplica, WholeWorld, Letter, Brings, Nothing, Op, Ask, Timer, Junk, Equal}
+use Rattle.whole_world.specs.Whole.{Heard, Message, Crash, letter_of, whole_run}
 
 -- ---- what an event delivers
 
@@ -57,21 +57,23 @@ abbrev pub fragment_to : WorldState → Actor → Fragment → Brings
 fragment_to t (actors.Replica i) f = fragment_at (slice_get t.replicas i) f
 fragment_to t _ f = Nothing
 
--- any other datagram brings itself
+-- an answer is heard, as from nowhere; any other datagram brings itself
 abbrev pub datagram_to : WorldState → Actor → List ℕ → Result Datagram Bad → Brings
 datagram_to t a bytes (Ok (datagrams.Fragment f)) = fragment_to t a f
+datagram_to t a bytes (Ok (datagrams.Answer x)) = Heard bytes
 datagram_to t a bytes _ = Equal bytes
 
 abbrev pub sent_to : WorldState → Actor → Option Sent → Brings
 sent_to t a None = Nothing
 sent_to t a (Some s) = datagram_to t a s.bytes (reading s.bytes)
 
--- by the world before the event
+-- by the world before the event; what comes to an observer changes nothing there
 abbrev pub brought : WorldState → Event → Brings
 brought t (events.Submit client op) = Op op
 brought t (events.Deliver index actor) = sent_to t actor (slice_get t.sent index)
 brought t (events.Tick actor tick) = Timer tick
 brought t (events.Install controller sequencer) = Timer (ticks.Install sequencer)
+brought t (events.Read client observer key) = Ask observer key
 brought t (events.Crash actor) = Crash
 brought t (events.Junk actor bytes) = Junk bytes
 
@@ -109,9 +111,15 @@ abbrev pub is_fragment : Result Datagram Bad → Bool
 is_fragment (Ok (datagrams.Fragment f)) = true
 is_fragment _ = false
 
--- the datagrams that are no fragments, in their order
+-- of which the whole world has none: fragments, and answers of observers
+abbrev pub is_apart : Result Datagram Bad → Bool
+is_apart (Ok (datagrams.Fragment f)) = true
+is_apart (Ok (datagrams.Answer a)) = true
+is_apart _ = false
+
+-- the others, in their order
 abbrev pub other_datagrams : List Sent → List Sent
-other_datagrams sent = filter (λ s. not (is_fragment (reading s.bytes))) sent
+other_datagrams sent = filter (λ s. not (is_apart (reading s.bytes))) sent
 
 -- ---- replicas
 
@@ -162,7 +170,7 @@ pub record CarriesLetters (bytes : List (List ℕ)) (used : ℕ → ℕ) (letter
 pub record FollowsWhole {S : Type 0} (m : Meaning S) (h : Happened) (w : WholeWorld) : Type 0 where
   -- lines that submit, accept, or find a client busy
   pub lines : spoken h.lines ≡ w.lines
-  -- datagrams that are no fragments; so the replies
+  -- datagrams that are neither fragments nor answers of observers; so the replies
   pub sent : other_datagrams h.world.sent ≡ w.sent
   -- and the fragments, which carry the letters with their logs trimmed; `used` gives the last message number that each replica used,
   -- which is its counter

@@ -1,2 +1,4 @@
 pub mod Following
+pub mod Observers
+pub mod Reads
 pub mod Safe

@@ -14,6 +14,7 @@ use Rattle.world.specs.declared.step_error.StepError.TheVariants as errors
 use Rattle.whole_world.specs.Safe.{IsSafeThroughout}
 use Rattle.whole_world.specs.Whole.{Brings}
 use Rattle.safety.specs.Following.{all_brought, whole_after, FollowsWhole}
+use Rattle.safety.specs.Reads.{Reads}
 
 -- replicas agree as far as they are synchronised, and what was accepted is of the one history
 pub record Safe {S : Type 0} (m : Meaning S) (h : Happened) : Type 0 where
@@ -35,6 +36,8 @@ pub record SafelyPassed {S : Type 0} (m : Meaning S) (config : Configuration) (e
   pub follows : FollowsWhole m h (whole_after m config es)
   pub before : (prefix rest : List Event) → es ≡ prefix ++ rest → Followed m config es prefix
   pub safe : Safe m h
+  -- what was read is right, and so is each observer
+  pub reads : Reads m config whole.at_last.conf h
 
 -- for every list of events that are not refused
 abbrev pub RunsAreSafe : {S : Type 0} → Meaning S → Type 0

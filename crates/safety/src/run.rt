@@ -1,6 +1,7 @@
 ghost use Rattle.std.specs.Prelude.{◌≡◌, IfOk, IfErr, false};
 ghost use Rattle.world.specs.WorldSteps.{run};
 ghost use Rattle.safety.specs.Following.{RunsFollowWhole};
+ghost use Rattle.safety.specs.Observers.{ObserversReadTheHistory};
 ghost use Rattle.safety.specs.Safe.{RunsAreSafe, LeadTo, IsRefusedBy};
 
 use nop_types::{Config, Host};
@@ -39,4 +40,10 @@ pub fn runs_are_safe<H: Host>()
 /// trimmed: its checkpoint is the execution of the entries up to the sync point, and the others are kept.
 pub fn runs_follow_whole<H: Host>()
     ensures { RunsFollowWhole H.meaning }
+{}
+
+/// At the end of each run: an observer that took any of what was sent, in any order and any number of times, answers each read as a
+/// map does after those members of the history that stand in the first slots of the main log, up to its position.
+pub fn observers_read_the_history<H: Host>()
+    ensures { ObserversReadTheHistory H.meaning }
 {}

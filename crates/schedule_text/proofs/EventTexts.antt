@@ -10,19 +10,20 @@ use Rattle.hex.specs.Hex.{IsBytes}
 use Rattle.nop_types.specs.Configuration.{Configuration}
 use Rattle.nop_types.specs.declared.input.Tick.{Tick}
 use Rattle.nop_types.specs.declared.input.Tick.TheVariants as ticks
-use Rattle.nop_types.specs.declared.limits.TheConstants.{MAX_LINES, MAX_LINE_BYTES, MAX_OP_BYTES, MAX_DATAGRAM_BYTES}
+use Rattle.nop_types.specs.declared.limits.TheConstants.{MAX_LINES, MAX_LINE_BYTES, MAX_KEY_BYTES, MAX_OP_BYTES, MAX_DATAGRAM_BYTES}
 use Rattle.nop_types.specs.declared.output.Actor.{Actor}
 use Rattle.nop_types.specs.declared.output.Actor.TheVariants as actors
 use Rattle.schedule_text.specs.declared.event.Event.{Event}
 use Rattle.schedule_text.specs.declared.event.Event.TheVariants as events
 use Rattle.schedule_text.specs.EventText.{HasWord, HasLine, tick_text, event_text, IsEventOf, Means}
 use Rattle.line_fields.specs.Fields.{IsActorOf}
-use Rattle.schedule_text.specs.EventText.{IsTyped, named_controller, event_word, event_fields}
+use Rattle.schedule_text.specs.EventText.{IsTyped, IsTypedKey, named_controller, event_word, event_fields}
 use Rattle.line_fields.proofs.FieldTexts.{is_mark, and_true, decimal_marked, number_again, Small, actor_again, small_counts}
-use Rattle.line_fields.proofs.FieldTexts.{bytes_again, hex_marked, hex_within, AllMarked, line_fields, decimal_short, actor_marked, actor_short}
+use Rattle.line_fields.proofs.FieldTexts.{bytes_again, key_again, no_dash, hex_marked, hex_within, AllMarked, line_fields, decimal_short}
+use Rattle.line_fields.proofs.FieldTexts.{actor_marked, actor_short}
 use Rattle.transcript_text.specs.LineText.{after_space, line_of}
-use Rattle.schedule_text.specs.Rules.{is_plain, max_op_text, max_junk_text, event_of_fields, event_of, plain_line, submit_event}
-use Rattle.schedule_text.specs.Rules.{deliver_event, tick_event, install_of, crash_of, junk_event}
+use Rattle.schedule_text.specs.Rules.{is_plain, max_op_text, max_key_text, max_junk_text, event_of_fields, event_of, plain_line, submit_event}
+use Rattle.schedule_text.specs.Rules.{deliver_event, tick_event, install_of, crash_of, junk_event, read_event}
 use Rattle.schedule_text.specs.Ticks.{tick_named, takes_tick}
 use Rattle.transcript_text.specs.Transcript.{actor_text, hex_text}
 
@@ -77,6 +78,17 @@ two_length : (word a b : List ℕ) → length (word ++ flat_map after_space (a �
 two_length word a b =
     omega (arith, length-append word ((32 ∷ a) ++ ((32 ∷ b) ++ [])), length-append (32 ∷ a) ((32 ∷ b) ++ []), length-append (32 ∷ b) [])
 
+three_length : (word a b d : List ℕ)
+    → length (word ++ flat_map after_space (a ∷ b ∷ d ∷ [])) ≡ length word + length a + length b + length d + 3
+three_length word a b d =
+    omega (
+      arith,
+      length-append word ((32 ∷ a) ++ ((32 ∷ b) ++ ((32 ∷ d) ++ []))),
+      length-append (32 ∷ a) ((32 ∷ b) ++ ((32 ∷ d) ++ [])),
+      length-append (32 ∷ b) ((32 ∷ d) ++ []),
+      length-append (32 ∷ d) [],
+    )
+
 -- ---- events
 
 tick_marked : (t : Tick) → list_all is_mark (tick_text t) ≡ true
@@ -120,6 +132,17 @@ module _ (c : Configuration) (small : Small c) where
       le-leb (length (hex_text bytes)) max_junk_text (hex_within bytes MAX_DATAGRAM_BYTES (omega arith) short) in
       rw room (rw (bytes_again bytes are) (rw (actor_again c small a there) refl))
 
+  read_again : (client observer : ℕ) (key : List ℕ) → client < c.clients → observer < c.observers → IsTypedKey key
+      → read_event c (actor_text (actors.Client client)) (actor_text (actors.Observer observer)) (hex_text key)
+      ≡ Ok (events.Read client observer key)
+  read_again client observer key there asked typed =
+      let room : nat_le (length (hex_text key)) max_key_text ≡ true =
+      le-leb (length (hex_text key)) max_key_text (hex_within key MAX_KEY_BYTES (omega arith) typed.most) in
+      rw room
+      (rw (no_dash key typed.some)
+      (rw (key_again key typed.some typed.most typed.bytes)
+      (rw (actor_again c small (actors.Client client) there) (rw (actor_again c small (actors.Observer observer) asked) refl))))
+
   one_field_means : (before : ℕ) (word a : List ℕ) (e : Event) → before < MAX_LINES → list_all is_mark word ≡ true
       → list_all is_mark a ≡ true → length word ≤ 7 → length a ≤ 21 → event_of_fields c (word ∷ a ∷ []) ≡ Ok e
       → event_of c before (word ++ flat_map after_space (a ∷ [])) ≡ Ok e
@@ -131,6 +154,13 @@ module _ (c : Configuration) (small : Small c) where
       → event_of_fields c (word ∷ a ∷ b ∷ []) ≡ Ok e → event_of c before (word ++ flat_map after_space (a ∷ b ∷ [])) ≡ Ok e
   two_fields_mean before word a b e room plain first second low short long is =
       line_means c before word (a ∷ b ∷ []) e room plain (first, (second, tt)) (omega (arith, two_length word a b)) is
+
+  three_fields_mean : (before : ℕ) (word a b d : List ℕ) (e : Event) → before < MAX_LINES → list_all is_mark word ≡ true
+      → list_all is_mark a ≡ true → list_all is_mark b ≡ true → list_all is_mark d ≡ true → length word ≤ 7 → length a ≤ 21
+      → length b ≤ 21 → length d ≤ 3000 → event_of_fields c (word ∷ a ∷ b ∷ d ∷ []) ≡ Ok e
+      → event_of c before (word ++ flat_map after_space (a ∷ b ∷ d ∷ [])) ≡ Ok e
+  three_fields_mean before word a b d e room plain first second third low short near long is =
+      line_means c before word (a ∷ b ∷ d ∷ []) e room plain (first, (second, (third, tt))) (omega (arith, three_length word a b d)) is
 
   -- controller 0 is not named, and each other one is
   install_read : (k j before : ℕ) → before < MAX_LINES → k < c.controllers → j < c.sequencers
@@ -173,6 +203,13 @@ module _ (c : Configuration) (small : Small c) where
       two_fields_mean before (codes "junk") (actor_text a) (hex_text bytes) (events.Junk a bytes) room refl (actor_marked c small a h)
       (hex_marked bytes typed) (omega arith) (actor_short c small a h)
       (let k = hex_within bytes MAX_DATAGRAM_BYTES (omega arith) line in omega arith) (junk_again a bytes h line typed)
+  text_read (events.Read client observer key) before typed line room h =
+      let a : Actor = actors.Client client in
+      let b : Actor = actors.Observer observer in
+      three_fields_mean before (codes "read") (actor_text a) (actor_text b) (hex_text key) (events.Read client observer key) room refl
+      (actor_marked c small a h.0) (actor_marked c small b h.1) (hex_marked key typed.bytes) (omega arith) (actor_short c small a h.0)
+      (actor_short c small b h.1) (let k = hex_within key MAX_KEY_BYTES (omega arith) typed.most in omega arith)
+      (read_again client observer key h.0 h.1 typed)
 
 pub text_means : (e : Event) → IsTyped e → HasLine e → Means (event_text e) e
 text_means e typed line c before is room h = text_read c (small_counts c is) e before typed line room h

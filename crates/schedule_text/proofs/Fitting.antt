@@ -1,6 +1,6 @@
 -- What is read from lines is in its ranges.
 use Rattle.std.proofs.Common.{◌≡◌, ℕ, ◌≤◌, Bool, true, false, Option, Some, None, refl, ap, subst, arith, length, List, [], ◌∷◌}
-use Rattle.std.specs.Prelude.{codes, nat_le, Ok, Err, if◌then◌else◌}
+use Rattle.std.specs.Prelude.{codes, nat_le, not, Ok, Err, if◌then◌else◌}
 use Rattle.std.proofs.lemmas.Bool.{leb-true}
 use Rattle.nop_types.specs.declared.limits.TheConstants.{MAX_LINES, MAX_DATAGRAM_BYTES}
 use Rattle.nop_types.specs.declared.output.Actor.{Actor}
@@ -9,17 +9,19 @@ use Rattle.nop_types.specs.Headers.{gives, is_header}
 use Rattle.nop_types.specs.declared.header.Header.{Header}
 use Rattle.schedule_text.specs.declared.event.Event.{Event}
 use Rattle.schedule_text.specs.declared.event.Event.TheVariants.{Submit, Deliver, Tick, Install, Crash, Junk}
-use Rattle.line_fields.specs.Fields.{is_text, number_of, actor_of, client_number, sequencer_number, bytes_of, fields}
+use Rattle.schedule_text.specs.declared.event.Event.TheVariants as events
+use Rattle.line_fields.specs.Fields.{is_text, number_of, actor_of, client_number, sequencer_number, observer_number, bytes_of, key_of, fields}
 use Rattle.schedule_text.specs.Fits.{EventFits}
 use Rattle.schedule_text.specs.Ticks.{tick_named, takes_tick}
 use Rattle.schedule_text.specs.declared.rule.Rule.{Rule}
 use Rattle.schedule_text.specs.declared.rule.Rule.TheVariants.{WrongWord, WrongField, WrongHex, WrongActor, TooManyLines}
-use Rattle.schedule_text.specs.Rules.{Read, ◌>>=◌, or_rule, keeps_rule, max_op_text, max_junk_text, one_field, one_or_two_fields}
-use Rattle.schedule_text.specs.Rules.{two_fields, submit_event, ordered, install_event}
+use Rattle.schedule_text.specs.Rules.{Read, ◌>>=◌, or_rule, keeps_rule, max_op_text, max_key_text, max_junk_text, one_field, one_or_two_fields}
+use Rattle.schedule_text.specs.Rules.{two_fields, three_fields, submit_event, ordered, install_event, read_event, read_of}
 use Rattle.schedule_text.specs.Rules.{submit_of, deliver_event, deliver_of, tick_event, tick_of, install_of, crash_of, junk_event, junk_of}
 use Rattle.schedule_text.specs.Rules.{event_of_fields}
-use Rattle.schedule_text.specs.Rules.{header_with, count_of, header_rest, header_of_fields, plain_line, header_of, event_of}
-use Rattle.line_fields.proofs.HexLengths.{bytes_short}
+use Rattle.schedule_text.specs.Rules.{header_with, count_of, are_named, header_by, header_rest, header_of_fields, plain_line, header_of}
+use Rattle.schedule_text.specs.Rules.{event_of}
+use Rattle.line_fields.proofs.HexLengths.{bytes_short, key_within}
 
 -- a step that gave a value, and what came of it
 pub then_ok : {A B : Type 0} (r : Read A) (f : A → Read B) (y : B) → (r >>= f) ≡ Ok y → (x : A) × (r ≡ Ok x) × (f x ≡ Ok y)
@@ -96,23 +98,39 @@ junk_of_fits c rest e h =
     let is : Junk g.0 d.0 ≡ e = (let h = g.2 in cc) in
     subst EventFits is tt
 
+read_fits : (c : Configuration) (client observer text : List ℕ) (e : Event) → read_event c client observer text ≡ Ok e → EventFits e
+read_fits c client observer text e h =
+    let a = then_ok (keeps_rule WrongField (nat_le (length text) max_key_text)) _ e h in
+    let b = then_ok (keeps_rule WrongField (not (is_text (codes "-") text))) _ e a.2 in
+    let d = then_ok (or_rule WrongHex (key_of text)) _ e b.2 in
+    let g = then_ok (or_rule WrongActor (client_number (actor_of c client))) _ e d.2 in
+    let k = then_ok (or_rule WrongActor (observer_number (actor_of c observer))) _ e g.2 in
+    let is : events.Read g.0 k.0 d.0 ≡ e = (let h = k.2 in cc) in
+    subst EventFits is (key_within text d.0 (value_ok WrongHex (key_of text) d.0 d.1))
+
+read_of_fits : (c : Configuration) (rest : List (List ℕ)) (e : Event) → read_of c rest ≡ Ok e → EventFits e
+read_of_fits c rest e h =
+    let a = then_ok (three_fields rest) (λ p. read_event c p.0 p.1 p.2) e h in
+    read_fits c a.0.0 a.0.1 a.0.2 e a.2
+
 -- the tests of the words in their order
-by_word : (c : Configuration) (rest : List (List ℕ)) (e : Event) (s d t i k j : Bool)
+by_word : (c : Configuration) (rest : List (List ℕ)) (e : Event) (s d t i k j r : Bool)
     → (if s then submit_of c rest else if d then deliver_of c rest else if t then tick_of c rest else if i then install_of c rest
-    else if k then crash_of c rest else if j then junk_of c rest else Err WrongWord) ≡ Ok e → EventFits e
-by_word c rest e true d t i k j h = submit_of_fits c rest e h
-by_word c rest e false true t i k j h = deliver_of_fits c rest e h
-by_word c rest e false false true i k j h = tick_of_fits c rest e h
-by_word c rest e false false false true k j h = install_of_fits c rest e h
-by_word c rest e false false false false true j h = crash_of_fits c rest e h
-by_word c rest e false false false false false true h = junk_of_fits c rest e h
-by_word c rest e false false false false false false h = absurd cc
+    else if k then crash_of c rest else if j then junk_of c rest else if r then read_of c rest else Err WrongWord) ≡ Ok e → EventFits e
+by_word c rest e true d t i k j r h = submit_of_fits c rest e h
+by_word c rest e false true t i k j r h = deliver_of_fits c rest e h
+by_word c rest e false false true i k j r h = tick_of_fits c rest e h
+by_word c rest e false false false true k j r h = install_of_fits c rest e h
+by_word c rest e false false false false true j r h = crash_of_fits c rest e h
+by_word c rest e false false false false false true r h = junk_of_fits c rest e h
+by_word c rest e false false false false false false true h = read_of_fits c rest e h
+by_word c rest e false false false false false false false h = absurd cc
 
 of_fields_fits : (c : Configuration) (xs : List (List ℕ)) (e : Event) → event_of_fields c xs ≡ Ok e → EventFits e
 of_fields_fits c [] e h = absurd cc
 of_fields_fits c (word ∷ rest) e h =
     by_word c rest e (is_text (codes "submit") word) (is_text (codes "deliver") word) (is_text (codes "tick") word)
-    (is_text (codes "install") word) (is_text (codes "crash") word) (is_text (codes "junk") word) h
+    (is_text (codes "install") word) (is_text (codes "crash") word) (is_text (codes "junk") word) (is_text (codes "read") word) h
 
 limited : (c : Configuration) (line : List ℕ) (e : Event) (b : Bool)
     → (if b then Err TooManyLines else plain_line line >>= λ text. event_of_fields c (fields text)) ≡ Ok e → EventFits e
@@ -151,27 +169,45 @@ made_fits made h true gives is e = let same : made ≡ h = cc in subst (λ (x : 
 made_fits made h false gives is e = absurd cc
 
 -- a header that can have these counts, whichever they are
-header_fits : (form : ℕ) (n s k j : Option ℕ) (h : Header)
-    → ((n s k i : ℕ) → j ≡ Some i → gives form (record { replicas = n; sequencers = s; clients = k; controllers = i; observers = 0 }) ≡ true)
-    → header_with form n s k j ≡ Ok h → is_header h ≡ true
-header_fits form (Some n) (Some s) (Some k) (Some j) h can e =
-    let config : Configuration = record { replicas = n; sequencers = s; clients = k; controllers = j; observers = 0 } in
-    made_fits (record { form = form; config = config }) h (is_configuration config) (can n s k j refl) refl e
-header_fits form None s k j h can e = absurd cc
-header_fits form (Some n) None k j h can e = absurd cc
-header_fits form (Some n) (Some s) None j h can e = absurd cc
-header_fits form (Some n) (Some s) (Some k) None h can e = absurd cc
+header_fits : (form : ℕ) (n s k j o : Option ℕ) (h : Header)
+    → ((n s k i m : ℕ) → j ≡ Some i → o ≡ Some m
+    → gives form (record { replicas = n; sequencers = s; clients = k; controllers = i; observers = m }) ≡ true)
+    → header_with form n s k j o ≡ Ok h → is_header h ≡ true
+header_fits form (Some n) (Some s) (Some k) (Some j) (Some o) h can e =
+    let config : Configuration = record { replicas = n; sequencers = s; clients = k; controllers = j; observers = o } in
+    made_fits (record { form = form; config = config }) h (is_configuration config) (can n s k j o refl refl) refl e
+header_fits form None s k j o h can e = absurd cc
+header_fits form (Some n) None k j o h can e = absurd cc
+header_fits form (Some n) (Some s) None j o h can e = absurd cc
+header_fits form (Some n) (Some s) (Some k) None o h can e = absurd cc
+header_fits form (Some n) (Some s) (Some k) (Some j) None h can e = absurd cc
 
-first_fits : (n s k : List ℕ) (h : Header) (b : Bool)
-    → (if b then header_with 1 (count_of n) (count_of s) (count_of k) (Some 1) else Err WrongField) ≡ Ok h → is_header h ≡ true
+first_fits : (n s k : Option ℕ) (h : Header) (b : Bool)
+    → (if b then header_with 1 n s k (Some 1) (Some 0) else Err WrongField) ≡ Ok h → is_header h ≡ true
 first_fits n s k h true e =
-    header_fits 1 (count_of n) (count_of s) (count_of k) (Some 1) h (λ n s k i is. let one : 1 ≡ i = cc in rw (← one) refl) e
+    header_fits 1 n s k (Some 1) (Some 0) h
+    (λ n s k i m is less. let one : 1 ≡ i = cc in let no : 0 ≡ m = cc in rw (← one, ← no) refl) e
 first_fits n s k h false e = absurd cc
 
-second_fits : (n s k j : List ℕ) (h : Header) (b : Bool)
-    → (if b then header_with 2 (count_of n) (count_of s) (count_of k) (count_of j) else Err WrongField) ≡ Ok h → is_header h ≡ true
-second_fits n s k j h true e = header_fits 2 (count_of n) (count_of s) (count_of k) (count_of j) h (λ n s k i is. refl) e
+second_fits : (n s k j : Option ℕ) (h : Header) (b : Bool)
+    → (if b then header_with 2 n s k j (Some 0) else Err WrongField) ≡ Ok h → is_header h ≡ true
+second_fits n s k j h true e =
+    header_fits 2 n s k j (Some 0) h (λ n s k i m is less. let no : 0 ≡ m = cc in rw (← no) refl) e
 second_fits n s k j h false e = absurd cc
+
+third_fits : (n s k j o : Option ℕ) (h : Header) (b : Bool)
+    → (if b then header_with 3 n s k j o else Err WrongField) ≡ Ok h → is_header h ≡ true
+third_fits n s k j o h true e = header_fits 3 n s k j o h (λ n s k i m is more. refl) e
+third_fits n s k j o h false e = absurd cc
+
+form_fits : (form : List ℕ) (named : Bool) (n s k : Option ℕ) (rest : List (List ℕ)) (h : Header)
+    → header_by form named n s k rest ≡ Ok h → is_header h ≡ true
+form_fits form named n s k [] h e = first_fits n s k h _ e
+form_fits form named n s k (x1 ∷ []) h e = absurd cc
+form_fits form named n s k (controllers ∷ j ∷ []) h e = second_fits n s k (count_of j) h _ e
+form_fits form named n s k (x1 ∷ x2 ∷ x3 ∷ []) h e = absurd cc
+form_fits form named n s k (controllers ∷ j ∷ observers ∷ o ∷ []) h e = third_fits n s k (count_of j) (count_of o) h _ e
+form_fits form named n s k (x1 ∷ x2 ∷ x3 ∷ x4 ∷ x5 ∷ xs) h e = absurd cc
 
 rest_fits : (xs : List (List ℕ)) (h : Header) → header_rest xs ≡ Ok h → is_header h ≡ true
 rest_fits [] h e = absurd cc
@@ -181,10 +217,8 @@ rest_fits (x1 ∷ x2 ∷ x3 ∷ []) h e = absurd cc
 rest_fits (x1 ∷ x2 ∷ x3 ∷ x4 ∷ []) h e = absurd cc
 rest_fits (x1 ∷ x2 ∷ x3 ∷ x4 ∷ x5 ∷ []) h e = absurd cc
 rest_fits (x1 ∷ x2 ∷ x3 ∷ x4 ∷ x5 ∷ x6 ∷ []) h e = absurd cc
-rest_fits (form ∷ replicas ∷ n ∷ sequencers ∷ s ∷ clients ∷ k ∷ []) h e = first_fits n s k h _ e
-rest_fits (x1 ∷ x2 ∷ x3 ∷ x4 ∷ x5 ∷ x6 ∷ x7 ∷ x8 ∷ []) h e = absurd cc
-rest_fits (form ∷ replicas ∷ n ∷ sequencers ∷ s ∷ clients ∷ k ∷ controllers ∷ j ∷ []) h e = second_fits n s k j h _ e
-rest_fits (x1 ∷ x2 ∷ x3 ∷ x4 ∷ x5 ∷ x6 ∷ x7 ∷ x8 ∷ x9 ∷ x10 ∷ xs) h e = absurd cc
+rest_fits (form ∷ replicas ∷ n ∷ sequencers ∷ s ∷ clients ∷ k ∷ rest) h e =
+    form_fits form (are_named replicas sequencers clients) (count_of n) (count_of s) (count_of k) rest h e
 
 word_fits : (rest : List (List ℕ)) (h : Header) (b : Bool) → (if b then header_rest rest else Err WrongWord) ≡ Ok h
     → is_header h ≡ true

@@ -2,7 +2,7 @@
 use Rattle.std.proofs.Common.{◌≡◌, ◌≤◌, ◌+◌, ◌-◌, ◌*◌, ℕ, Bool, true, false, Option, Some, None, refl, sym, ap, subst, ◌∙◌, arith}
 use Rattle.std.proofs.Common.{take, drop, List, [], ◌∷◌, ◌++◌, length, append_assoc, append-nil, eqb}
 use Rattle.std.specs.Prelude.{codes, nat_le, nat_lt, nat_eq, ◌==◌, ◌&&◌, ◌^◌, Result, Ok, Err, if◌then◌else◌, is_some, slice_index_or}
-use Rattle.std.specs.Prelude.{IfSome, ⊤}
+use Rattle.std.specs.Prelude.{IfSome, not, ⊤}
 use Rattle.std.specs.Cmp.Lexicographic.{pointwise}
 use Rattle.std.specs.List.{list_all}
 use Rattle.std.proofs.lemmas.Bool.{leb-true, le-leb, eqb-true}
@@ -19,11 +19,13 @@ use Rattle.nop_types.specs.declared.output.Actor.{Actor}
 use Rattle.nop_types.specs.declared.output.Actor.TheVariants.{Replica, Sequencer, Client, Controller, Observer}
 use Rattle.line_fields.specs.Fields.{fields, fields_on, is_text, digit_on, number_on, number_of, below, number_below, numbered}
 use Rattle.line_fields.specs.Fields.{lettered, by_letter, from_one, by_number, actor_of, client_number, sequencer_number}
-use Rattle.line_fields.specs.Fields.{controller_number, as_option, bytes_of}
+use Rattle.line_fields.specs.Fields.{controller_number, observer_number, as_option, bytes_of, key_of}
+use Rattle.line_fields.proofs.HexLengths.{key_bytes}
 use Rattle.schedule_text.specs.declared.event.Event.{Event}
 use Rattle.schedule_text.specs.declared.rule.Rule.TheVariants.{WrongWord, WrongField, WrongHex, WrongActor}
 use Rattle.schedule_text.specs.Ticks.{tick_named}
-use Rattle.schedule_text.specs.Rules.{is_plain, or_rule, keeps_rule, max_op_text, max_junk_text, one_field, one_or_two_fields, two_fields}
+use Rattle.schedule_text.specs.Rules.{is_plain, or_rule, keeps_rule, max_op_text, max_key_text, max_junk_text, one_field, one_or_two_fields}
+use Rattle.schedule_text.specs.Rules.{two_fields, three_fields, read_of, read_event}
 use Rattle.schedule_text.specs.Rules.{submit_of, deliver_of, tick_of, install_of, crash_of, junk_of, event_of_fields}
 use Rattle.schedule_text.specs.Rules.{submit_event, deliver_event, tick_event, ordered, install_event, junk_event}
 use Rattle.schedule_text.proofs.Fitting.{then_ok, value_ok}
@@ -190,6 +192,9 @@ bytes_plain (d ∷ ds) bytes e = by_word (is_text (codes "-") (d ∷ ds)) refl e
         let digits = (decode_of-ok (d ∷ ds) bytes (decoded (decode_of (d ∷ ds)) f)).1 in
         list_all-from_AllPass is_plain (d ∷ ds) (λ k z below. hex_plain (slice_index_or (d ∷ ds) k z) (digits k z below))
 
+key_plain : (field key : List ℕ) → key_of field ≡ Some key → IsPlain field
+key_plain field key e = let read = key_bytes field key e in bytes_plain field read.0 read.1
+
 -- ---- ticks
 
 tick_plain : (field : List ℕ) (t : Tick) → tick_named field ≡ Some t → IsPlain field
@@ -243,6 +248,18 @@ two_plain (f ∷ g ∷ []) x e p q =
     (rw (ap (λ (y : List ℕ × List ℕ). y.0) same) p, (rw (ap (λ (y : List ℕ × List ℕ). y.1) same) q, tt))
 two_plain (f ∷ g ∷ h ∷ fs) x e p q = absurd cc
 
+three_plain : (rest : List (List ℕ)) (x : List ℕ × List ℕ × List ℕ) → three_fields rest ≡ Ok x → IsPlain x.0 → IsPlain x.1 → IsPlain x.2
+    → AllPlain rest
+three_plain [] x e p q r = absurd cc
+three_plain (f ∷ []) x e p q r = absurd cc
+three_plain (f ∷ g ∷ []) x e p q r = absurd cc
+three_plain (f ∷ g ∷ h ∷ []) x e p q r =
+    let same : (f, g, h) ≡ x = cc in (
+      rw (ap (λ (y : List ℕ × List ℕ × List ℕ). y.0) same) p,
+      (rw (ap (λ (y : List ℕ × List ℕ × List ℕ). y.1) same) q, (rw (ap (λ (y : List ℕ × List ℕ × List ℕ). y.2) same) r, tt)),
+    )
+three_plain (f ∷ g ∷ h ∷ k ∷ fs) x e p q r = absurd cc
+
 one_or_two_plain : (rest : List (List ℕ)) (x : List ℕ × Option (List ℕ)) → one_or_two_fields rest ≡ Ok x → IsPlain x.0 → IfSome x.1 IsPlain
     → AllPlain rest
 one_or_two_plain [] x e p q = absurd cc
@@ -265,6 +282,10 @@ was_sequencer (Some a) n e = (a, refl)
 was_controller : (o : Option Actor) (n : ℕ) → controller_number o ≡ Some n → (a : Actor) × (o ≡ Some a)
 was_controller None n e = absurd cc
 was_controller (Some a) n e = (a, refl)
+
+was_observer : (o : Option Actor) (n : ℕ) → observer_number o ≡ Some n → (a : Actor) × (o ≡ Some a)
+was_observer None n e = absurd cc
+was_observer (Some a) n e = (a, refl)
 
 ordered_plain : (c : Configuration) (by : Option (List ℕ)) (n : ℕ) → ordered c by ≡ Some n → IfSome by IsPlain
 ordered_plain c None n e = tt
@@ -321,24 +342,40 @@ module _ (c : Configuration) (rest : List (List ℕ)) (e : Event) where
       two_plain rest a.0 a.1 (actor_plain c a.0.0 g.0 (value_ok WrongActor (actor_of c a.0.0) g.0 g.1))
       (bytes_plain a.0.1 d.0 (value_ok WrongHex (bytes_of a.0.1) d.0 d.1))
 
-  by_words : (word : List ℕ) (s d t i k j : Bool) → is_text (codes "submit") word ≡ s → is_text (codes "deliver") word ≡ d
+  read_plain : read_of c rest ≡ Ok e → AllPlain rest
+  read_plain h =
+      let a = then_ok (three_fields rest) (λ p. read_event c p.0 p.1 p.2) e h in
+      let b = then_ok (keeps_rule WrongField (nat_le (length a.0.2) max_key_text)) _ e a.2 in
+      let d = then_ok (keeps_rule WrongField (not (is_text (codes "-") a.0.2))) _ e b.2 in
+      let g = then_ok (or_rule WrongHex (key_of a.0.2)) _ e d.2 in
+      let k = then_ok (or_rule WrongActor (client_number (actor_of c a.0.0))) _ e g.2 in
+      let o = then_ok (or_rule WrongActor (observer_number (actor_of c a.0.1))) _ e k.2 in
+      let client = was_client (actor_of c a.0.0) k.0 (value_ok WrongActor (client_number (actor_of c a.0.0)) k.0 k.1) in
+      let asked = was_observer (actor_of c a.0.1) o.0 (value_ok WrongActor (observer_number (actor_of c a.0.1)) o.0 o.1) in
+      three_plain rest a.0 a.1 (actor_plain c a.0.0 client.0 client.1) (actor_plain c a.0.1 asked.0 asked.1)
+      (key_plain a.0.2 g.0 (value_ok WrongHex (key_of a.0.2) g.0 g.1))
+
+  by_words : (word : List ℕ) (s d t i k j r : Bool) → is_text (codes "submit") word ≡ s → is_text (codes "deliver") word ≡ d
       → is_text (codes "tick") word ≡ t → is_text (codes "install") word ≡ i → is_text (codes "crash") word ≡ k
-      → is_text (codes "junk") word ≡ j
+      → is_text (codes "junk") word ≡ j → is_text (codes "read") word ≡ r
       → (if s then submit_of c rest else if d then deliver_of c rest else if t then tick_of c rest else if i then install_of c rest
-      else if k then crash_of c rest else if j then junk_of c rest else Err WrongWord) ≡ Ok e → AllPlain (word ∷ rest)
-  by_words word true d t i k j p q r u v w h = (word_plain (codes "submit") word refl p, submit_plain h)
-  by_words word false true t i k j p q r u v w h = (word_plain (codes "deliver") word refl q, deliver_plain h)
-  by_words word false false true i k j p q r u v w h = (word_plain (codes "tick") word refl r, ticks_plain h)
-  by_words word false false false true k j p q r u v w h = (word_plain (codes "install") word refl u, install_plain h)
-  by_words word false false false false true j p q r u v w h = (word_plain (codes "crash") word refl v, crash_plain h)
-  by_words word false false false false false true p q r u v w h = (word_plain (codes "junk") word refl w, junk_plain h)
-  by_words word false false false false false false p q r u v w h = absurd cc
+      else if k then crash_of c rest else if j then junk_of c rest else if r then read_of c rest else Err WrongWord) ≡ Ok e
+      → AllPlain (word ∷ rest)
+  by_words word true d t i k j r p q u v w x y h = (word_plain (codes "submit") word refl p, submit_plain h)
+  by_words word false true t i k j r p q u v w x y h = (word_plain (codes "deliver") word refl q, deliver_plain h)
+  by_words word false false true i k j r p q u v w x y h = (word_plain (codes "tick") word refl u, ticks_plain h)
+  by_words word false false false true k j r p q u v w x y h = (word_plain (codes "install") word refl v, install_plain h)
+  by_words word false false false false true j r p q u v w x y h = (word_plain (codes "crash") word refl w, crash_plain h)
+  by_words word false false false false false true r p q u v w x y h = (word_plain (codes "junk") word refl x, junk_plain h)
+  by_words word false false false false false false true p q u v w x y h = (word_plain (codes "read") word refl y, read_plain h)
+  by_words word false false false false false false false p q u v w x y h = absurd cc
 
 all_plain : (c : Configuration) (xs : List (List ℕ)) (e : Event) → event_of_fields c xs ≡ Ok e → AllPlain xs
 all_plain c [] e h = absurd cc
 all_plain c (word ∷ rest) e h =
     by_words c rest e word (is_text (codes "submit") word) (is_text (codes "deliver") word) (is_text (codes "tick") word)
-    (is_text (codes "install") word) (is_text (codes "crash") word) (is_text (codes "junk") word) refl refl refl refl refl refl h
+    (is_text (codes "install") word) (is_text (codes "crash") word) (is_text (codes "junk") word) (is_text (codes "read") word) refl refl refl
+    refl refl refl refl h
 
 pub event_plain : (c : Configuration) (line : List ℕ) (e : Event) → event_of_fields c (fields line) ≡ Ok e
     → list_all is_plain line ≡ true

@@ -5,7 +5,7 @@ use Rattle.hex.specs.Hex.{IsBytes}
 use Rattle.nop_types.specs.Configuration.{Configuration, is_configuration}
 use Rattle.nop_types.specs.declared.input.Tick.{Tick}
 use Rattle.nop_types.specs.declared.input.Tick.TheVariants as ticks
-use Rattle.nop_types.specs.declared.limits.TheConstants.{MAX_DATAGRAM_BYTES, MAX_LINES, MAX_OP_BYTES}
+use Rattle.nop_types.specs.declared.limits.TheConstants.{MAX_DATAGRAM_BYTES, MAX_KEY_BYTES, MAX_LINES, MAX_OP_BYTES}
 use Rattle.nop_types.specs.declared.output.Actor.TheVariants as actors
 use Rattle.line_fields.specs.Fields.{IsActorOf}
 use Rattle.schedule_text.specs.declared.event.Event.{Event}
@@ -47,6 +47,7 @@ event_word (events.Tick actor tick) = codes "tick"
 event_word (events.Install controller sequencer) = codes "install"
 event_word (events.Crash actor) = codes "crash"
 event_word (events.Junk actor bytes) = codes "junk"
+event_word (events.Read client observer key) = codes "read"
 
 -- controller 0 is not named
 abbrev pub named_controller : ℕ → List (List ℕ)
@@ -60,6 +61,7 @@ event_fields (events.Tick actor tick) = actor_text actor ∷ tick_text tick ∷ 
 event_fields (events.Install controller sequencer) = actor_text (actors.Sequencer sequencer) ∷ named_controller controller
 event_fields (events.Crash actor) = actor_text actor ∷ []
 event_fields (events.Junk actor bytes) = actor_text actor ∷ hex_text bytes ∷ []
+event_fields (events.Read client observer key) = actor_text (actors.Client client) ∷ actor_text (actors.Observer observer) ∷ hex_text key ∷ []
 
 -- the line, without its end
 unfoldable pub event_text : Event → List ℕ
@@ -75,11 +77,17 @@ IsEventOf c (events.Tick actor tick) = IsActorOf c actor × (takes_tick actor ti
 IsEventOf c (events.Install controller sequencer) = (controller < c.controllers) × (sequencer < c.sequencers)
 IsEventOf c (events.Crash actor) = IsActorOf c actor
 IsEventOf c (events.Junk actor bytes) = IsActorOf c actor
+IsEventOf c (events.Read client observer key) = (client < c.clients) × (observer < c.observers)
 
 -- a line of a schedule means the event, in each configuration that has its actors, and whatever lines stand before it
 abbrev pub Means : List ℕ → Event → Type 0
 Means line e = (c : Configuration) (before : ℕ) → IsTrue (is_configuration c) → before < MAX_LINES → IsEventOf c e
     → event_of c before line ≡ Ok e
+
+pub record IsTypedKey (key : List ℕ) : Type 0 where
+  pub bytes : IsBytes key
+  pub some : 1 ≤ length key
+  pub most : length key ≤ MAX_KEY_BYTES
 
 -- the numbers of the event are those of its types
 abbrev pub IsTyped : Event → Type 0
@@ -89,3 +97,4 @@ IsTyped (events.Tick actor tick) = ⊤
 IsTyped (events.Install controller sequencer) = ⊤
 IsTyped (events.Crash actor) = ⊤
 IsTyped (events.Junk actor bytes) = IsBytes bytes
+IsTyped (events.Read client observer key) = IsTypedKey key

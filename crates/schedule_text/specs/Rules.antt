@@ -1,17 +1,18 @@
 -- What a line of a schedule means, or the first rule that it breaks.
 use Rattle.std.specs.Prelude.{ℕ, List, [], ◌∷◌, length, Bool, true, false, Option, Some, None, Result, Ok, Err, codes, nat_lt, nat_le}
-use Rattle.std.specs.Prelude.{◌&&◌, if◌then◌else◌}
+use Rattle.std.specs.Prelude.{not, ◌&&◌, if◌then◌else◌}
 use Rattle.std.specs.List.{list_all}
 use Rattle.nop_types.specs.declared.limits.TheConstants.{MAX_LINE_BYTES, MAX_LINES}
 use Rattle.nop_types.specs.Configuration.{Configuration, is_configuration}
 use Rattle.nop_types.specs.declared.header.Header.{Header}
 use Rattle.schedule_text.specs.declared.event.Event.{Event}
 use Rattle.schedule_text.specs.declared.event.Event.TheVariants.{Submit, Deliver, Tick, Install, Crash, Junk}
+use Rattle.schedule_text.specs.declared.event.Event.TheVariants as events
 use Rattle.schedule_text.specs.declared.rule.Rule.{Rule}
 use Rattle.schedule_text.specs.declared.rule.Rule.TheVariants.{LineTooLong, WrongByte, WrongWord, WrongFieldCount, WrongField, WrongHex}
 use Rattle.schedule_text.specs.declared.rule.Rule.TheVariants.{WrongActor, NoSuchDatagram, Forged, TooManyLines}
 use Rattle.line_fields.specs.Fields.{fields, is_text, number_of, number_below, actor_of, client_number, sequencer_number, controller_number}
-use Rattle.line_fields.specs.Fields.{bytes_of}
+use Rattle.line_fields.specs.Fields.{observer_number, bytes_of, key_of}
 use Rattle.schedule_text.specs.Ticks.{tick_named, takes_tick}
 
 -- the number of a rule, as an error line has it
@@ -53,6 +54,10 @@ is_plain b = nat_le 32 b && nat_le b 126
 abbrev pub max_op_text : ℕ
 max_op_text = 1280
 
+-- the characters of a key in hexadecimal
+abbrev pub max_key_text : ℕ
+max_key_text = 128
+
 -- the characters of junk in hexadecimal
 abbrev pub max_junk_text : ℕ
 max_junk_text = 3000
@@ -66,6 +71,10 @@ one_field _ = Err WrongFieldCount
 abbrev pub two_fields : List (List ℕ) → Result (List ℕ × List ℕ) Rule
 two_fields (first ∷ second ∷ []) = Ok (first, second)
 two_fields _ = Err WrongFieldCount
+
+abbrev pub three_fields : List (List ℕ) → Result (List ℕ × List ℕ × List ℕ) Rule
+three_fields (first ∷ second ∷ third ∷ []) = Ok (first, second, third)
+three_fields _ = Err WrongFieldCount
 
 -- ---- events, from the fields after the word
 
@@ -140,6 +149,19 @@ junk_event c actor text = do
 abbrev pub junk_of : Configuration → List (List ℕ) → Result Event Rule
 junk_of c rest = two_fields rest >>= λ p. junk_event c p.0 p.1
 
+-- `read cN oM HEX`; a key has bytes, so `-` is none
+abbrev pub read_event : Configuration → List ℕ → List ℕ → List ℕ → Result Event Rule
+read_event c client observer text = do
+  short ← keeps_rule WrongField (nat_le (length text) max_key_text)
+  some ← keeps_rule WrongField (not (is_text (codes "-") text))
+  key ← or_rule WrongHex (key_of text)
+  number ← or_rule WrongActor (client_number (actor_of c client))
+  asked ← or_rule WrongActor (observer_number (actor_of c observer))
+  Ok (events.Read number asked key)
+
+abbrev pub read_of : Configuration → List (List ℕ) → Result Event Rule
+read_of c rest = three_fields rest >>= λ p. read_event c p.0 p.1 p.2
+
 -- by the word that comes first
 abbrev pub event_of_fields : Configuration → List (List ℕ) → Result Event Rule
 event_of_fields c [] = Err WrongWord
@@ -150,6 +172,7 @@ event_of_fields c (word ∷ rest) =
     else if is_text (codes "install") word then install_of c rest
     else if is_text (codes "crash") word then crash_of c rest
     else if is_text (codes "junk") word then junk_of c rest
+    else if is_text (codes "read") word then read_of c rest
     else Err WrongWord
 
 -- ---- the header
@@ -158,27 +181,36 @@ event_of_fields c (word ∷ rest) =
 abbrev pub count_of : List ℕ → Option ℕ
 count_of field = number_below 256 field
 
--- a header of this form with these counts: no form has observers
-abbrev pub header_with : ℕ → Option ℕ → Option ℕ → Option ℕ → Option ℕ → Result Header Rule
-header_with form (Some n) (Some s) (Some c) (Some k) =
-    let made : Configuration = record { replicas = n; sequencers = s; clients = c; controllers = k; observers = 0 } in
+-- a header of this form with these counts
+abbrev pub header_with : ℕ → Option ℕ → Option ℕ → Option ℕ → Option ℕ → Option ℕ → Result Header Rule
+header_with form (Some n) (Some s) (Some c) (Some k) (Some o) =
+    let made : Configuration = record { replicas = n; sequencers = s; clients = c; controllers = k; observers = o } in
     if is_configuration made then Ok (record { form = form; config = made }) else Err WrongField
-header_with form _ _ _ _ = Err WrongField
+header_with form _ _ _ _ _ = Err WrongField
 
 abbrev pub are_named : List ℕ → List ℕ → List ℕ → Bool
 are_named replicas sequencers clients =
     is_text (codes "replicas") replicas && (is_text (codes "sequencers") sequencers && is_text (codes "clients") clients)
 
--- the fields after the word, of either form: form 1 names no controllers, and means one
+-- by the fields after the first three counts, whether these are named, and the form: form 1 names no controllers, and means one; form
+-- 3 alone names observers
+abbrev pub header_by : List ℕ → Bool → Option ℕ → Option ℕ → Option ℕ → List (List ℕ) → Result Header Rule
+header_by form named n s c [] =
+    if is_text (codes "1") form && named then header_with 1 n s c (Some 1) (Some 0) else Err WrongField
+header_by form named n s c (controllers ∷ k ∷ []) =
+    if is_text (codes "2") form && (named && is_text (codes "controllers") controllers)
+    then header_with 2 n s c (count_of k) (Some 0)
+    else Err WrongField
+header_by form named n s c (controllers ∷ k ∷ observers ∷ o ∷ []) =
+    if is_text (codes "3") form && (named && (is_text (codes "controllers") controllers && is_text (codes "observers") observers))
+    then header_with 3 n s c (count_of k) (count_of o)
+    else Err WrongField
+header_by form named n s c _ = Err WrongFieldCount
+
+-- the fields after the word
 abbrev pub header_rest : List (List ℕ) → Result Header Rule
-header_rest (form ∷ replicas ∷ n ∷ sequencers ∷ s ∷ clients ∷ c ∷ []) =
-    if is_text (codes "1") form && are_named replicas sequencers clients
-    then header_with 1 (count_of n) (count_of s) (count_of c) (Some 1)
-    else Err WrongField
-header_rest (form ∷ replicas ∷ n ∷ sequencers ∷ s ∷ clients ∷ c ∷ controllers ∷ k ∷ []) =
-    if is_text (codes "2") form && (are_named replicas sequencers clients && is_text (codes "controllers") controllers)
-    then header_with 2 (count_of n) (count_of s) (count_of c) (count_of k)
-    else Err WrongField
+header_rest (form ∷ replicas ∷ n ∷ sequencers ∷ s ∷ clients ∷ c ∷ rest) =
+    header_by form (are_named replicas sequencers clients) (count_of n) (count_of s) (count_of c) rest
 header_rest _ = Err WrongFieldCount
 
 abbrev pub header_of_fields : List (List ℕ) → Result Header Rule

@@ -1,4 +1,4 @@
-use nop_types::{Actor, Bytes, Op, Tick};
+use nop_types::{Actor, Bytes, Key, Op, Tick};
 
 /// One step of one actor, as a line of a schedule names it.
 #[derive(Drop)]
@@ -17,4 +17,6 @@ pub enum Event {
     /// Bytes that nobody sent come to an actor. They spell no datagram; a line of a schedule gives
     /// at most `MAX_DATAGRAM_BYTES` of them.
     Junk(Actor, Bytes),
+    /// The client with the first number is to ask the observer with the second one for a key.
+    Read(u32, u8, Key),
 }

@@ -4,10 +4,11 @@ ghost use Rattle.std.specs.Prelude.{◌≡◌, ◌++◌, ◌∷◌, [], codes, O
 ghost use Rattle.hex.specs.Hex.{IsBytes};
 ghost use Rattle.schedule_text.specs.EventText.{HasWord, HasLine, tick_text, event_word};
 ghost use Rattle.schedule_text.specs.EventText.{event_fields, event_text, Means, IsTyped};
+ghost use Rattle.schedule_text.specs.EventText.{IsTypedKey};
 ghost use Rattle.transcript_text.specs.LineText.{line_of};
 
 use crate::event::Event;
-use nop_types::{Actor, NoMemory, Tick};
+use nop_types::{Actor, Key, NoMemory, Tick};
 use transcript_text::{Field, write_line};
 
 fn tick_word(tick: Tick) -> &'static str
@@ -31,6 +32,12 @@ fn are_bytes(bytes: &[u8])
     let _bytes = bytes;
 }
 
+fn typed_key(key: &Key)
+    ensures { IsTypedKey key.now }
+{
+    are_bytes(key.as_slice());
+}
+
 /// The ranges of an event's numbers, which its types keep.
 fn ranges(event: &Event)
     ensures { IsTyped event.now }
@@ -45,6 +52,7 @@ fn ranges(event: &Event)
         Event::Junk(_, bytes) => {
             are_bytes(bytes.as_slice());
         }
+        Event::Read(_, _, key) => typed_key(key),
         Event::Tick(_, _) | Event::Install(_, _) | Event::Crash(_) => {}
     }
 }
@@ -90,6 +98,14 @@ fn put_event(event: &Event, to: &mut Vec<u8>) -> Result<(), NoMemory>
                 &[Field::Name(*actor), Field::Hex(bytes.as_slice())],
                 to,
             )
+        }
+        Event::Read(client, observer, key) => {
+            let fields = [
+                Field::Name(Actor::Client(*client)),
+                Field::Name(Actor::Observer(*observer)),
+                Field::Hex(key.as_slice()),
+            ];
+            write_line("read", &fields, to)
         }
     }
 }

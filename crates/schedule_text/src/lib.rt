@@ -12,8 +12,8 @@
 //! `event_line` appends the line of an event, and nothing on an error; in each configuration that
 //! has the actors of the event and takes its tick, this line means the event (clause `means`).
 //!
-//! Line 1 is a header of one of two forms: with a count of controllers, or without it, which means
-//! one. `Reader::form` is the number of its form.
+//! Line 1 is a header of one of three forms: without a count of controllers, which means one, with
+//! it, or with it and a count of observers. `Reader::form` is the number of its form.
 //!
 //! Calls: `Reader::new`, `open` (line 1), `next`, `has_line` (whether `next` will leave the source
 //! as it is), `config`, `form`, `line`; `Event`; `Rule::number`; `event_line`; `takes_tick`, which

@@ -13,9 +13,10 @@ pub enum Rule {
     /// The first field is no word of a line in this place.
     WrongWord,
     WrongFieldCount,
-    /// A field of the header, an index, or the length of an op or of junk.
+    /// A field of the header, an index, the length of an op, of junk or of a key, or a key without
+    /// bytes.
     WrongField,
-    /// An op or junk is empty, odd or has another character.
+    /// An op, junk or a key is empty, odd or has another character.
     WrongHex,
     /// The actor is not there, or takes no such word or tick.
     WrongActor,

@@ -6,7 +6,7 @@ ghost use Rattle.std.specs.Option.{option_copied};
 ghost use Rattle.line_fields.specs.Fields.{fields};
 ghost use Rattle.schedule_text.specs.LineAnswer.{IsAnswer};
 ghost use Rattle.schedule_text.specs.Rules.{is_plain, plain_line, header_of, header_rest};
-ghost use Rattle.schedule_text.specs.Rules.{count_of, header_with, are_named, event_of};
+ghost use Rattle.schedule_text.specs.Rules.{count_of, header_by, header_with, are_named, event_of};
 ghost use Rattle.schedule_text.specs.Rules.{event_of_fields};
 ghost use Rattle.line_fields.specs.Split.{other_fields};
 
@@ -14,7 +14,7 @@ use crate::event::Event;
 use crate::line_error::LineError;
 use crate::rule::Rule;
 use crate::split::{next_field, no_field};
-use crate::words::{crash, deliver, install, junk, submit, tick};
+use crate::words::{crash, deliver, install, junk, read, submit, tick};
 use line_fields::{cut, is_word, small_number};
 use nop_types::{Config, Header, MAX_LINE_BYTES, MAX_LINES};
 use std::alloc::Global;
@@ -59,11 +59,12 @@ fn header_with(
     s: Option<u8>,
     c: Option<u8>,
     k: Option<u8>,
+    o: Option<u8>,
 ) -> Result<Header, Rule>
-    ensures { result ≡ header_with form n s c k }
+    ensures { result ≡ header_with form n s c k o }
 {
-    match (n, s, c, k) {
-        (Some(n), Some(s), Some(c), Some(k)) => match Config::new(n, s, c, k, 0) {
+    match (n, s, c, k, o) {
+        (Some(n), Some(s), Some(c), Some(k), Some(o)) => match Config::new(n, s, c, k, o) {
             Some(config) => Ok(Header { form, config }),
             None => Err(Rule::WrongField),
         },
@@ -79,7 +80,44 @@ fn are_named(replicas: &[u8], sequencers: &[u8], clients: &[u8]) -> bool
         && is_word(clients, "clients")
 }
 
-/// The fields after the first word, of either form: form 1 names no controllers, and means one.
+/// By what follows the first three counts: form 1 names no controllers, and means one, and form 3 alone names observers.
+fn header_by(
+    form: &[u8],
+    named: bool,
+    n: Option<u8>,
+    s: Option<u8>,
+    c: Option<u8>,
+    rest: Option<&[u8]>,
+) -> Result<Header, Rule>
+    ensures { result ≡ header_by form.now named n s c (other_fields (option_copied rest.entry)) }
+{
+    let Some(rest) = rest else {
+        if !is_word(form, "1") || !named {
+            return Err(Rule::WrongField);
+        }
+        return header_with(1, n, s, c, Some(1), Some(0));
+    };
+    let (controllers, rest) = cut(rest);
+    let (k, rest) = next_field(rest)?;
+    let Some(rest) = rest else {
+        if !is_word(form, "2") || !named || !is_word(controllers, "controllers") {
+            return Err(Rule::WrongField);
+        }
+        return header_with(2, n, s, c, count(k), Some(0));
+    };
+    let (observers, rest) = cut(rest);
+    let (o, rest) = next_field(rest)?;
+    no_field(rest)?;
+    if !is_word(form, "3") || !named {
+        return Err(Rule::WrongField);
+    }
+    if !is_word(controllers, "controllers") || !is_word(observers, "observers") {
+        return Err(Rule::WrongField);
+    }
+    header_with(3, n, s, c, count(k), count(o))
+}
+
+/// The fields after the first word.
 fn header_rest(rest: Option<&[u8]>) -> Result<Header, Rule>
     ensures { result ≡ header_rest (other_fields (option_copied rest.entry)) }
 {
@@ -91,19 +129,7 @@ fn header_rest(rest: Option<&[u8]>) -> Result<Header, Rule>
     let (clients, rest) = next_field(rest)?;
     let (c, rest) = next_field(rest)?;
     let named = are_named(replicas, sequencers, clients);
-    let Some(rest) = rest else {
-        if !is_word(form, "1") || !named {
-            return Err(Rule::WrongField);
-        }
-        return header_with(1, count(n), count(s), count(c), Some(1));
-    };
-    let (controllers, rest) = cut(rest);
-    let (k, rest) = next_field(rest)?;
-    no_field(rest)?;
-    if !is_word(form, "2") || !named || !is_word(controllers, "controllers") {
-        return Err(Rule::WrongField);
-    }
-    header_with(2, count(n), count(s), count(c), count(k))
+    header_by(form, named, count(n), count(s), count(c), rest)
 }
 
 /// What the first line says, or the rule that it breaks.
@@ -150,6 +176,9 @@ fn event_of_words(alloc: Global, config: Config, line: &[u8]) -> Result<Event, L
     }
     if is_word(word, "junk") {
         return junk(alloc, config, rest);
+    }
+    if is_word(word, "read") {
+        return read(alloc, config, rest);
     }
     Err(LineError::Breaks(Rule::WrongWord))
 }

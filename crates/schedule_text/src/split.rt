@@ -3,7 +3,7 @@
 ghost use Rattle.std.specs.Prelude.{◌≡◌, ◌∷◌, [], ℕ, List, Ok, Err, MatchResult};
 ghost use Rattle.std.specs.Option.{option_copied};
 ghost use Rattle.line_fields.specs.Split.{other_fields};
-ghost use Rattle.schedule_text.specs.Rules.{one_field, one_or_two_fields, two_fields};
+ghost use Rattle.schedule_text.specs.Rules.{one_field, one_or_two_fields, three_fields, two_fields};
 
 use crate::rule::Rule;
 use line_fields::cut;
@@ -73,6 +73,19 @@ pub fn two_fields(rest: Option<&[u8]>) -> Result<(&[u8], &[u8]), Rule>
     let (first, rest) = next_field(rest)?;
     match one_field(rest) {
         Ok(second) => Ok((first, second)),
+        Err(rule) => Err(rule),
+    }
+}
+
+/// The fields that follow, if they are three.
+#[tactic(auto, using(crate::proofs::SplitLemmas::others_of))]
+pub fn three_fields(rest: Option<&[u8]>) -> Result<(&[u8], &[u8], &[u8]), Rule>
+    ensures { let read = three_fields (other_fields (option_copied rest.entry)) in
+        MatchResult result (λ p. read ≡ Ok (p.0.now, p.1.now, p.2.now)) (λ rule. read ≡ Err rule) }
+{
+    let (first, rest) = next_field(rest)?;
+    match two_fields(rest) {
+        Ok((second, third)) => Ok((first, second, third)),
         Err(rule) => Err(rule),
     }
 }

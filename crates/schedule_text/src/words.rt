@@ -6,20 +6,23 @@ ghost use Rattle.std.specs.Option.{option_copied};
 ghost use Rattle.schedule_text.specs.LineAnswer.{IsAnswer};
 ghost use Rattle.schedule_text.specs.Rules.{submit_event, submit_of, deliver_event, deliver_of};
 ghost use Rattle.schedule_text.specs.Rules.{tick_event, tick_of, ordered, install_of, crash_of};
-ghost use Rattle.schedule_text.specs.Rules.{junk_event, junk_of};
+ghost use Rattle.schedule_text.specs.Rules.{junk_event, junk_of, read_event, read_of};
 ghost use Rattle.line_fields.specs.Split.{other_fields};
 
 use crate::event::Event;
 use crate::line_error::LineError;
 use crate::rule::Rule;
-use crate::split::{one_field, one_or_two_fields, two_fields};
+use crate::split::{one_field, one_or_two_fields, three_fields, two_fields};
 use crate::ticks::{takes_tick, tick_named};
-use line_fields::{actor, bytes, number, op};
-use nop_types::{Actor, Config, MAX_DATAGRAM_BYTES, MAX_OP_BYTES};
+use line_fields::{actor, bytes, is_word, key, number, op};
+use nop_types::{Actor, Config, MAX_DATAGRAM_BYTES, MAX_KEY_BYTES, MAX_OP_BYTES};
 use std::alloc::Global;
 
 /// The most characters of an op.
 const MAX_OP_TEXT: usize = 2 * MAX_OP_BYTES;
+
+/// The most characters of a key.
+const MAX_KEY_TEXT: usize = 2 * MAX_KEY_BYTES;
 
 /// The most characters of junk.
 const MAX_JUNK_TEXT: usize = 2 * MAX_DATAGRAM_BYTES;
@@ -120,5 +123,28 @@ pub fn junk(alloc: Global, config: Config, rest: Option<&[u8]>) -> Result<Event,
     match actor(config, to) {
         Some(to) => Ok(Event::Junk(to, bytes)),
         None => Err(LineError::Breaks(Rule::WrongActor)),
+    }
+}
+
+/// `read cN oM HEX`
+pub fn read(alloc: Global, config: Config, rest: Option<&[u8]>) -> Result<Event, LineError>
+    ensures { IsAnswer result (read_of config (other_fields (option_copied rest.entry))) }
+{
+    let (client, observer, text) = three_fields(rest)?;
+    if text.len() > MAX_KEY_TEXT {
+        return Err(LineError::Breaks(Rule::WrongField));
+    }
+    if is_word(text, "-") {
+        return Err(LineError::Breaks(Rule::WrongField));
+    }
+    let Some(key) = key(alloc, text)? else {
+        return Err(LineError::Breaks(Rule::WrongHex));
+    };
+    let Some(Actor::Client(number)) = actor(config, client) else {
+        return Err(LineError::Breaks(Rule::WrongActor));
+    };
+    match actor(config, observer) {
+        Some(Actor::Observer(asked)) => Ok(Event::Read(number, asked, key)),
+        _ => Err(LineError::Breaks(Rule::WrongActor)),
     }
 }

@@ -205,9 +205,16 @@ pub finished : (before left : Option (List ℕ)) (r : Reading) (s : SoFar) (coun
     → s.part ≡ Over → r.line ≤ MAX_TRANSCRIPT_LINES → count ≡ r.line → IsTranscript before left s count
 finished before left r s count reads reaches over most same =
     let shape = shape_of reads.rows s reads.admits.ran in
-    let t : Transcript = record { header = reads.header; events = shape.events; states = shape.states; history = s.history } in
+    let t : Transcript = record {
+      header = reads.header;
+      events = shape.events;
+      states = shape.states;
+      observers = shape.observers;
+      history = s.history;
+    } in
     let rows_are : reads.rows ≡ body t =
-    shape.is ∙ ap (λ (xs : List Row). shape.events ++ (shape.states ++ (members 1 s.history ++ xs))) (over_ending s.part over) in
+    shape.is
+    ∙ ap (λ (xs : List Row). shape.events ++ (shape.states ++ (shape.observers ++ (members 1 s.history ++ xs)))) (over_ending s.part over) in
     let lines_are : map whole reads.texts ≡ transcript_lines t =
     reads.admits.lines ∙ ap (λ (rows : List Row). transcript_line reads.header.form reads.header.config ∷ map row_text rows) rows_are in
     let number : r.line ≡ length (transcript_lines t) =
@@ -223,6 +230,7 @@ finished before left r s count reads reaches over most same =
           header = reads.admits.first;
           events = shape.are_events;
           states = shape.are_states;
+          observers = shape.are_watching;
           rows = subst AllFit rows_are reads.admits.fit;
         };
         most = subst (λ (k : ℕ). k ≤ MAX_TRANSCRIPT_LINES) number most;

@@ -6,12 +6,14 @@ use Rattle.std.proofs.lemmas.Bool.{and_parts, eq-eqb, false≢true}
 use Rattle.nop_types.specs.Lines.{Line}
 use Rattle.nop_types.specs.declared.request.Request.{Request}
 use Rattle.transcript_reader.proofs.Shapes.{state_of, none_runs}
-use Rattle.transcript_reader.specs.Steps.{SoFar, nothing_yet, is_over, may_have_states, step, run_on, run}
-use Rattle.transcript_reader.specs.Transcripts.{Transcript, TranscriptFits, is_event, is_state, members, body, said_by, said, places_of}
+use Rattle.transcript_reader.specs.Steps.{SoFar, nothing_yet, is_over, may_have_states, may_have_observers, step, run_on, run}
+use Rattle.transcript_reader.specs.Transcripts.{Transcript, TranscriptFits, is_event, is_state, is_watching, members, body, said_by, said}
+use Rattle.transcript_reader.specs.Transcripts.{places_of}
 use Rattle.transcript_reader.specs.declared.part.Part.{Part}
-use Rattle.transcript_reader.specs.declared.part.Part.TheVariants.{Events, States, Members, Over}
+use Rattle.transcript_reader.specs.declared.part.Part.TheVariants.{Events, States, Observers, Members, Over}
 use Rattle.transcript_rows.specs.declared.row.Row.{Row}
-use Rattle.transcript_rows.specs.declared.row.Row.TheVariants.{Dead, Submit, Accept, Busy, Read, Answer, Sent, State, Slot, Member, End}
+use Rattle.transcript_rows.specs.declared.row.Row.TheVariants.{Dead, Submit, Accept, Busy, Read, Answer, Sent, State, Slot, Watching}
+use Rattle.transcript_rows.specs.declared.row.Row.TheVariants.{Member, End}
 
 -- a run over some rows goes on with others
 pub then_run : (xs ys : List Row) (o p : Option SoFar) (line next : ℕ) → next ≡ length xs + line → run_on o line xs ≡ p
@@ -52,7 +54,7 @@ module _ (history : List Request) where
       ∙ ap (λ (xs : List ℕ). Some (state_of Events (claims ++ flat_map said_by (row ∷ rows)) xs history))
       (append_assoc places (numbered line row) (places_of (line + 1) rows))
 
--- ---- states, members and the end
+-- ---- states, observers, members and the end
 
 module _ (claims : List Line) (places : List ℕ) where
   abbrev at : Part → List Request → SoFar
@@ -64,28 +66,59 @@ module _ (claims : List Line) (places : List ℕ) where
     open_end : is_over part ≡ false
     is : o ≡ Some (at part history)
 
+  -- in some part before the history
+  record Stands (o : Option SoFar) (history : List Request) : Type 0 where
+    part : Part
+    may : may_have_observers part ≡ true
+    is : o ≡ Some (at part history)
+
   state_taken : (row : Row) → is_state row ≡ true → (part : Part) → may_have_states part ≡ true → (line : ℕ) (history : List Request)
       → step line (at part history) row ≡ Some (at States history)
   state_taken (State replica crashed status view len sync_point) e part may line history = rw may refl
   state_taken (Slot replica slot entry) e part may line history = rw may refl
   state_taken _ e part may line history = absurd (false≢true e)
 
-  before_end : (part : Part) → may_have_states part ≡ true → is_over part ≡ false
-  before_end Events e = refl
-  before_end States e = refl
-  before_end Members e = absurd (false≢true e)
-  before_end Over e = absurd (false≢true e)
+  before_observers : (part : Part) → may_have_states part ≡ true → may_have_observers part ≡ true
+  before_observers Events e = refl
+  before_observers States e = refl
+  before_observers Observers e = absurd (false≢true e)
+  before_observers Members e = absurd (false≢true e)
+  before_observers Over e = absurd (false≢true e)
 
   states_run : (states : List Row) → list_all is_state states ≡ true → (part : Part) → may_have_states part ≡ true → (line : ℕ)
-      (history : List Request) → Comes (run_on (Some (at part history)) line states) history
-  states_run [] e part may line history = record { part = part; open_end = before_end part may; is = refl }
+      (history : List Request) → Stands (run_on (Some (at part history)) line states) history
+  states_run [] e part may line history = record { part = part; may = before_observers part may; is = refl }
   states_run (row ∷ rows) e part may line history =
       let p = and_parts (is_state row) (list_all is_state rows) e in
       let rest = states_run rows p.1 States refl (line + 1) history in
       record {
         part = rest.part;
-        open_end = rest.open_end;
+        may = rest.may;
         is = ap (λ (o : Option SoFar). run_on o (line + 1) rows) (state_taken row p.0 part may line history) ∙ rest.is;
+      }
+
+  watching_taken : (row : Row) → is_watching row ≡ true → (part : Part) → may_have_observers part ≡ true → (line : ℕ) (history : List Request)
+      → step line (at part history) row ≡ Some (at Observers history)
+  watching_taken (Watching observer crashed position) e part may line history = rw may refl
+  watching_taken _ e part may line history = absurd (false≢true e)
+
+  before_end : (part : Part) → may_have_observers part ≡ true → is_over part ≡ false
+  before_end Events e = refl
+  before_end States e = refl
+  before_end Observers e = refl
+  before_end Members e = absurd (false≢true e)
+  before_end Over e = absurd (false≢true e)
+
+  observers_run : (observers : List Row) → list_all is_watching observers ≡ true → (part : Part) → may_have_observers part ≡ true → (line : ℕ)
+      (history : List Request) → Comes (run_on (Some (at part history)) line observers) history
+  observers_run [] e part may line history = record { part = part; open_end = before_end part may; is = refl }
+  observers_run (row ∷ rows) e part may line history =
+      let p = and_parts (is_watching row) (list_all is_watching rows) e in
+      let rest = observers_run rows p.1 Observers refl (line + 1) history in
+      record {
+        part = rest.part;
+        open_end = rest.open_end;
+        is = ap (λ (o : Option SoFar). run_on o (line + 1) rows) (watching_taken row p.0 part may line history) ∙ rest.is;
       }
 
   member_taken : (part : Part) → is_over part ≡ false → (line place : ℕ) (r : Request) (history : List Request) → place ≡ length history + 1
@@ -112,16 +145,28 @@ module _ (claims : List Line) (places : List ℕ) where
       → run_on (Some (at part history)) line (End ∷ []) ≡ Some (at Over history)
   end_taken part open_end line history = rw open_end refl
 
-  behind_events : (states : List Row) → list_all is_state states ≡ true → (history : List Request) (line : ℕ)
-      → run_on (Some (at Events [])) line (states ++ (members 1 history ++ End ∷ [])) ≡ Some (at Over history)
-  behind_events states e history line =
-      let first = states_run states e Events refl line [] in
-      let second = members_run history first.part first.open_end (length states + line) 1 [] refl in
-      let third = length (members 1 history) + (length states + line) in
-      then_run states (members 1 history ++ End ∷ []) (Some (at Events [])) (Some (at first.part [])) line (length states + line) refl first.is
-      ∙ then_run (members 1 history) (End ∷ []) (Some (at first.part [])) (Some (at second.part history)) (length states + line) third refl
+  -- the observers, the members and the end
+  behind_states : (observers : List Row) → list_all is_watching observers ≡ true → (part : Part) → may_have_observers part ≡ true
+      → (history : List Request) (line : ℕ)
+      → run_on (Some (at part [])) line (observers ++ (members 1 history ++ End ∷ [])) ≡ Some (at Over history)
+  behind_states observers e part may history line =
+      let first = observers_run observers e part may line [] in
+      let second = members_run history first.part first.open_end (length observers + line) 1 [] refl in
+      let third = length (members 1 history) + (length observers + line) in
+      then_run observers (members 1 history ++ End ∷ []) (Some (at part [])) (Some (at first.part [])) line (length observers + line) refl
+      first.is
+      ∙ then_run (members 1 history) (End ∷ []) (Some (at first.part [])) (Some (at second.part history)) (length observers + line) third refl
       second.is
       ∙ end_taken second.part second.open_end third history
+
+  behind_events : (states observers : List Row) → list_all is_state states ≡ true → list_all is_watching observers ≡ true
+      → (history : List Request) (line : ℕ)
+      → run_on (Some (at Events [])) line (states ++ (observers ++ (members 1 history ++ End ∷ []))) ≡ Some (at Over history)
+  behind_events states observers e f history line =
+      let first = states_run states e Events refl line [] in
+      then_run states (observers ++ (members 1 history ++ End ∷ [])) (Some (at Events [])) (Some (at first.part [])) line
+      (length states + line) refl first.is
+      ∙ behind_states observers f first.part first.may history (length states + line)
 
 -- ---- all rows
 
@@ -130,6 +175,6 @@ what_it_says t = record { part = Over; said = said t; places = places_of 2 t.eve
 
 pub body_runs : (t : Transcript) → TranscriptFits t → run (body t) ≡ Some (what_it_says t)
 body_runs t fits =
-    then_run t.events (t.states ++ (members 1 t.history ++ End ∷ [])) (Some nothing_yet)
+    then_run t.events (t.states ++ (t.observers ++ (members 1 t.history ++ End ∷ []))) (Some nothing_yet)
     (Some (state_of Events (said t) (places_of 2 t.events) [])) 2 (length t.events + 2) refl (events_run [] t.events fits.events 2 [] [])
-    ∙ behind_events (said t) (places_of 2 t.events) t.states fits.states t.history (length t.events + 2)
+    ∙ behind_events (said t) (places_of 2 t.events) t.states t.observers fits.states fits.observers t.history (length t.events + 2)

@@ -7,34 +7,38 @@ use Rattle.std.proofs.lemmas.List.Folds.{list_all-append}
 use Rattle.std.proofs.lemmas.Bool.{eqb-true}
 use Rattle.nop_types.specs.Lines.{Line}
 use Rattle.nop_types.specs.declared.request.Request.{Request}
-use Rattle.transcript_reader.specs.Steps.{SoFar, nothing_yet, event_step, state_step, member_step}
+use Rattle.transcript_reader.specs.Steps.{SoFar, nothing_yet, event_step, state_step, observer_step, member_step}
 use Rattle.transcript_reader.specs.Steps.{end_step, step, run_on, run}
-use Rattle.transcript_reader.specs.Transcripts.{is_event, is_state, members, said_by, places_of}
+use Rattle.transcript_reader.specs.Transcripts.{is_event, is_state, is_watching, members, said_by, places_of}
 use Rattle.transcript_reader.specs.declared.part.Part.{Part}
-use Rattle.transcript_reader.specs.declared.part.Part.TheVariants.{Events, States, Members, Over}
+use Rattle.transcript_reader.specs.declared.part.Part.TheVariants.{Events, States, Observers, Members, Over}
 use Rattle.transcript_rows.specs.declared.row.Row.{Row}
-use Rattle.transcript_rows.specs.declared.row.Row.TheVariants.{State, Slot, Member, End}
+use Rattle.transcript_rows.specs.declared.row.Row.TheVariants.{State, Slot, Watching, Member, End}
 
 abbrev pub ending : Part → List Row
 ending Events = []
 ending States = []
+ending Observers = []
 ending Members = []
 ending Over = End ∷ []
 
 -- what a part excludes
-abbrev pub Excludes : Part → List Row → List Request → Type 0
-Excludes Events states history = (states ≡ []) × (history ≡ [])
-Excludes States states history = history ≡ []
-Excludes Members states history = Unit {0}
-Excludes Over states history = Unit {0}
+abbrev pub Excludes : Part → List Row → List Row → List Request → Type 0
+Excludes Events states observers history = (states ≡ []) × (observers ≡ []) × (history ≡ [])
+Excludes States states observers history = (observers ≡ []) × (history ≡ [])
+Excludes Observers states observers history = history ≡ []
+Excludes Members states observers history = Unit {0}
+Excludes Over states observers history = Unit {0}
 
 pub record Shape (rows : List Row) (s : SoFar) : Type 0 where
   pub events : List Row
   pub states : List Row
+  pub observers : List Row
   pub are_events : list_all is_event events ≡ true
   pub are_states : list_all is_state states ≡ true
-  pub is : rows ≡ events ++ (states ++ (members 1 s.history ++ ending s.part))
-  pub excludes : Excludes s.part states s.history
+  pub are_watching : list_all is_watching observers ≡ true
+  pub is : rows ≡ events ++ (states ++ (observers ++ (members 1 s.history ++ ending s.part)))
+  pub excludes : Excludes s.part states observers s.history
   pub claims : s.said ≡ flat_map said_by events
   pub numbers : s.places ≡ places_of 2 events
 
@@ -82,13 +86,15 @@ module _ (rows : List Row) (row : Row) (said : List Line) (places : List ℕ) (h
   event_on : is_event row ≡ true → Shape rows (state_of Events said places history)
       → Shape (rows ++ row ∷ []) (state_of Events (said ++ said_by row) (places ++ numbered (length rows + 2) row) history)
   event_on test s =
-      let alone : rows ≡ s.events = s.is ∙ rw (s.excludes.0, s.excludes.1) (append-nil s.events) in
+      let alone : rows ≡ s.events = s.is ∙ rw (s.excludes.0, s.excludes.1, s.excludes.2) (append-nil s.events) in
       record {
         events = s.events ++ row ∷ [];
         states = s.states;
+        observers = s.observers;
         are_events = all_with is_event s.events row s.are_events test;
         are_states = s.are_states;
-        is = rw (s.excludes.0, s.excludes.1) (ap (λ (xs : List Row). xs ++ row ∷ []) alone ∙ sym (append-nil (s.events ++ row ∷ [])));
+        are_watching = s.are_watching;
+        is = rw (s.excludes.0, s.excludes.1, s.excludes.2) (ap (λ (xs : List Row). xs ++ row ∷ []) alone ∙ sym (append-nil (s.events ++ row ∷ [])));
         excludes = s.excludes;
         claims = ap (λ (xs : List Line). xs ++ said_by row) s.claims ∙ sym (said_with s.events row);
         numbers = ap (λ (xs : List ℕ). xs ++ numbered (length rows + 2) row) s.numbers
@@ -102,18 +108,20 @@ module _ (rows : List Row) (row : Row) (said : List Line) (places : List ℕ) (h
       subst (Shape (rows ++ row ∷ [])) same (event_on test s)
   event_shape _ n test s e = absurd cc
 
-  state_on : (part : Part) → history ≡ [] → ending part ≡ [] → is_state row ≡ true → Shape rows (state_of part said places history)
-      → Shape (rows ++ row ∷ []) (state_of States said places history)
-  state_on part none free test s =
-      let alone : rows ≡ s.events ++ s.states = s.is ∙ rw (none, free) (ap (λ (xs : List Row). s.events ++ xs) (append-nil s.states)) in
+  state_on : (part : Part) → history ≡ [] → ending part ≡ [] → is_state row ≡ true → (s : Shape rows (state_of part said places history))
+      → s.observers ≡ [] → Shape (rows ++ row ∷ []) (state_of States said places history)
+  state_on part none free test s unwatched =
+      let alone : rows ≡ s.events ++ s.states = s.is ∙ rw (unwatched, none, free) (ap (λ (xs : List Row). s.events ++ xs) (append-nil s.states)) in
       record {
         events = s.events;
         states = s.states ++ row ∷ [];
+        observers = s.observers;
         are_events = s.are_events;
         are_states = all_with is_state s.states row s.are_states test;
-        is = rw none (ap (λ (xs : List Row). xs ++ row ∷ []) alone ∙ append_assoc s.events s.states (row ∷ [])
+        are_watching = s.are_watching;
+        is = rw (unwatched, none) (ap (λ (xs : List Row). xs ++ row ∷ []) alone ∙ append_assoc s.events s.states (row ∷ [])
             ∙ ap (λ (xs : List Row). s.events ++ xs) (sym (append-nil (s.states ++ row ∷ []))));
-        excludes = none;
+        excludes = (unwatched, none);
         claims = s.claims;
         numbers = s.numbers;
       }
@@ -122,22 +130,59 @@ module _ (rows : List Row) (row : Row) (said : List Line) (places : List ℕ) (h
       → state_step (state_of part said places history) ≡ Some n → Shape (rows ++ row ∷ []) n
   state_shape Events n test s e =
       let same : state_of States said places history ≡ n = cc in
-      subst (Shape (rows ++ row ∷ [])) same (state_on Events s.excludes.1 refl test s)
+      subst (Shape (rows ++ row ∷ [])) same (state_on Events s.excludes.2 refl test s s.excludes.1)
   state_shape States n test s e =
       let same : state_of States said places history ≡ n = cc in
-      subst (Shape (rows ++ row ∷ [])) same (state_on States s.excludes refl test s)
+      subst (Shape (rows ++ row ∷ [])) same (state_on States s.excludes.1 refl test s s.excludes.0)
+  state_shape Observers n test s e = absurd cc
   state_shape Members n test s e = absurd cc
   state_shape Over n test s e = absurd cc
+
+  watching_on : (part : Part) → history ≡ [] → ending part ≡ [] → is_watching row ≡ true → Shape rows (state_of part said places history)
+      → Shape (rows ++ row ∷ []) (state_of Observers said places history)
+  watching_on part none free test s =
+      let alone : rows ≡ s.events ++ (s.states ++ s.observers) =
+      s.is ∙ rw (none, free) (ap (λ (xs : List Row). s.events ++ (s.states ++ xs)) (append-nil s.observers)) in
+      record {
+        events = s.events;
+        states = s.states;
+        observers = s.observers ++ row ∷ [];
+        are_events = s.are_events;
+        are_states = s.are_states;
+        are_watching = all_with is_watching s.observers row s.are_watching test;
+        is = rw none (ap (λ (xs : List Row). xs ++ row ∷ []) alone ∙ append_assoc s.events (s.states ++ s.observers) (row ∷ [])
+            ∙ ap (λ (xs : List Row). s.events ++ xs) (append_assoc s.states s.observers (row ∷ []))
+            ∙ ap (λ (xs : List Row). s.events ++ (s.states ++ xs)) (sym (append-nil (s.observers ++ row ∷ []))));
+        excludes = none;
+        claims = s.claims;
+        numbers = s.numbers;
+      }
+
+  watching_shape : (part : Part) (n : SoFar) → is_watching row ≡ true → Shape rows (state_of part said places history)
+      → observer_step (state_of part said places history) ≡ Some n → Shape (rows ++ row ∷ []) n
+  watching_shape Events n test s e =
+      let same : state_of Observers said places history ≡ n = cc in
+      subst (Shape (rows ++ row ∷ [])) same (watching_on Events s.excludes.2 refl test s)
+  watching_shape States n test s e =
+      let same : state_of Observers said places history ≡ n = cc in
+      subst (Shape (rows ++ row ∷ [])) same (watching_on States s.excludes.1 refl test s)
+  watching_shape Observers n test s e =
+      let same : state_of Observers said places history ≡ n = cc in
+      subst (Shape (rows ++ row ∷ [])) same (watching_on Observers s.excludes refl test s)
+  watching_shape Members n test s e = absurd cc
+  watching_shape Over n test s e = absurd cc
 
 module _ (rows : List Row) (said : List Line) (places : List ℕ) (history : List Request) where
   -- behind the members so far
   longer : (part : Part) (row : Row) (later : List Row) → ending part ≡ [] → (s : Shape rows (state_of part said places history))
-      → members 1 history ++ row ∷ [] ≡ later → rows ++ row ∷ [] ≡ s.events ++ (s.states ++ later)
+      → members 1 history ++ row ∷ [] ≡ later → rows ++ row ∷ [] ≡ s.events ++ (s.states ++ (s.observers ++ later))
   longer part row later free s e =
-      ap (λ (xs : List Row). xs ++ row ∷ []) (s.is ∙ rw free (ap (λ (xs : List Row). s.events ++ (s.states ++ xs)) (append-nil (members 1 history))))
-      ∙ append_assoc s.events (s.states ++ members 1 history) (row ∷ [])
-      ∙ ap (λ (xs : List Row). s.events ++ xs) (append_assoc s.states (members 1 history) (row ∷ []))
-      ∙ ap (λ (xs : List Row). s.events ++ (s.states ++ xs)) e
+      ap (λ (xs : List Row). xs ++ row ∷ [])
+      (s.is ∙ rw free (ap (λ (xs : List Row). s.events ++ (s.states ++ (s.observers ++ xs))) (append-nil (members 1 history))))
+      ∙ append_assoc s.events (s.states ++ (s.observers ++ members 1 history)) (row ∷ [])
+      ∙ ap (λ (xs : List Row). s.events ++ xs) (append_assoc s.states (s.observers ++ members 1 history) (row ∷ []))
+      ∙ ap (λ (xs : List Row). s.events ++ (s.states ++ xs)) (append_assoc s.observers (members 1 history) (row ∷ []))
+      ∙ ap (λ (xs : List Row). s.events ++ (s.states ++ (s.observers ++ xs))) e
 
   member_on : (part : Part) (place : ℕ) (r : Request) → ending part ≡ [] → place ≡ length history + 1
       → Shape rows (state_of part said places history)
@@ -145,8 +190,10 @@ module _ (rows : List Row) (said : List Line) (places : List ℕ) (history : Lis
   member_on part place r free at s = record {
     events = s.events;
     states = s.states;
+    observers = s.observers;
     are_events = s.are_events;
     are_states = s.are_states;
+    are_watching = s.are_watching;
     is = longer part (Member place r) (members 1 (history ++ r ∷ []) ++ []) free s
         (sym (members_with 1 history r place at) ∙ sym (append-nil (members 1 (history ++ r ∷ []))));
     excludes = tt;
@@ -159,8 +206,10 @@ module _ (rows : List Row) (said : List Line) (places : List ℕ) (history : Lis
   end_on part free s = record {
     events = s.events;
     states = s.states;
+    observers = s.observers;
     are_events = s.are_events;
     are_states = s.are_states;
+    are_watching = s.are_watching;
     is = longer part End (members 1 history ++ End ∷ []) free s refl;
     excludes = tt;
     claims = s.claims;
@@ -173,6 +222,8 @@ module _ (rows : List Row) (said : List Line) (places : List ℕ) (history : Lis
       let same : state_of Over said places history ≡ n = cc in subst (Shape (rows ++ End ∷ [])) same (end_on Events refl s)
   end_shape States n s e =
       let same : state_of Over said places history ≡ n = cc in subst (Shape (rows ++ End ∷ [])) same (end_on States refl s)
+  end_shape Observers n s e =
+      let same : state_of Over said places history ≡ n = cc in subst (Shape (rows ++ End ∷ [])) same (end_on Observers refl s)
   end_shape Members n s e =
       let same : state_of Over said places history ≡ n = cc in subst (Shape (rows ++ End ∷ [])) same (end_on Members refl s)
   end_shape Over n s e = absurd cc
@@ -193,6 +244,7 @@ module _ (rows : List Row) (said : List Line) (places : List ℕ) (history : Lis
       → member_step (state_of part said places history) place r ≡ Some n → Shape (rows ++ Member place r ∷ []) n
   member_shape Events place r n s e = member_by Events place r n refl s e
   member_shape States place r n s e = member_by States place r n refl s e
+  member_shape Observers place r n s e = member_by Observers place r n refl s e
   member_shape Members place r n s e = member_by Members place r n refl s e
   member_shape Over place r n s e = absurd cc
 
@@ -200,6 +252,8 @@ pub one_more : (rows : List Row) (row : Row) (s n : SoFar) → Shape rows s → 
 one_more rows (State replica crashed status view len sync_point) s n shape e =
     state_shape rows (State replica crashed status view len sync_point) s.said s.places s.history s.part n refl shape e
 one_more rows (Slot replica slot entry) s n shape e = state_shape rows (Slot replica slot entry) s.said s.places s.history s.part n refl shape e
+one_more rows (Watching observer crashed position) s n shape e =
+    watching_shape rows (Watching observer crashed position) s.said s.places s.history s.part n refl shape e
 one_more rows (Member place request) s n shape e = member_shape rows s.said s.places s.history s.part place request n shape e
 one_more rows End s n shape e = end_shape rows s.said s.places s.history s.part n shape e
 one_more rows x s n shape e = event_shape rows x s.said s.places s.history s.part n refl shape e
@@ -224,10 +278,12 @@ pub nothing_shape : Shape [] nothing_yet
 nothing_shape = record {
   events = [];
   states = [];
+  observers = [];
   are_events = refl;
   are_states = refl;
+  are_watching = refl;
   is = refl;
-  excludes = (refl, refl);
+  excludes = (refl, refl, refl);
   claims = refl;
   numbers = refl;
 }

@@ -6,10 +6,10 @@ use Rattle.nop_types.specs.declared.request.Request.{Request}
 use Rattle.transcript_reader.specs.Claims.{lines_of}
 use Rattle.transcript_reader.specs.Transcripts.{said_by}
 use Rattle.transcript_reader.specs.declared.part.Part.{Part}
-use Rattle.transcript_reader.specs.declared.part.Part.TheVariants.{Events, States, Members, Over}
+use Rattle.transcript_reader.specs.declared.part.Part.TheVariants.{Events, States, Observers, Members, Over}
 use Rattle.transcript_reader.specs.declared.taken.Taken.{Taken}
 use Rattle.transcript_rows.specs.declared.row.Row.{Row}
-use Rattle.transcript_rows.specs.declared.row.Row.TheVariants.{State, Slot, Member, End}
+use Rattle.transcript_rows.specs.declared.row.Row.TheVariants.{State, Slot, Watching, Member, End}
 
 pub record SoFar : Type 0 where
   pub part : Part
@@ -30,12 +30,21 @@ is_events _ = false
 abbrev pub may_have_states : Part → Bool
 may_have_states Events = true
 may_have_states States = true
+may_have_states Observers = false
 may_have_states Members = false
 may_have_states Over = false
+
+abbrev pub may_have_observers : Part → Bool
+may_have_observers Events = true
+may_have_observers States = true
+may_have_observers Observers = true
+may_have_observers Members = false
+may_have_observers Over = false
 
 abbrev pub is_over : Part → Bool
 is_over Events = false
 is_over States = false
+is_over Observers = false
 is_over Members = false
 is_over Over = true
 
@@ -46,6 +55,9 @@ event_step line s claim =
 
 abbrev pub state_step : SoFar → Option SoFar
 state_step s = if may_have_states s.part then Some (record s { part = States }) else None
+
+abbrev pub observer_step : SoFar → Option SoFar
+observer_step s = if may_have_observers s.part then Some (record s { part = Observers }) else None
 
 abbrev pub member_step : SoFar → ℕ → Request → Option SoFar
 member_step s place r =
@@ -60,6 +72,7 @@ end_step s = if is_over s.part then None else Some (record s { part = Over })
 abbrev pub step : ℕ → SoFar → Row → Option SoFar
 step line s (State replica crashed status view len sync_point) = state_step s
 step line s (Slot replica slot entry) = state_step s
+step line s (Watching observer crashed position) = observer_step s
 step line s (Member place request) = member_step s place request
 step line s End = end_step s
 step line s x = event_step line s (said_by x)

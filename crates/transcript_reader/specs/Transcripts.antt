@@ -8,15 +8,17 @@ use Rattle.nop_types.specs.Lines as lines
 use Rattle.nop_types.specs.declared.request.Request.{Request}
 use Rattle.transcript_reader.specs.declared.limits.TheConstants.{MAX_TRANSCRIPT_LINES}
 use Rattle.transcript_rows.specs.declared.row.Row.{Row}
-use Rattle.transcript_rows.specs.declared.row.Row.TheVariants.{Dead, Submit, Accept, Busy, Read, Answer, Sent, State, Slot, Member, End}
+use Rattle.transcript_rows.specs.declared.row.Row.TheVariants.{Dead, Submit, Accept, Busy, Read, Answer, Sent, State, Slot, Watching}
+use Rattle.transcript_rows.specs.declared.row.Row.TheVariants.{Member, End}
 use Rattle.transcript_rows.specs.Rows.{RowFits, row_text}
 use Rattle.transcript_text.specs.Transcript.{transcript_line}
 
--- the lines of events, then those of the replicas' states, then the history
+-- the lines of events, then those of the replicas' states, then those of the observers, then the history
 pub record Transcript : Type 0 where
   pub header : Header
   pub events : List Row
   pub states : List Row
+  pub observers : List Row
   pub history : List Request
 
 abbrev pub is_event : Row → Bool
@@ -34,6 +36,10 @@ is_state (State replica crashed status view len sync_point) = true
 is_state (Slot replica slot entry) = true
 is_state _ = false
 
+abbrev pub is_watching : Row → Bool
+is_watching (Watching observer crashed position) = true
+is_watching _ = false
+
 -- the history, numbered from a place on
 abbrev pub members : ℕ → List Request → List Row
 members place [] = []
@@ -41,7 +47,7 @@ members place (r ∷ rs) = Member place r ∷ members (place + 1) rs
 
 -- all lines behind the first one
 abbrev pub body : Transcript → List Row
-body t = t.events ++ (t.states ++ (members 1 t.history ++ End ∷ []))
+body t = t.events ++ (t.states ++ (t.observers ++ (members 1 t.history ++ End ∷ [])))
 
 -- its lines, each with its end
 abbrev pub transcript_lines : Transcript → List (List ℕ)
@@ -59,6 +65,7 @@ pub record TranscriptFits (t : Transcript) : Type 0 where
   pub header : is_header t.header ≡ true
   pub events : list_all is_event t.events ≡ true
   pub states : list_all is_state t.states ≡ true
+  pub observers : list_all is_watching t.observers ≡ true
   pub rows : AllFit (body t)
 
 -- the bytes are the text of the transcript, which has no line too many

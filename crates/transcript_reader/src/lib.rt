@@ -1,5 +1,6 @@
 //! Transcripts, read line by line from any source: their first line, the lines of events, those
-//! of the replicas' states, the history numbered from 1, `end`, and nothing more.
+//! of the replicas' states, those of the observers, the history numbered from 1, `end`, and nothing
+//! more.
 //!
 //! Proved: at Ok the source has none left and its bytes spell a transcript
 //! (`specs/Transcripts`, `Spells`), of which the answer is what it submits and accepts, with

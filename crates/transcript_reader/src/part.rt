@@ -5,6 +5,8 @@ pub enum Part {
     Events,
     /// How the replicas stand at the end.
     States,
+    /// How the observers stand at the end.
+    Observers,
     /// The history.
     Members,
     /// Behind the last line.

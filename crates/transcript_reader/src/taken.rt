@@ -1,7 +1,8 @@
 ghost use Rattle.std.specs.Prelude.{◌≡◌, ℕ, IfOk};
 ghost use Rattle.transcript_reader.specs.Steps.{nothing_yet, so_far, step, IsStep};
-ghost use Rattle.transcript_reader.specs.Steps.{event_step, state_step, member_step, end_step};
-ghost use Rattle.transcript_reader.specs.Steps.{is_events, may_have_states, is_over};
+ghost use Rattle.transcript_reader.specs.Steps.{event_step, state_step, observer_step, member_step};
+ghost use Rattle.transcript_reader.specs.Steps.{end_step, is_events, may_have_states};
+ghost use Rattle.transcript_reader.specs.Steps.{may_have_observers, is_over};
 ghost use Rattle.transcript_reader.specs.Claims.{line_of};
 ghost use Rattle.std.specs.Prelude.{◌∷◌, []};
 
@@ -30,6 +31,12 @@ fn may_have_states(part: Part) -> bool
     ensures { result ≡ may_have_states part }
 {
     matches!(part, Part::Events | Part::States)
+}
+
+fn may_have_observers(part: Part) -> bool
+    ensures { result ≡ may_have_observers part }
+{
+    matches!(part, Part::Events | Part::States | Part::Observers)
 }
 
 fn is_over(part: Part) -> bool
@@ -80,6 +87,16 @@ impl Taken {
         true
     }
 
+    fn take_observer(&mut self) -> bool
+        ensures { IsStep (observer_step (so_far self.old)) result (so_far self.new) }
+    {
+        if !may_have_observers(self.part) {
+            return false;
+        }
+        self.part = Part::Observers;
+        true
+    }
+
     fn take_member(&mut self, place: u32, request: Request) -> Result<bool, NoMemory>
         ensures { IfOk result (λ took. IsStep (member_step (so_far self.old) place request) took
             (so_far self.new)) }
@@ -122,6 +139,7 @@ impl Taken {
             }
             Row::State { .. } => Ok(self.take_state()),
             Row::Slot { .. } => Ok(self.take_state()),
+            Row::Watching { .. } => Ok(self.take_observer()),
             Row::Member { place, request } => self.take_member(place, request),
             Row::End => Ok(self.take_end()),
         }

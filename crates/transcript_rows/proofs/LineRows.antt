@@ -9,9 +9,10 @@ use Rattle.nop_types.specs.declared.request.Request.{Request}
 use Rattle.nop_types.specs.declared.view.View.{View}
 use Rattle.transcript_rows.specs.Rows.{row_text}
 use Rattle.transcript_rows.specs.LineRows.{row_of}
-use Rattle.transcript_rows.specs.declared.row.Row.TheVariants.{State, Slot, Member, End}
-use Rattle.transcript_text.proofs.LineLemmas.{send_fields, answer_fields, replica_fields}
-use Rattle.transcript_text.specs.Transcript.{line_text, dead_line, submit_line, accept_line, busy_line, read_line, replica_line, entry_line, history_line, end_line}
+use Rattle.transcript_rows.specs.declared.row.Row.TheVariants.{State, Slot, Watching, Member, End}
+use Rattle.transcript_text.proofs.LineLemmas.{send_fields, answer_fields, replica_fields, observer_fields}
+use Rattle.transcript_text.specs.Transcript.{line_text, dead_line, submit_line, accept_line, busy_line, read_line, replica_line, observer_line, entry_line, history_line}
+use Rattle.transcript_text.specs.Transcript.{end_line}
 use Rattle.transcript_text.specs.Transcript.{client_text, hex_text, line_end, pair_text, space}
 
 pub line_as_row : (line : Line) → row_text (row_of line) ≡ line_text line
@@ -28,6 +29,11 @@ pub state_as_row : (number : ℕ) (crashed : Bool) (status : Phase) (view : View
     → row_text (State number crashed status view len sync_point) ≡ replica_line number crashed status view len sync_point
 unfolding row_text
 state_as_row number crashed status view len sync_point = replica_fields number crashed status view len sync_point
+
+pub observer_as_row : (number : ℕ) (crashed : Bool) (position : ℕ)
+    → row_text (Watching number crashed position) ≡ observer_line number crashed position
+unfolding row_text
+observer_as_row number crashed position = observer_fields number crashed position
 
 -- a client, an id and bytes to the end of a line
 abbrev pair_end : ℕ → ℕ → List ℕ → List ℕ

@@ -24,7 +24,8 @@ use Rattle.transcript_rows.specs.Reading.{limits}
 use Rattle.transcript_rows.specs.Rows.{row_word, row_fields, actor_fits, dest_fits, pair_fits, request_fits, entry_fits, row_fits}
 use Rattle.transcript_rows.specs.Rows.{request_fields, entry_fields, IsTypedRequest, IsTypedEntry, IsTyped, RowFits}
 use Rattle.transcript_rows.specs.declared.row.Row.{Row}
-use Rattle.transcript_rows.specs.declared.row.Row.TheVariants.{Dead, Submit, Accept, Busy, Read, Answer, Sent, State, Slot, Member, End}
+use Rattle.transcript_rows.specs.declared.row.Row.TheVariants.{Dead, Submit, Accept, Busy, Read, Answer, Sent, State, Slot, Watching}
+use Rattle.transcript_rows.specs.declared.row.Row.TheVariants.{Member, End}
 use Rattle.transcript_text.specs.LineText.{after_space}
 use Rattle.transcript_text.specs.Transcript.{actor_text, dest_text, hex_text, kind_text, phase_text, up_text}
 
@@ -160,6 +161,12 @@ fields_width (Slot replica slot entry) e typed =
     one_more (actor_text (actors.Replica replica)) (decimal slot ∷ entry_fields entry) 21 1345 1400 (name_short (actors.Replica replica) p.named)
     (one_more (decimal slot) (entry_fields entry) 20 1324 1345 (decimal_short slot (omega arith)) (entry_width entry p.fits typed.1) (omega arith))
     (omega arith)
+fields_width (Watching observer crashed position) e typed =
+    let low : position < 2 ^ 32 = typed in
+    one_more (actor_text (actors.Observer observer)) (up_text crashed ∷ decimal position ∷ []) 21 42 1400
+    (name_short (actors.Observer observer) e)
+    (one_more (up_text crashed) (decimal position ∷ []) 20 21 42 (up_short crashed)
+    (one_more (decimal position) [] 20 0 21 (decimal_short position (omega arith)) no_field (omega arith)) (omega arith)) (omega arith)
 fields_width (Member place request) e typed =
     let p = and_parts (nat_le 1 place) (request_fits request) e in
     let low = typed.0 in
@@ -167,7 +174,7 @@ fields_width (Member place request) e typed =
     (omega arith)
 fields_width End e typed = record { within = omega arith }
 
-word_short : (row : Row) → length (row_word row) ≤ 7
+word_short : (row : Row) → length (row_word row) ≤ 8
 word_short (Dead actor) = omega arith
 word_short _ = omega arith
 
@@ -186,11 +193,18 @@ row_is_line row fits = record {
       (spaced_inside (row_fields row) (fields_marked row fits.ranges fits.typed));
 }
 
-last_width : (b : Bool) (k : ℕ) → k < 2 ^ 64 → Width (if b then [] else codes "controllers" ∷ decimal k ∷ []) 33
-last_width true k fits = record { within = omega arith }
-last_width false k fits =
-    one_more (codes "controllers") (decimal k ∷ []) 11 21 33 (omega arith)
-    (one_more (decimal k) [] 20 0 21 (decimal_short k fits) no_field (omega arith)) (omega arith)
+last_width : (a b : Bool) (k o : ℕ) → k < 2 ^ 64 → o < 2 ^ 64
+    → Width (if a then [] else if b then codes "controllers" ∷ decimal k ∷ []
+    else codes "controllers" ∷ decimal k ∷ codes "observers" ∷ decimal o ∷ []) 64
+last_width true b k o small few = record { within = omega arith }
+last_width false true k o small few =
+    one_more (codes "controllers") (decimal k ∷ []) 11 21 64 (omega arith)
+    (one_more (decimal k) [] 20 0 21 (decimal_short k small) no_field (omega arith)) (omega arith)
+last_width false false k o small few =
+    one_more (codes "controllers") (decimal k ∷ codes "observers" ∷ decimal o ∷ []) 11 52 64 (omega arith)
+    (one_more (decimal k) (codes "observers" ∷ decimal o ∷ []) 20 31 52 (decimal_short k small)
+    (one_more (codes "observers") (decimal o ∷ []) 9 21 31 (omega arith)
+    (one_more (decimal o) [] 20 0 21 (decimal_short o few) no_field (omega arith)) (omega arith)) (omega arith)) (omega arith)
 
 header_width : (h : Header) → is_header h ≡ true → Width (header_fields h) 1400
 unfolding header_fields
@@ -201,19 +215,20 @@ header_width h e =
     let replicas = s.replicas in
     let sequencers = s.sequencers in
     let clients = s.clients in
-    let last = last_fields h.form c.controllers in
+    let last = last_fields h.form c.controllers c.observers in
     one_more (decimal h.form)
-    (codes "replicas" ∷ decimal c.replicas ∷ codes "sequencers" ∷ decimal c.sequencers ∷ codes "clients" ∷ decimal c.clients ∷ last) 20 159
+    (codes "replicas" ∷ decimal c.replicas ∷ codes "sequencers" ∷ decimal c.sequencers ∷ codes "clients" ∷ decimal c.clients ∷ last) 20 190
     1400 (decimal_short h.form (omega arith))
     (one_more (codes "replicas")
-    (decimal c.replicas ∷ codes "sequencers" ∷ decimal c.sequencers ∷ codes "clients" ∷ decimal c.clients ∷ last) 20 138 159 (omega arith)
-    (one_more (decimal c.replicas) (codes "sequencers" ∷ decimal c.sequencers ∷ codes "clients" ∷ decimal c.clients ∷ last) 20 117 138
+    (decimal c.replicas ∷ codes "sequencers" ∷ decimal c.sequencers ∷ codes "clients" ∷ decimal c.clients ∷ last) 20 169 190 (omega arith)
+    (one_more (decimal c.replicas) (codes "sequencers" ∷ decimal c.sequencers ∷ codes "clients" ∷ decimal c.clients ∷ last) 20 148 169
     (decimal_short c.replicas (omega arith))
-    (one_more (codes "sequencers") (decimal c.sequencers ∷ codes "clients" ∷ decimal c.clients ∷ last) 20 96 117 (omega arith)
-    (one_more (decimal c.sequencers) (codes "clients" ∷ decimal c.clients ∷ last) 20 75 96 (decimal_short c.sequencers (omega arith))
-    (one_more (codes "clients") (decimal c.clients ∷ last) 20 54 75 (omega arith)
-    (one_more (decimal c.clients) last 20 33 54 (decimal_short c.clients (omega arith))
-    (last_width (h.form == 1) c.controllers (omega (arith, s.controllers))) (omega arith)) (omega arith)) (omega arith))
+    (one_more (codes "sequencers") (decimal c.sequencers ∷ codes "clients" ∷ decimal c.clients ∷ last) 20 127 148 (omega arith)
+    (one_more (decimal c.sequencers) (codes "clients" ∷ decimal c.clients ∷ last) 20 106 127 (decimal_short c.sequencers (omega arith))
+    (one_more (codes "clients") (decimal c.clients ∷ last) 20 85 106 (omega arith)
+    (one_more (decimal c.clients) last 20 64 85 (decimal_short c.clients (omega arith))
+    (last_width (h.form == 1) (h.form == 2) c.controllers c.observers (omega (arith, s.controllers)) (omega (arith, s.observers)))
+    (omega arith)) (omega arith)) (omega arith))
     (omega arith)) (omega arith)) (omega arith)) (omega arith)
 
 pub header_is_line : (h : Header) → is_header h ≡ true → IsLine (spelled_header h)

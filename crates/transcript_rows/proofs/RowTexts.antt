@@ -7,12 +7,12 @@ use Rattle.std.specs.List.{flat_map, list_all}
 use Rattle.std.proofs.lemmas.Bool.{le-leb, leb-true, ltb-true, eqb-true, ne_eqb, and_parts, and_left}
 use Rattle.std.proofs.lemmas.List.{append_cancel_right}
 use Rattle.hex.specs.Hex.{IsBytes}
-use Rattle.line_fields.specs.Fields.{fields, actor_of, client_number, number_below, IsActorOf}
-use Rattle.line_fields.proofs.FieldTexts.{is_mark, decimal_marked, number_again, small_again, Small, actor_again, bytes_again}
+use Rattle.line_fields.specs.Fields.{fields, actor_of, client_number, observer_number, number_below, IsActorOf}
+use Rattle.line_fields.proofs.FieldTexts.{is_mark, decimal_marked, number_again, small_again, Small, actor_again, bytes_again, key_again}
 use Rattle.line_fields.proofs.FieldTexts.{hex_marked, hex_within, AllMarked, line_fields, actor_marked}
 use Rattle.line_fields.proofs.FieldTexts.{starts_with_digit}
 use Rattle.nop_types.specs.declared.limits.TheConstants.{MAX_CLIENTS, MAX_CONTROLLERS, MAX_OP_BYTES, MAX_REPLICAS, MAX_RESULT_BYTES}
-use Rattle.nop_types.specs.declared.limits.TheConstants.{MAX_SEQUENCERS, MAX_KEY_BYTES, MAX_OBSERVERS}
+use Rattle.nop_types.specs.declared.limits.TheConstants.{MAX_SEQUENCERS, MAX_OBSERVERS}
 use Rattle.nop_types.specs.declared.output.Actor.{Actor}
 use Rattle.nop_types.specs.declared.output.Actor.TheVariants as actors
 use Rattle.nop_types.specs.declared.output.Dest.{Dest}
@@ -23,16 +23,17 @@ use Rattle.nop_types.specs.declared.request.Entry.TheVariants.{NoOp, Req}
 use Rattle.nop_types.specs.declared.replica_state.Phase.{Phase}
 use Rattle.nop_types.specs.declared.replica_state.Phase.TheVariants.{Normal, Change}
 use Rattle.transcript_rows.specs.declared.row.Row.{Row}
-use Rattle.transcript_rows.specs.declared.row.Row.TheVariants.{Dead, Submit, Accept, Busy, Read, Answer, Sent, State, Slot, Member, End}
+use Rattle.transcript_rows.specs.declared.row.Row.TheVariants.{Dead, Submit, Accept, Busy, Read, Answer, Sent, State, Slot, Watching}
+use Rattle.transcript_rows.specs.declared.row.Row.TheVariants.{Member, End}
 use Rattle.transcript_rows.specs.declared.row.TheConstants.{MAX_SENT_BYTES}
-use Rattle.transcript_rows.specs.Reading.{limits, client_of, replica_of, replica_number, observer_of, observer_number, word_of, to_one, dest_of, kind_of, crashed_of}
-use Rattle.transcript_rows.specs.Reading.{status_of, op_of, as_key, key_of, request_of, row_of_fields, controllers_of, header_with, header_of_fields}
+use Rattle.transcript_rows.specs.Reading.{limits, client_of, replica_of, replica_number, observer_of, word_of, to_one, dest_of, kind_of, crashed_of}
+use Rattle.transcript_rows.specs.Reading.{status_of, op_of, request_of, row_of_fields, counts_of, header_with, header_of_fields}
 use Rattle.transcript_rows.specs.Reading.{IsRowOf, IsHeaderOf, ◌>>=◌}
 use Rattle.transcript_rows.specs.Rows.{row_word, row_fields, row_text, row_fits, actor_fits, dest_fits, pair_fits, request_fits}
 use Rattle.transcript_rows.specs.Rows.{entry_fits, request_fields, entry_fields, IsTypedRequest, IsTypedEntry, IsTyped, RowFits}
 use Rattle.transcript_text.specs.LineText.{after_space}
 use Rattle.transcript_text.specs.Transcript.{actor_text, client_text, dest_text, hex_text, kind_text, phase_text, up_text, transcript_line}
-use Rattle.transcript_text.proofs.LineLemmas.{first_form, second_form}
+use Rattle.transcript_text.proofs.LineLemmas.{first_form, second_form, third_form}
 use Rattle.nop_types.specs.Configuration.{Configuration, is_configuration}
 use Rattle.nop_types.specs.Headers.{gives, is_header}
 use Rattle.nop_types.specs.declared.header.Header.{Header}
@@ -155,11 +156,6 @@ request_marked r e typed =
 
 -- ---- reads and answers
 
-key_read : (key : List ℕ) → 1 ≤ length key → length key ≤ MAX_KEY_BYTES → IsBytes key → key_of (hex_text key) ≡ Some key
-key_read key some most bytes =
-    ap (λ (o : Option (List ℕ)). o >>= as_key) (bytes_again key bytes)
-    ∙ rw (le-leb 1 (length key) some, le-leb (length key) MAX_KEY_BYTES most) refl
-
 -- what the ranges of a read's line are, one by one
 pub record ReadParts (client observer : ℕ) : Type 0 where
   pub named : nat_lt client MAX_CLIENTS ≡ true
@@ -252,7 +248,7 @@ row_read (Busy client) e typed = rw (client_read client e) refl
 row_read (Read client id observer key) e typed =
     let p = read_parts client id observer e in
     rw (client_read client p.named, number_again id typed.id_fits, observer_read observer p.there)
-    (rw (key_read key typed.some typed.most typed.bytes) refl)
+    (rw (key_again key typed.some typed.most typed.bytes) refl)
 row_read (Answer client id observer position result) e typed =
     let p = answer_parts client id observer result e in
     rw (client_read client p.named, number_again id typed.id_fits, observer_read observer p.there)
@@ -270,6 +266,8 @@ row_read (State replica crashed status view len sync_point) e typed =
     (rw (word_read len typed.len_fits)
     (rw (word_read sync_point typed.point_fits) (rw (crashed_read crashed, status_read status) refl)))))
 row_read (Slot replica slot entry) e typed = slot_read replica slot entry (slot_parts replica slot entry e) typed.0 typed.1
+row_read (Watching observer crashed position) e typed =
+    rw (observer_read observer e) (rw (word_read position typed) (rw (crashed_read crashed) refl))
 row_read (Member place request) e typed =
     let p = and_parts (nat_le 1 place) (request_fits request) e in
     rw (word_read place typed.0) (rw (request_read request p.1 typed.1) refl)
@@ -334,6 +332,9 @@ fields_marked (Slot replica slot entry) e typed =
     let p = slot_parts replica slot entry e in
     let low = typed.0 in
     (name_marked (actors.Replica replica) p.named, (decimal_marked slot (omega arith), entry_marked entry p.fits typed.1))
+fields_marked (Watching observer crashed position) e typed =
+    let low : position < 2 ^ 32 = typed in
+    (name_marked (actors.Observer observer) e, (up_marked crashed, (decimal_marked position (omega arith), tt)))
 fields_marked (Member place request) e typed =
     let p = and_parts (nat_le 1 place) (request_fits request) e in
     let low = typed.0 in
@@ -375,37 +376,41 @@ another_read line row read e is other = not_that line read (sym e)
 
 -- ---- the first line
 
--- the fields behind the clients: form 1 has none
-abbrev pub last_fields : ℕ → ℕ → List (List ℕ)
-last_fields form k = if form == 1 then [] else codes "controllers" ∷ decimal k ∷ []
+-- the fields behind the clients: form 1 has none, and form 2 none of observers
+abbrev pub last_fields : ℕ → ℕ → ℕ → List (List ℕ)
+last_fields form k o =
+    if form == 1 then []
+    else if form == 2 then codes "controllers" ∷ decimal k ∷ []
+    else codes "controllers" ∷ decimal k ∷ codes "observers" ∷ decimal o ∷ []
 
 unfoldable pub header_fields : Header → List (List ℕ)
 header_fields h =
     decimal h.form ∷ codes "replicas" ∷ decimal h.config.replicas ∷ codes "sequencers" ∷ decimal h.config.sequencers ∷ codes "clients"
-    ∷ decimal h.config.clients ∷ last_fields h.form h.config.controllers
+    ∷ decimal h.config.clients ∷ last_fields h.form h.config.controllers h.config.observers
 
 unfoldable pub spelled_header : Header → List ℕ
 spelled_header h = codes "transcript" ++ flat_map after_space (header_fields h)
 
--- a header is of form 2, or of form 1 with one controller
+-- a header is of form 3; or it has no observers and is of form 2, or of form 1 with one controller
 abbrev pub Forms : Header → Type 0
-Forms h = (h.form ≡ 2) ⊎ ((h.form ≡ 1) × (h.config.controllers ≡ 1))
-
--- the tests of a form: no observers, and these counts
-pub forms_pass : (h : Header) → is_header h ≡ true
-    → (h.config.observers == 0 ≡ true) × (((h.form == 2) || ((h.form == 1) && (h.config.controllers == 1))) ≡ true)
-forms_pass h e =
-    and_parts (h.config.observers == 0) ((h.form == 2) || ((h.form == 1) && (h.config.controllers == 1)))
-    (and_parts (gives h.form h.config) (is_configuration h.config) e).0
+Forms h =
+    (h.form ≡ 3)
+    ⊎ (((h.form ≡ 2) × (h.config.observers ≡ 0)) ⊎ ((h.form ≡ 1) × (h.config.controllers ≡ 1) × (h.config.observers ≡ 0)))
 
 pub forms : (h : Header) → is_header h ≡ true → Forms h
-forms h e = by_tests (h.form == 2) (h.form == 1) (h.config.controllers == 1) refl refl refl (forms_pass h e).1
+forms h e =
+    by_tests (h.form == 3) (h.config.observers == 0) (h.form == 2) (h.form == 1) (h.config.controllers == 1) refl refl refl refl refl
+    (and_parts (gives h.form h.config) (is_configuration h.config) e).0
   where
-    by_tests : (a b d : Bool) → h.form == 2 ≡ a → h.form == 1 ≡ b → h.config.controllers == 1 ≡ d → (a || (b && d)) ≡ true → Forms h
-    by_tests true b d p q r e = inl (eqb-true h.form 2 p)
-    by_tests false true true p q r e = inr (eqb-true h.form 1 q, eqb-true h.config.controllers 1 r)
-    by_tests false true false p q r e = absurd cc
-    by_tests false false d p q r e = absurd cc
+    by_tests : (t o a b d : Bool) → h.form == 3 ≡ t → h.config.observers == 0 ≡ o → h.form == 2 ≡ a → h.form == 1 ≡ b
+        → h.config.controllers == 1 ≡ d → (t || (o && (a || (b && d)))) ≡ true → Forms h
+    by_tests true o a b d m n p q r e = inl (eqb-true h.form 3 m)
+    by_tests false true true b d m n p q r e = inr (inl (eqb-true h.form 2 p, eqb-true h.config.observers 0 n))
+    by_tests false true false true true m n p q r e =
+        inr (inr (eqb-true h.form 1 q, eqb-true h.config.controllers 1 r, eqb-true h.config.observers 0 n))
+    by_tests false true false true false m n p q r e = absurd cc
+    by_tests false true false false d m n p q r e = absurd cc
+    by_tests false false a b d m n p q r e = absurd cc
 
 pub counted : (h : Header) → is_header h ≡ true → is_configuration h.config ≡ true
 counted h e = (and_parts (gives h.form h.config) (is_configuration h.config) e).1
@@ -416,58 +421,81 @@ whole_header h e = by_form h.form h.config (forms h e)
   where
     by_form : (form : ℕ) (c : Configuration) → Forms (record { form = form; config = c })
         → transcript_line form c ≡ spelled_header (record { form = form; config = c }) ++ 10 ∷ []
-    by_form form c (inl two) = rw two (sym (second_form 2 c (λ same. omega (arith, same))))
-    by_form form c (inr one) = rw one.0 (sym (first_form c))
+    by_form form c (inl three) = rw three (sym (third_form 3 c (λ same. omega (arith, same)) (λ same. omega (arith, same))))
+    by_form form c (inr (inl two)) = rw two.0 (sym (second_form c))
+    by_form form c (inr (inr one)) = rw one.0 (sym (first_form c))
 
 found_again : (form : ℕ) (made c : Configuration) → made ≡ c → is_configuration c ≡ true
     → (if◌then◌else◌ {A = Option Header} (is_configuration made) (Some (record { form = form; config = made })) None)
     ≡ Some (record { form = form; config = c })
 found_again form made c same e = rw same (rw e refl)
 
--- no header has observers
-made_with : (form : ℕ) (c : Configuration) → c.observers ≡ 0 → is_configuration c ≡ true
-    → header_with (Some c.replicas) (Some c.sequencers) (Some c.clients) (Some (form, c.controllers)) ≡ Some (record { form = form; config = c })
-made_with form c none e =
-    let made : ℕ → Configuration = λ o. record {
+made_with : (form : ℕ) (c : Configuration) → is_configuration c ≡ true
+    → header_with (Some c.replicas) (Some c.sequencers) (Some c.clients) (Some (form, c.controllers, c.observers))
+    ≡ Some (record { form = form; config = c })
+made_with form c e =
+    let made : Configuration = record {
       replicas = c.replicas;
       sequencers = c.sequencers;
       clients = c.clients;
       controllers = c.controllers;
-      observers = o;
+      observers = c.observers;
     } in
-    found_again form (made 0) c (ap made (sym none)) e
+    found_again form made c refl e
 
-made_again : (form : ℕ) (c : Configuration) → c.observers ≡ 0 → is_configuration c ≡ true
-    → header_with (number_below 256 (decimal c.replicas)) (number_below 256 (decimal c.sequencers)) (number_below 256 (decimal c.clients))
-    (Some (form, c.controllers)) ≡ Some (record { form = form; config = c })
-made_again form c none e =
+-- the counts, and these last ones
+abbrev with_last : Configuration → ℕ → ℕ → ℕ → Option Header
+with_last c form k o =
+    header_with (number_below 256 (decimal c.replicas)) (number_below 256 (decimal c.sequencers)) (number_below 256 (decimal c.clients))
+    (Some (form, k, o))
+
+made_again : (form : ℕ) (c : Configuration) → is_configuration c ≡ true
+    → with_last c form c.controllers c.observers ≡ Some (record { form = form; config = c })
+made_again form c e =
     let s = small_counts c e in
     let replicas = s.replicas in
     let sequencers = s.sequencers in
     let clients = s.clients in
     rw (small_again 256 c.replicas (omega arith) (omega arith))
     (rw (small_again 256 c.sequencers (omega arith) (omega arith))
-    (rw (small_again 256 c.clients (omega arith) (omega arith)) (made_with form c none e)))
+    (rw (small_again 256 c.clients (omega arith) (omega arith)) (made_with form c e)))
 
 header_read : (h : Header) → is_header h ≡ true → header_of_fields (codes "transcript" ∷ header_fields h) ≡ Some h
 unfolding header_of_fields header_fields
-header_read h e = by_form h.form h.config (eqb-true h.config.observers 0 (forms_pass h e).0) (counted h e) (forms h e)
+header_read h e = by_form h.form h.config (counted h e) (forms h e)
   where
-    by_form : (form : ℕ) (c : Configuration) → c.observers ≡ 0 → is_configuration c ≡ true → Forms (record { form = form; config = c })
+    by_form : (form : ℕ) (c : Configuration) → is_configuration c ≡ true → Forms (record { form = form; config = c })
         → let h : Header = record { form = form; config = c } in header_of_fields (codes "transcript" ∷ header_fields h) ≡ Some h
-    by_form form c none e (inl two) =
+    by_form form c e (inl three) =
+        let s = small_counts c e in
+        let controllers = s.controllers in
+        let observers = s.observers in
+        rw three
+        (rw (small_again 256 c.controllers (omega arith) (omega arith))
+        (rw (small_again 256 c.observers (omega arith) (omega arith)) (made_again 3 c e)))
+    by_form form c e (inr (inl two)) =
         let controllers = (small_counts c e).controllers in
-        rw two (rw (small_again 256 c.controllers (omega arith) (omega arith)) (made_again 2 c none e))
-    by_form form c none e (inr one) =
-        rw one.0 (ap (λ (k : ℕ). header_with (number_below 256 (decimal c.replicas)) (number_below 256 (decimal c.sequencers))
-        (number_below 256 (decimal c.clients)) (Some (1, k))) (sym one.1) ∙ made_again 1 c none e)
+        rw two.0
+        (rw (small_again 256 c.controllers (omega arith) (omega arith))
+        (ap (λ (o : ℕ). with_last c 2 c.controllers o) (sym two.1) ∙ made_again 2 c e))
+    by_form form c e (inr (inr one)) =
+        rw one.0
+        (ap (λ (k : ℕ). with_last c 1 k 0) (sym one.1) ∙ ap (λ (o : ℕ). with_last c 1 c.controllers o) (sym one.2) ∙ made_again 1 c e)
 
-pub small_form : (h : Header) → is_header h ≡ true → h.form ≤ 2
-small_form h e = elim (forms h e) [ inl two ↦ omega (arith, two) | inr one ↦ omega (arith, one.0) ]
+pub small_form : (h : Header) → is_header h ≡ true → h.form ≤ 3
+small_form h e = by_form (forms h e)
+  where
+    by_form : Forms h → h.form ≤ 3
+    by_form (inl three) = omega (arith, three)
+    by_form (inr (inl two)) = omega (arith, two.0)
+    by_form (inr (inr one)) = omega (arith, one.0)
 
-last_marked : (b : Bool) (k : ℕ) → k < 2 ^ 64 → AllMarked (if b then [] else codes "controllers" ∷ decimal k ∷ [])
-last_marked true k fits = tt
-last_marked false k fits = (refl, (decimal_marked k fits, tt))
+last_marked : (a b : Bool) (k o : ℕ) → k < 2 ^ 64 → o < 2 ^ 64
+    → AllMarked (if a then [] else if b then codes "controllers" ∷ decimal k ∷ []
+    else codes "controllers" ∷ decimal k ∷ codes "observers" ∷ decimal o ∷ [])
+last_marked true b k o small few = tt
+last_marked false true k o small few = (refl, (decimal_marked k small, tt))
+last_marked false false k o small few = (refl, (decimal_marked k small, (refl, (decimal_marked o few, tt))))
 
 pub header_marked : (h : Header) → is_header h ≡ true → AllMarked (header_fields h)
 unfolding header_fields
@@ -476,7 +504,8 @@ header_marked h e =
     let replicas = s.replicas in
     let sequencers = s.sequencers in
     let clients = s.clients in
-    let last = last_marked (h.form == 1) h.config.controllers (omega (arith, s.controllers)) in
+    let last = last_marked (h.form == 1) (h.form == 2) h.config.controllers h.config.observers (omega (arith, s.controllers))
+    (omega (arith, s.observers)) in
     let low = small_form h e in (
       decimal_marked h.form (omega arith),
       (
@@ -518,41 +547,54 @@ made_fits : (made h : Header) (b : Bool) → is_configuration made.config ≡ b 
 made_fits made h true is gives e = let same : made ≡ h = cc in subst (λ (x : Header). is_header x ≡ true) same (rw (gives, is) refl)
 made_fits made h false is gives e = absurd cc
 
-with_fits : (n s c : Option ℕ) (k : Option (ℕ × ℕ)) (h : Header)
-    → ((n s c form j : ℕ) → k ≡ Some (form, j) → gives form (record { replicas = n; sequencers = s; clients = c; controllers = j; observers = 0 }) ≡ true)
+with_fits : (n s c : Option ℕ) (k : Option (ℕ × ℕ × ℕ)) (h : Header)
+    → ((n s c form j o : ℕ) → k ≡ Some (form, j, o)
+    → gives form (record { replicas = n; sequencers = s; clients = c; controllers = j; observers = o }) ≡ true)
     → header_with n s c k ≡ Some h → is_header h ≡ true
 with_fits (Some n) (Some s) (Some c) (Some k) h can e =
-    let config : Configuration = record { replicas = n; sequencers = s; clients = c; controllers = k.1; observers = 0 } in
-    made_fits (record { form = k.0; config = config }) h (is_configuration config) refl (can n s c k.0 k.1 refl) e
+    let config : Configuration = record { replicas = n; sequencers = s; clients = c; controllers = k.1; observers = k.2 } in
+    made_fits (record { form = k.0; config = config }) h (is_configuration config) refl (can n s c k.0 k.1 k.2 refl) e
 with_fits None s c k h can e = absurd cc
 with_fits (Some n) None c k h can e = absurd cc
 with_fits (Some n) (Some s) None k h can e = absurd cc
 with_fits (Some n) (Some s) (Some c) None h can e = absurd cc
 
-abbrev second : ℕ → Option (ℕ × ℕ)
-second count = Some (2, count)
+abbrev second : ℕ → Option (ℕ × ℕ × ℕ)
+second count = Some (2, count, 0)
 
-controllers_fit : (more : List (List ℕ)) (n s c form j : ℕ) → controllers_of more ≡ Some (form, j)
-    → gives form (record { replicas = n; sequencers = s; clients = c; controllers = j; observers = 0 }) ≡ true
-controllers_fit more n s c form j e = by_more more e
+abbrev third : ℕ → ℕ → Option (ℕ × ℕ × ℕ)
+third count watching = Some (3, count, watching)
+
+counts_fit : (more : List (List ℕ)) (n s c form j o : ℕ) → counts_of more ≡ Some (form, j, o)
+    → gives form (record { replicas = n; sequencers = s; clients = c; controllers = j; observers = o }) ≡ true
+counts_fit more n s c form j o e = by_more more e
   where
-    can_be : (p : ℕ × ℕ) → Some p ≡ Some (form, j)
-        → gives p.0 (record { replicas = n; sequencers = s; clients = c; controllers = p.1; observers = 0 }) ≡ true
-        → gives form (record { replicas = n; sequencers = s; clients = c; controllers = j; observers = 0 }) ≡ true
+    can_be : (p : ℕ × ℕ × ℕ) → Some p ≡ Some (form, j, o)
+        → gives p.0 (record { replicas = n; sequencers = s; clients = c; controllers = p.1; observers = p.2 }) ≡ true
+        → gives form (record { replicas = n; sequencers = s; clients = c; controllers = j; observers = o }) ≡ true
     can_be p e h =
-        let same : p ≡ (form, j) = cc in
-        subst (λ (p : ℕ × ℕ). gives p.0 (record { replicas = n; sequencers = s; clients = c; controllers = p.1; observers = 0 }) ≡ true) same h
+        let same : p ≡ (form, j, o) = cc in
+        subst (λ (p : ℕ × ℕ × ℕ). gives p.0 (record { replicas = n; sequencers = s; clients = c; controllers = p.1; observers = p.2 }) ≡ true)
+        same h
 
-    by_count : (o : Option ℕ) → (o >>= second) ≡ Some (form, j)
-        → gives form (record { replicas = n; sequencers = s; clients = c; controllers = j; observers = 0 }) ≡ true
+    by_count : (a : Option ℕ) → (a >>= second) ≡ Some (form, j, o)
+        → gives form (record { replicas = n; sequencers = s; clients = c; controllers = j; observers = o }) ≡ true
     by_count None e = absurd cc
-    by_count (Some count) e = can_be (2, count) e refl
+    by_count (Some count) e = can_be (2, count, 0) e refl
 
-    by_more : (more : List (List ℕ)) → controllers_of more ≡ Some (form, j)
-        → gives form (record { replicas = n; sequencers = s; clients = c; controllers = j; observers = 0 }) ≡ true
-    by_more [] e = can_be (1, 1) e refl
+    by_counts : (a b : Option ℕ) → (a >>= λ (count : ℕ). b >>= third count) ≡ Some (form, j, o)
+        → gives form (record { replicas = n; sequencers = s; clients = c; controllers = j; observers = o }) ≡ true
+    by_counts None b e = absurd cc
+    by_counts (Some count) None e = absurd cc
+    by_counts (Some count) (Some watching) e = can_be (3, count, watching) e refl
+
+    by_more : (more : List (List ℕ)) → counts_of more ≡ Some (form, j, o)
+        → gives form (record { replicas = n; sequencers = s; clients = c; controllers = j; observers = o }) ≡ true
+    by_more [] e = can_be (1, 1, 0) e refl
     by_more (x ∷ []) e = absurd cc
-    by_more (x ∷ k ∷ more) e = by_count (number_below 256 k) e
+    by_more (x ∷ k ∷ []) e = by_count (number_below 256 k) e
+    by_more (x ∷ k ∷ y ∷ []) e = absurd cc
+    by_more (x ∷ k ∷ y ∷ m ∷ more) e = by_counts (number_below 256 k) (number_below 256 m) e
 
 pub read_fits : (xs : List (List ℕ)) (h : Header) → header_of_fields xs ≡ Some h → is_header h ≡ true
 unfolding header_of_fields
@@ -565,4 +607,4 @@ read_fits (x1 ∷ x2 ∷ x3 ∷ x4 ∷ x5 ∷ []) h e = absurd cc
 read_fits (x1 ∷ x2 ∷ x3 ∷ x4 ∷ x5 ∷ x6 ∷ []) h e = absurd cc
 read_fits (x1 ∷ x2 ∷ x3 ∷ x4 ∷ x5 ∷ x6 ∷ x7 ∷ []) h e = absurd cc
 read_fits (word ∷ form ∷ replicas ∷ n ∷ sequencers ∷ s ∷ clients ∷ c ∷ more) h e =
-    with_fits (number_below 256 n) (number_below 256 s) (number_below 256 c) (controllers_of more) h (controllers_fit more) e
+    with_fits (number_below 256 n) (number_below 256 s) (number_below 256 c) (counts_of more) h (counts_fit more) e

@@ -1,11 +1,11 @@
 -- The row that the fields of a line give. It asks nothing that the text of that row tells: a line is that row where it is its text.
-use Rattle.std.specs.Prelude.{◌≡◌, ℕ, ◌^◌, List, [], ◌∷◌, ◌++◌, length, codes, Bool, true, ◌&&◌, nat_le, Option, Some, None, if◌then◌else◌}
-use Rattle.line_fields.specs.Fields.{actor_of, bytes_of, client_number, is_text, number_below, number_of}
+use Rattle.std.specs.Prelude.{◌≡◌, ℕ, ◌^◌, List, [], ◌∷◌, ◌++◌, length, codes, Bool, true, nat_le, Option, Some, None, if◌then◌else◌}
+use Rattle.line_fields.specs.Fields.{actor_of, bytes_of, client_number, is_text, key_of, number_below, number_of, observer_number}
 use Rattle.nop_types.specs.Configuration.{Configuration, is_configuration}
 use Rattle.nop_types.specs.Headers.{is_header}
 use Rattle.nop_types.specs.declared.header.Header.{Header}
 use Rattle.nop_types.specs.declared.kinds.TheConstants as kinds
-use Rattle.nop_types.specs.declared.limits.TheConstants.{MAX_CLIENTS, MAX_CONTROLLERS, MAX_KEY_BYTES, MAX_OBSERVERS, MAX_REPLICAS, MAX_SEQUENCERS}
+use Rattle.nop_types.specs.declared.limits.TheConstants.{MAX_CLIENTS, MAX_CONTROLLERS, MAX_OBSERVERS, MAX_REPLICAS, MAX_SEQUENCERS}
 use Rattle.nop_types.specs.declared.output.Actor.{Actor}
 use Rattle.nop_types.specs.declared.output.Actor.TheVariants as actors
 use Rattle.nop_types.specs.declared.output.Dest.{Dest}
@@ -15,7 +15,8 @@ use Rattle.nop_types.specs.declared.request.Entry.TheVariants.{NoOp, Req}
 use Rattle.nop_types.specs.declared.replica_state.Phase.{Phase}
 use Rattle.nop_types.specs.declared.replica_state.Phase.TheVariants.{Normal, Change}
 use Rattle.transcript_rows.specs.declared.row.Row.{Row}
-use Rattle.transcript_rows.specs.declared.row.Row.TheVariants.{Dead, Submit, Accept, Busy, Read, Answer, Sent, State, Slot, Member, End}
+use Rattle.transcript_rows.specs.declared.row.Row.TheVariants.{Dead, Submit, Accept, Busy, Read, Answer, Sent, State, Slot, Watching}
+use Rattle.transcript_rows.specs.declared.row.Row.TheVariants.{Member, End}
 use Rattle.transcript_rows.specs.Rows.{RowFits, row_text}
 use Rattle.transcript_text.specs.Transcript.{transcript_line}
 
@@ -39,10 +40,6 @@ limits = record {
 abbrev pub replica_number : Option Actor → Option ℕ
 replica_number (Some (actors.Replica i)) = Some i
 replica_number _ = None
-
-abbrev pub observer_number : Option Actor → Option ℕ
-observer_number (Some (actors.Observer i)) = Some i
-observer_number _ = None
 
 abbrev pub client_of : List ℕ → Option ℕ
 client_of field = client_number (actor_of limits field)
@@ -89,13 +86,6 @@ status_of field = if is_text (codes "normal") field then Normal else Change
 -- an op of at most 640 bytes
 abbrev pub op_of : List ℕ → Option (List ℕ)
 op_of text = if nat_le (length text) 1280 then bytes_of text else None
-
--- a key has 1 to 64 bytes
-abbrev pub as_key : List ℕ → Option (List ℕ)
-as_key bytes = if nat_le 1 (length bytes) && nat_le (length bytes) MAX_KEY_BYTES then Some bytes else None
-
-abbrev pub key_of : List ℕ → Option (List ℕ)
-key_of text = bytes_of text >>= as_key
 
 -- ---- the fields behind the word
 
@@ -175,6 +165,11 @@ abbrev pub state_of : List (List ℕ) → Option Row
 state_of (replica ∷ up ∷ status ∷ leader ∷ session ∷ len ∷ sync_point ∷ more) = state_row replica up status leader session len sync_point
 state_of _ = None
 
+abbrev pub watching_of : List (List ℕ) → Option Row
+watching_of (observer ∷ up ∷ position ∷ more) =
+    observer_of observer >>= λ o. word_of position >>= λ n. Some (Watching o (crashed_of up) n)
+watching_of _ = None
+
 -- ---- by the word that comes first
 
 abbrev pub short_row_of : List ℕ → List (List ℕ) → Option Row
@@ -183,6 +178,7 @@ short_row_of word rest =
     else if is_text (codes "dead") word then dead_of rest
     else if is_text (codes "busy") word then busy_of rest
     else if is_text (codes "replica") word then state_of rest
+    else if is_text (codes "observer") word then watching_of rest
     else if is_text (codes "end") word then Some End
     else None
 
@@ -199,21 +195,24 @@ row_of_fields (word ∷ rest) =
 
 -- ---- the first line
 
--- the form, and how many controllers there are: form 1 has no count of them, and means one; no form has observers
-abbrev pub controllers_of : List (List ℕ) → Option (ℕ × ℕ)
-controllers_of [] = Some (1, 1)
-controllers_of (controllers ∷ k ∷ more) = number_below 256 k >>= λ count. Some (2, count)
-controllers_of _ = None
+-- the form, and how many controllers and observers there are: form 1 has no count of controllers, and means one, and form 3 alone has
+-- one of observers
+abbrev pub counts_of : List (List ℕ) → Option (ℕ × ℕ × ℕ)
+counts_of [] = Some (1, 1, 0)
+counts_of (controllers ∷ k ∷ []) = number_below 256 k >>= λ count. Some (2, count, 0)
+counts_of (controllers ∷ k ∷ observers ∷ o ∷ more) =
+    number_below 256 k >>= λ count. number_below 256 o >>= λ watching. Some (3, count, watching)
+counts_of _ = None
 
-abbrev pub header_with : Option ℕ → Option ℕ → Option ℕ → Option (ℕ × ℕ) → Option Header
+abbrev pub header_with : Option ℕ → Option ℕ → Option ℕ → Option (ℕ × ℕ × ℕ) → Option Header
 header_with (Some n) (Some s) (Some c) (Some k) =
-    let made : Configuration = record { replicas = n; sequencers = s; clients = c; controllers = k.1; observers = 0 } in
+    let made : Configuration = record { replicas = n; sequencers = s; clients = c; controllers = k.1; observers = k.2 } in
     if is_configuration made then Some (record { form = k.0; config = made }) else None
 header_with _ _ _ _ = None
 
 unfoldable pub header_of_fields : List (List ℕ) → Option Header
 header_of_fields (word ∷ form ∷ replicas ∷ n ∷ sequencers ∷ s ∷ clients ∷ c ∷ more) =
-    header_with (number_below 256 n) (number_below 256 s) (number_below 256 c) (controllers_of more)
+    header_with (number_below 256 n) (number_below 256 s) (number_below 256 c) (counts_of more)
 header_of_fields _ = None
 
 -- ---- what a line is

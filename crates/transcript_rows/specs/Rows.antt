@@ -13,7 +13,8 @@ use Rattle.nop_types.specs.declared.view.View.{View}
 use Rattle.nop_types.specs.declared.request.Entry.{Entry}
 use Rattle.nop_types.specs.declared.request.Entry.TheVariants.{NoOp, Req}
 use Rattle.transcript_rows.specs.declared.row.Row.{Row}
-use Rattle.transcript_rows.specs.declared.row.Row.TheVariants.{Dead, Submit, Accept, Busy, Read, Answer, Sent, State, Slot, Member, End}
+use Rattle.transcript_rows.specs.declared.row.Row.TheVariants.{Dead, Submit, Accept, Busy, Read, Answer, Sent, State, Slot, Watching}
+use Rattle.transcript_rows.specs.declared.row.Row.TheVariants.{Member, End}
 use Rattle.transcript_rows.specs.declared.row.TheConstants.{MAX_SENT_BYTES}
 use Rattle.transcript_text.specs.LineText.{line_of}
 use Rattle.transcript_text.specs.Transcript.{actor_text, client_text, observer_text, dest_text, hex_text, kind_text, phase_text, up_text}
@@ -30,6 +31,7 @@ row_word (Answer client id observer position result) = codes "answer"
 row_word (Sent index from dest kind len) = codes "send"
 row_word (State replica crashed status view len sync_point) = codes "replica"
 row_word (Slot replica slot entry) = codes "entry"
+row_word (Watching observer crashed position) = codes "observer"
 row_word (Member place request) = codes "history"
 row_word End = codes "end"
 
@@ -54,6 +56,7 @@ row_fields (State replica crashed status view len sync_point) =
     actor_text (Replica replica) ∷ up_text crashed ∷ phase_text status ∷ decimal view.leader ∷ decimal view.session
     ∷ decimal len ∷ decimal sync_point ∷ []
 row_fields (Slot replica slot entry) = actor_text (Replica replica) ∷ decimal slot ∷ entry_fields entry
+row_fields (Watching observer crashed position) = observer_text observer ∷ up_text crashed ∷ decimal position ∷ []
 row_fields (Member place request) = decimal place ∷ request_fields request
 row_fields End = []
 
@@ -99,6 +102,7 @@ row_fits (Sent index from dest kind len) =
     actor_fits from && (dest_fits dest && (nat_le REQUEST kind && (nat_le kind ANSWER && nat_le len MAX_SENT_BYTES)))
 row_fits (State replica crashed status view len sync_point) = nat_lt replica MAX_REPLICAS && nat_le 1 view.session
 row_fits (Slot replica slot entry) = nat_lt replica MAX_REPLICAS && (nat_le 1 slot && entry_fits entry)
+row_fits (Watching observer crashed position) = nat_lt observer MAX_OBSERVERS
 row_fits (Member place request) = nat_le 1 place && request_fits request
 row_fits End = true
 
@@ -139,6 +143,7 @@ IsTyped (Answer client id observer position result) = IsTypedAnswer id position 
 IsTyped (Sent index from dest kind len) = index < 2 ^ 64
 IsTyped (State replica crashed status view len sync_point) = IsTypedState view len sync_point
 IsTyped (Slot replica slot entry) = (slot < 2 ^ 32) × IsTypedEntry entry
+IsTyped (Watching observer crashed position) = position < 2 ^ 32
 IsTyped (Member place request) = (place < 2 ^ 32) × IsTypedRequest request
 IsTyped _ = ⊤
 

@@ -4,12 +4,12 @@ ghost use Rattle.std.specs.Prelude.{◌≡◌, ◌^◌, IfOk};
 ghost use Rattle.line_fields.specs.Fields.{actor_of};
 ghost use Rattle.transcript_rows.specs.Reading.{limits, client_of, replica_of, observer_of};
 ghost use Rattle.transcript_rows.specs.Reading.{word_of, dest_of, kind_of, crashed_of, status_of};
-ghost use Rattle.transcript_rows.specs.Reading.{op_of, as_key, key_of};
+ghost use Rattle.transcript_rows.specs.Reading.{op_of};
 
 use line_fields::{is_word, number};
 use nop_types::{
-    Actor, Bytes, Config, Dest, Key, MAX_CLIENTS, MAX_CONTROLLERS, MAX_KEY_BYTES, MAX_OBSERVERS,
-    MAX_OP_BYTES, MAX_REPLICAS, MAX_SEQUENCERS, NoMemory, Op, Phase, kinds,
+    Actor, Config, Dest, MAX_CLIENTS, MAX_CONTROLLERS, MAX_OBSERVERS, MAX_OP_BYTES, MAX_REPLICAS,
+    MAX_SEQUENCERS, NoMemory, Op, Phase, kinds,
 };
 use std::alloc::Global;
 
@@ -155,25 +155,4 @@ pub(crate) fn op(alloc: Global, field: &[u8]) -> Result<Option<Op>, NoMemory>
         return Ok(None);
     }
     line_fields::op(alloc, field)
-}
-
-fn as_key(bytes: Bytes) -> Option<Key>
-    ensures { result ≡ as_key bytes }
-{
-    let len = bytes.as_slice().len();
-    if 1 <= len && len <= MAX_KEY_BYTES {
-        Some(Key::from_vec(bytes.into_vec()))
-    } else {
-        None
-    }
-}
-
-/// A key in hexadecimal, of 1 to `MAX_KEY_BYTES` bytes.
-pub(crate) fn key(alloc: Global, field: &[u8]) -> Result<Option<Key>, NoMemory>
-    ensures { IfOk result (λ key. key ≡ key_of field.now) }
-{
-    match line_fields::bytes(alloc, field)? {
-        Some(bytes) => Ok(as_key(bytes)),
-        None => Ok(None),
-    }
 }

@@ -8,12 +8,13 @@ ghost use Rattle.transcript_rows.specs.Reading.{pair_of, request_of, submit_of, 
 ghost use Rattle.transcript_rows.specs.Reading.{member_of, slot_of, dead_of, busy_of, sent_row};
 ghost use Rattle.transcript_rows.specs.Reading.{sent_of, state_row, state_of, short_row_of};
 ghost use Rattle.transcript_rows.specs.Reading.{asked_of, read_of, answered_of, answer_of};
+ghost use Rattle.transcript_rows.specs.Reading.{watching_of};
 ghost use Rattle.transcript_rows.specs.Reading.{row_of_fields, no_op_row, slot_row};
 ghost use Rattle.transcript_rows.specs.Reading.{replica_of, word_of};
 
-use crate::fields::{actor, client, crashed, dest, key, kind, observer, op, replica, status, word};
+use crate::fields::{actor, client, crashed, dest, kind, observer, op, replica, status, word};
 use crate::row::Row;
-use line_fields::{bytes, cut, is_word, next_field, number};
+use line_fields::{bytes, cut, is_word, key, next_field, number};
 use nop_types::{Entry, NoMemory, Request, View};
 use std::alloc::Global;
 
@@ -281,6 +282,22 @@ fn state(rest: Option<&[u8]>) -> Option<Row>
     state_row(number, up, phase, leader, session, len, sync_point)
 }
 
+/// `observer oI up|crashed POSITION`
+fn watching(rest: Option<&[u8]>) -> Option<Row>
+    ensures { result ≡ watching_of (other_fields (option_copied rest.entry)) }
+{
+    let (name, rest) = next_field(rest)?;
+    let (up, rest) = next_field(rest)?;
+    let (position, _) = next_field(rest)?;
+    let observer = observer(name)?;
+    let position = word(position)?;
+    Some(Row::Watching {
+        observer,
+        crashed: crashed(up),
+        position,
+    })
+}
+
 /// A row that holds no bytes.
 fn short_row(first: &[u8], rest: Option<&[u8]>) -> Option<Row>
     ensures { result ≡ short_row_of first.now (other_fields (option_copied rest.entry)) }
@@ -296,6 +313,9 @@ fn short_row(first: &[u8], rest: Option<&[u8]>) -> Option<Row>
     }
     if is_word(first, "replica") {
         return state(rest);
+    }
+    if is_word(first, "observer") {
+        return watching(rest);
     }
     if is_word(first, "end") {
         return Some(Row::End);

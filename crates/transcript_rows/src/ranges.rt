@@ -100,6 +100,7 @@ pub(crate) fn row_fits(row: &Row) -> bool
             slot,
             entry,
         } => *replica < MAX_REPLICAS && 1 <= *slot && entry_fits(entry),
+        Row::Watching { observer, .. } => *observer < MAX_OBSERVERS,
         Row::Member { place, request } => 1 <= *place && request_fits(request),
         Row::End => true,
     }
@@ -178,6 +179,9 @@ pub(crate) fn typed(row: &Row)
         Row::Slot { slot, entry, .. } => {
             let _slot = *slot;
             typed_entry(entry);
+        }
+        Row::Watching { position, .. } => {
+            let _position = *position;
         }
         Row::Member { place, request } => {
             let _place = *place;

@@ -5,7 +5,7 @@ ghost use Rattle.std.specs.Option.{option_copied};
 ghost use Rattle.line_fields.specs.Fields.{fields, number_below};
 ghost use Rattle.line_fields.specs.Split.{other_fields};
 ghost use Rattle.nop_types.specs.Headers.{gives};
-ghost use Rattle.transcript_rows.specs.Reading.{controllers_of, header_with, header_of_fields};
+ghost use Rattle.transcript_rows.specs.Reading.{counts_of, header_with, header_of_fields};
 ghost use Rattle.transcript_rows.specs.Reading.{IsHeaderOf, IsRowOf};
 ghost use Rattle.transcript_rows.specs.Rows.{row_text};
 ghost use Rattle.transcript_text.specs.Transcript as texts;
@@ -64,19 +64,24 @@ pub fn read_row(alloc: Global, line: &[u8], scratch: &mut Vec<u8>) -> Result<Opt
     }
 }
 
-/// The form, and how many controllers there are, by what follows the other counts.
-fn controllers(rest: Option<&[u8]>) -> Option<(u8, u8)>
-    ensures { result ≡ controllers_of (other_fields (option_copied rest.entry)) }
+/// The form, and how many controllers and observers there are, by what follows the other counts.
+fn counts(rest: Option<&[u8]>) -> Option<(u8, u8, u8)>
+    ensures { result ≡ counts_of (other_fields (option_copied rest.entry)) }
 {
     let Some(rest) = rest else {
-        return Some((1, 1));
+        return Some((1, 1, 0));
     };
     let (_, rest) = cut(rest);
-    let (k, _) = next_field(rest)?;
-    Some((2, small_number(256, k)?))
+    let (k, rest) = next_field(rest)?;
+    let Some(rest) = rest else {
+        return Some((2, small_number(256, k)?, 0));
+    };
+    let (_, rest) = cut(rest);
+    let (o, _) = next_field(rest)?;
+    Some((3, small_number(256, k)?, small_number(256, o)?))
 }
 
-fn header_with(n: &[u8], s: &[u8], c: &[u8], k: Option<(u8, u8)>) -> Option<Header>
+fn header_with(n: &[u8], s: &[u8], c: &[u8], k: Option<(u8, u8, u8)>) -> Option<Header>
     ensures { result ≡ header_with (number_below 256 n.now) (number_below 256 s.now)
         (number_below 256 c.now) k }
 {
@@ -86,8 +91,8 @@ fn header_with(n: &[u8], s: &[u8], c: &[u8], k: Option<(u8, u8)>) -> Option<Head
         small_number(256, c),
         k,
     ) {
-        (Some(n), Some(s), Some(c), Some((form, k))) => {
-            let config = Config::new(n, s, c, k, 0)?;
+        (Some(n), Some(s), Some(c), Some((form, k, o))) => {
+            let config = Config::new(n, s, c, k, o)?;
             Some(Header { form, config })
         }
         _ => None,
@@ -106,7 +111,7 @@ fn header_of_line(line: &[u8]) -> Option<Header>
     let (s, rest) = next_field(rest)?;
     let (_, rest) = next_field(rest)?;
     let (c, rest) = next_field(rest)?;
-    header_with(n, s, c, controllers(rest))
+    header_with(n, s, c, counts(rest))
 }
 
 fn is_header_of(header: &Header, line: &[u8], scratch: &mut Vec<u8>) -> Result<bool, NoMemory>

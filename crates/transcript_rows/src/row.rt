@@ -53,6 +53,12 @@ pub enum Row {
         slot: u32,
         entry: Entry,
     },
+    /// How an observer stands at the end.
+    Watching {
+        observer: u8,
+        crashed: bool,
+        position: u32,
+    },
     /// A member of the history, with its place there, counted from 1.
     Member {
         place: u32,

@@ -84,6 +84,26 @@ fn put_state(
     write_line("replica", &fields, to)
 }
 
+/// How an observer stands at the end.
+#[tactic(auto, unfolding(crate::specs::Rows::row_text))]
+fn put_watching(
+    observer: u8,
+    crashed: bool,
+    position: u32,
+    to: &mut Vec<u8>,
+) -> Result<(), NoMemory>
+    ensures ok { OnOk result (to.new.items
+        ≡ to.old.items ++ row_text (rows.Watching observer crashed position)) }
+    ensures err { OnErr result (to.new.items ≡ to.old.items) }
+{
+    let fields = [
+        Field::Name(Actor::Observer(observer)),
+        Field::Crashed(crashed),
+        Field::Number(u64::from(position)),
+    ];
+    write_line("observer", &fields, to)
+}
+
 /// A slot of a replica's log.
 #[tactic(auto, unfolding(crate::specs::Rows::row_text, transcript_text::specs::Transcript::entry_line))]
 fn put_slot(replica: u8, slot: u32, entry: &Entry, to: &mut Vec<u8>) -> Result<(), NoMemory>
@@ -141,6 +161,11 @@ pub fn write_row(row: &Row, to: &mut Vec<u8>) -> Result<(), NoMemory>
             slot,
             entry,
         } => put_slot(*replica, *slot, entry, to),
+        Row::Watching {
+            observer,
+            crashed,
+            position,
+        } => put_watching(*observer, *crashed, *position, to),
         Row::Member { place, request } => history_line(*place, request, to),
         Row::End => end_line(to),
     }

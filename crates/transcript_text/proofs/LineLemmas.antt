@@ -1,5 +1,6 @@
 -- The longer lines of a transcript as the texts of their fields.
 use Rattle.std.proofs.Common.{◌≡◌, ℕ, Bool, List, [], ◌∷◌, length, codes, decimal, slice_index, refl, sym, ap, ◌∙◌, ◌++◌, append_assoc}
+use Rattle.std.proofs.lemmas.List.{append-nil}
 use Rattle.std.proofs.lemmas.Bool.{ne_eqb}
 use Rattle.nop_types.specs.Configuration.{Configuration}
 use Rattle.nop_types.specs.declared.output.Actor.{Actor}
@@ -9,7 +10,7 @@ use Rattle.nop_types.specs.declared.replica_state.Phase.{Phase}
 use Rattle.nop_types.specs.declared.view.View.{View}
 use Rattle.transcript_text.specs.LineText.{line_of}
 use Rattle.transcript_text.specs.Transcript.{actor_text, dest_text, hex_text, kind_text, phase_text, up_text, send_line, answer_line, replica_line}
-use Rattle.transcript_text.specs.Transcript.{controllers_text, line_end, transcript_line}
+use Rattle.transcript_text.specs.Transcript.{controllers_text, watching_text, line_end, observer_line, transcript_line}
 
 pub first_form : (c : Configuration) →
     line_of (codes "transcript") (decimal 1 ∷ codes "replicas" ∷ decimal c.replicas ∷ codes "sequencers" ∷ decimal c.sequencers ∷ codes
@@ -21,21 +22,47 @@ abbrev three_counts : ℕ → Configuration → List ℕ
 three_counts form c = codes "transcript " ++ decimal form ++ codes " replicas " ++ decimal c.replicas ++ codes " sequencers "
     ++ decimal c.sequencers ++ codes " clients " ++ decimal c.clients
 
-all_counts : (form : ℕ) (c : Configuration) →
+four_counts : (form : ℕ) (c : Configuration) →
     line_of (codes "transcript") (decimal form ∷ codes "replicas" ∷ decimal c.replicas ∷ codes "sequencers" ∷ decimal c.sequencers ∷ codes
     "clients" ∷ decimal c.clients ∷ codes "controllers" ∷ decimal c.controllers ∷ [])
     ≡ three_counts form c ++ codes " controllers " ++ decimal c.controllers ++ line_end
+four_counts form c = simp append_assoc
+
+nothing_more : (a b c : List ℕ) → a ++ b ++ c ≡ a ++ (b ++ c) ++ []
+nothing_more a b c = simp (append_assoc, append-nil)
+
+pub second_form : (c : Configuration) →
+    line_of (codes "transcript") (decimal 2 ∷ codes "replicas" ∷ decimal c.replicas ∷ codes "sequencers" ∷ decimal c.sequencers ∷ codes
+    "clients" ∷ decimal c.clients ∷ codes "controllers" ∷ decimal c.controllers ∷ []) ≡ transcript_line 2 c
+unfolding transcript_line
+second_form c =
+    four_counts 2 c
+    ∙ ap (λ (text : List ℕ). text ++ line_end) (nothing_more (three_counts 2 c) (codes " controllers ") (decimal c.controllers))
+
+all_counts : (form : ℕ) (c : Configuration) →
+    line_of (codes "transcript") (decimal form ∷ codes "replicas" ∷ decimal c.replicas ∷ codes "sequencers" ∷ decimal c.sequencers ∷ codes
+    "clients" ∷ decimal c.clients ∷ codes "controllers" ∷ decimal c.controllers ∷ codes "observers" ∷ decimal c.observers ∷ [])
+    ≡ three_counts form c ++ codes " controllers " ++ decimal c.controllers ++ codes " observers " ++ decimal c.observers ++ line_end
 all_counts form c = simp append_assoc
 
-pub second_form : (form : ℕ) (c : Configuration) → (form ≡ 1 → ⊥) →
+two_pairs : (a b c d e : List ℕ) → a ++ b ++ c ++ d ++ e ≡ a ++ (b ++ c) ++ (d ++ e)
+two_pairs a b c d e = simp append_assoc
+
+-- a form that is neither the first nor the second counts all
+pub third_form : (form : ℕ) (c : Configuration) → (form ≡ 1 → ⊥) → (form ≡ 2 → ⊥) →
     line_of (codes "transcript") (decimal form ∷ codes "replicas" ∷ decimal c.replicas ∷ codes "sequencers" ∷ decimal c.sequencers ∷ codes
-    "clients" ∷ decimal c.clients ∷ codes "controllers" ∷ decimal c.controllers ∷ []) ≡ transcript_line form c
+    "clients" ∷ decimal c.clients ∷ codes "controllers" ∷ decimal c.controllers ∷ codes "observers" ∷ decimal c.observers ∷ [])
+    ≡ transcript_line form c
 unfolding transcript_line
-second_form form c other =
-    let count : controllers_text form c.controllers ≡ codes " controllers " ++ decimal c.controllers = rw (ne_eqb form 1 other) refl in
+third_form form c first second =
+    let counts : List ℕ = three_counts form c in
+    let controllers : controllers_text form c.controllers ≡ codes " controllers " ++ decimal c.controllers = rw (ne_eqb form 1 first) refl in
+    let observers : watching_text form c.observers ≡ codes " observers " ++ decimal c.observers =
+    rw (ne_eqb form 1 first) (rw (ne_eqb form 2 second) refl) in
     all_counts form c ∙ ap (λ (text : List ℕ). text ++ line_end)
-    (append_assoc (three_counts form c) (codes " controllers ") (decimal c.controllers)
-    ∙ ap (λ (text : List ℕ). three_counts form c ++ text) (sym count))
+    (two_pairs counts (codes " controllers ") (decimal c.controllers) (codes " observers ") (decimal c.observers)
+    ∙ ap (λ (text : List ℕ). counts ++ text ++ (codes " observers " ++ decimal c.observers)) (sym controllers)
+    ∙ ap (λ (text : List ℕ). counts ++ controllers_text form c.controllers ++ text) (sym observers))
 
 pub send_fields : (index : ℕ) (from : Actor) (dest : Dest) (datagram : List ℕ) →
     line_of (codes "send") (decimal index ∷ actor_text from ∷ dest_text dest ∷ kind_text (slice_index datagram 3) ∷ decimal
@@ -54,3 +81,9 @@ pub replica_fields : (number : ℕ) (crashed : Bool) (status : Phase) (view : Vi
     view.session ∷ decimal len ∷ decimal sync_point ∷ []) ≡ replica_line number crashed status view len sync_point
 unfolding replica_line
 replica_fields number crashed status view len sync_point = simp append_assoc
+
+pub observer_fields : (number : ℕ) (crashed : Bool) (position : ℕ) →
+    line_of (codes "observer") (actor_text (actors.Observer number) ∷ up_text crashed ∷ decimal position ∷ [])
+    ≡ observer_line number crashed position
+unfolding observer_line
+observer_fields number crashed position = simp append_assoc

@@ -130,15 +130,23 @@ lines_text lines = flat_map line_text lines
 abbrev pub controllers_text : ℕ → ℕ → List ℕ
 controllers_text form controllers = if form == 1 then [] else codes " controllers " ++ decimal controllers
 
+-- one of form 1 or 2 has none of observers
+abbrev pub watching_text : ℕ → ℕ → List ℕ
+watching_text form observers = if form == 1 then [] else if form == 2 then [] else codes " observers " ++ decimal observers
+
 unfoldable pub transcript_line : ℕ → Configuration → List ℕ
 transcript_line form c = codes "transcript " ++ decimal form ++ codes " replicas " ++ decimal c.replicas
     ++ codes " sequencers " ++ decimal c.sequencers ++ codes " clients " ++ decimal c.clients
-    ++ controllers_text form c.controllers ++ line_end
+    ++ controllers_text form c.controllers ++ watching_text form c.observers ++ line_end
 
 unfoldable pub replica_line : ℕ → Bool → Phase → View → ℕ → ℕ → List ℕ
 replica_line number crashed status view len sync_point =
     codes "replica r" ++ decimal number ++ space ++ up_text crashed ++ space ++ phase_text status ++ space ++ decimal view.leader ++ space
     ++ decimal view.session ++ space ++ decimal len ++ space ++ decimal sync_point ++ line_end
+
+unfoldable pub observer_line : ℕ → Bool → ℕ → List ℕ
+observer_line number crashed position =
+    codes "observer o" ++ decimal number ++ space ++ up_text crashed ++ space ++ decimal position ++ line_end
 
 abbrev pub entry_text : Entry → List ℕ
 entry_text NoOp = codes "noop"

@@ -6,8 +6,8 @@
 //!
 //! Calls: `submit_line`, `send_line`, `accept_line`, `busy_line`, `read_line`, `answer_line` and
 //! `dead_line`, for what actors do; `transcript_line`, `replica_line`, `entry_line`,
-//! `history_line`, `error_line` and `end_line`, for the beginning and the end; `write_line`, for
-//! schedules.
+//! `observer_line`, `history_line`, `error_line` and `end_line`, for the beginning and the end;
+//! `write_line`, for schedules.
 //!
 //! Files: `lines`, `field`; `specs/Transcript` (`lines_text`, and one definition a line),
 //! `LineText` (`line_of`).
@@ -19,5 +19,5 @@ mod lines;
 pub use field::{Field, write_line};
 pub use lines::{
     accept_line, answer_line, busy_line, dead_line, end_line, entry_line, error_line, history_line,
-    read_line, replica_line, send_line, submit_line, transcript_line,
+    observer_line, read_line, replica_line, send_line, submit_line, transcript_line,
 };

@@ -1,11 +1,38 @@
 //! The lines of a transcript. Each function appends one line.
 
-ghost use Rattle.std.specs.Prelude.{◌≡◌, ◌++◌, Some, None, IsTrue, slice_index, OnOk, OnErr};
+ghost use Rattle.std.specs.Prelude.{◌≡◌, ◌≢◌, ◌++◌, Some, None, IsTrue, slice_index, OnOk, OnErr};
 ghost use Rattle.nop_types.specs.Headers.{gives};
 ghost use Rattle.transcript_text.specs.Transcript as texts;
 
 use crate::field::{Field, write_line};
 use nop_types::{Actor, Bytes, Config, Dest, Entry, Key, NoMemory, Phase, Request, View};
+
+/// The first line of a form that counts controllers, and observers in form 3.
+#[tactic(auto, using(crate::proofs::LineLemmas::second_form))]
+fn counted_line(form: u8, config: Config, to: &mut Vec<u8>) -> Result<(), NoMemory>
+    requires { form ≢ 1 }
+    ensures ok { OnOk result (to.new.items ≡ to.old.items ++ texts.transcript_line form config) }
+    ensures err { OnErr result (to.new.items ≡ to.old.items) }
+{
+    let fields = [
+        Field::Number(u64::from(form)),
+        Field::Word("replicas"),
+        Field::Number(u64::from(config.replicas())),
+        Field::Word("sequencers"),
+        Field::Number(u64::from(config.sequencers())),
+        Field::Word("clients"),
+        Field::Number(u64::from(config.clients())),
+        Field::Word("controllers"),
+        Field::Number(u64::from(config.controllers())),
+        Field::Word("observers"),
+        Field::Number(u64::from(config.observers())),
+    ];
+    if form == 2 {
+        write_line("transcript", &fields[..9], to)
+    } else {
+        write_line("transcript", &fields, to)
+    }
+}
 
 /// The first line of a transcript, in the form of its schedule's header.
 #[tactic(auto, using(crate::proofs::LineLemmas::first_form))]
@@ -22,13 +49,11 @@ pub fn transcript_line(form: u8, config: Config, to: &mut Vec<u8>) -> Result<(),
         Field::Number(u64::from(config.sequencers())),
         Field::Word("clients"),
         Field::Number(u64::from(config.clients())),
-        Field::Word("controllers"),
-        Field::Number(u64::from(config.controllers())),
     ];
     if form == 1 {
-        write_line("transcript", &fields[..7], to)
-    } else {
         write_line("transcript", &fields, to)
+    } else {
+        counted_line(form, config, to)
     }
 }
 
@@ -183,6 +208,26 @@ pub fn replica_line(
         Field::Number(u64::from(sync_point)),
     ];
     write_line("replica", &fields, to)
+}
+
+/// How an observer stands at the end: from the state after the first `position` slots it answers.
+#[tactic(auto, using(crate::proofs::LineLemmas::observer_fields))]
+pub fn observer_line(
+    number: u8,
+    crashed: bool,
+    position: u32,
+    to: &mut Vec<u8>,
+) -> Result<(), NoMemory>
+    ensures ok { OnOk result (to.new.items
+        ≡ to.old.items ++ texts.observer_line number crashed position) }
+    ensures err { OnErr result (to.new.items ≡ to.old.items) }
+{
+    let fields = [
+        Field::Name(Actor::Observer(number)),
+        Field::Crashed(crashed),
+        Field::Number(u64::from(position)),
+    ];
+    write_line("observer", &fields, to)
 }
 
 #[tactic(auto, unfolding(crate::specs::Transcript::entry_line))]

@@ -77,8 +77,8 @@ fn send_each<L: Link>(
     Ok(())
 }
 
-/// Sends a datagram to each port of its destination, in ascending order; one to all replicas not to the own port. Failed
-/// sends are counted; where memory runs out, what was sent before is sent.
+/// Sends a datagram to each port of its destination, in ascending order; one to all replicas not to the own port, and behind them to
+/// the observers of the configuration. Failed sends are counted; where memory runs out, what was sent before is sent.
 #[tactic(auto, using(crate::proofs::SendLemmas::then_all, crate::proofs::SendLemmas::prefix_more))]
 pub fn send_to<L: Link>(
     at: &Address,

@@ -1,4 +1,4 @@
--- What an event delivers to an actor was sent here, or spells no datagram; and it is in its ranges.
+-- What an event delivers to an actor was sent here, or spells no datagram, or an answer; and it is in its ranges.
 use Rattle.std.proofs.Common.{◌≡◌, ℕ, Bool, true, false, Option, Some, None, refl, sym, ap, subst, ◌∙◌, List, [], ◌∷◌}
 use Rattle.std.specs.Prelude.{◌==◌, ◌&&◌, ◌||◌, cond, Result, Ok, Err}
 use Rattle.std.specs.Str.{bytes_eq}
@@ -8,6 +8,7 @@ use Rattle.nop_types.specs.Given.{Given}
 use Rattle.nop_types.specs.Given as given
 use Rattle.nop_types.specs.Lists.{Has}
 use Rattle.nop_types.specs.Logs.{Whole}
+use Rattle.nop_types.specs.declared.datagram.Answer.{Answer}
 use Rattle.nop_types.specs.declared.datagram.Datagram.{Datagram}
 use Rattle.nop_types.specs.declared.datagram.Datagram.TheVariants as datagrams
 use Rattle.nop_types.specs.declared.peer.Peer.{Peer}
@@ -19,13 +20,14 @@ use Rattle.replica_rows.specs.Messages.{Arrival, Packet, PeerMessage, Ticked}
 use Rattle.replica_rows.specs.Within.{ArrivalIsIn}
 use Rattle.protocol.specs.Conf.{Conf}
 use Rattle.network.specs.Network.{Sent}
-use Rattle.refinement.specs.Datagrams.{MayCome}
+use Rattle.refinement.specs.Datagrams.{Arrived, MayCome}
 use Rattle.refinement.specs.Ranges.{GivenFits}
 use Rattle.refinement.specs.Replicas.{Came}
-use Rattle.whole_world.specs.Whole.{Brings, Op, Timer, Junk, Equal, Message, Letter, was_sent, given_if, junk_if, input_of}
+use Rattle.whole_world.specs.Whole.{Brings, Op, Ask, Timer, Junk, Equal, Heard, Message, Letter, was_sent, given_if, junk_if, heard_if}
+use Rattle.whole_world.specs.Whole.{input_of}
 use Rattle.whole_world.specs.Whole.{WholeWorld, letter_of, message_if, arrival_read, arrival_given, arrival_of}
 use Rattle.network_laws.specs.Network.{IsNoDatagram}
-use Rattle.whole_world.specs.Coming.{IsBytesOf, IsLetter, DatagramsWereSent, JunkIsNoDatagram, MessagesWereSent}
+use Rattle.whole_world.specs.Coming.{IsBytesOf, IsAnswer, IsLetter, DatagramsWereSent, JunkIsNoDatagram, HeardIsAnswer, MessagesWereSent}
 use Rattle.whole_world.specs.Safe.{BringsFits}
 use Rattle.whole_world.specs.Shows.{Carries, MessagesSay, peers_of}
 use Rattle.whole_world.proofs.Fitting.{arrived}
@@ -91,6 +93,15 @@ junk_is bytes (Err bad) i is e =
 pub junk_is_no_datagram : JunkIsNoDatagram
 junk_is_no_datagram sent bytes i e = junk_is bytes (reading bytes) i refl e
 
+heard_is : (bytes : List ℕ) (r : Result Datagram Bad) (i : Given) → reading bytes ≡ r → heard_if r bytes ≡ Some i
+    → (i ≡ given.Packet bytes) × IsAnswer bytes
+heard_is bytes (Ok (datagrams.Answer a)) i is e =
+    let same : given.Packet bytes ≡ i = cc in (sym same, record { answer = a; reads = is })
+heard_is bytes _ i is e = absurd cc
+
+pub heard_is_answer : HeardIsAnswer
+heard_is_answer sent bytes i e = heard_is bytes (reading bytes) i refl e
+
 message_was_sent : (w : WholeWorld) (q n : ℕ) (o : Option Peer) (a : Arrival) → letter_of w.letters q n ≡ o → message_if o ≡ Some a
     → (p : Peer) × (a ≡ PeerMessage p) × IsLetter w.letters q n p
 message_was_sent w q n None a is e = absurd cc
@@ -125,11 +136,27 @@ module _ (c : Conf) (sent : List Sent) (carries : Carries sent c) where
       let none : reading bytes ≡ Err t.1.error = t.1.refused in
       subst (Comes c) (sym t.0) (record { may = λ d read. absurd cc; fits = tt; key = tt })
 
+  -- bytes that read as an answer are no other datagram
+  answer_arrives : (bytes : List ℕ) (a : Answer) → BringsFits (Heard bytes) → reading bytes ≡ Ok (datagrams.Answer a) → (d : Datagram)
+      → reading bytes ≡ Ok d → Arrived c d
+  answer_arrives bytes a fits is d read =
+      let both : Ok (datagrams.Answer a) ≡ Ok d = sym is ∙ read in
+      let same : datagrams.Answer a ≡ d = cc in
+      subst (Arrived c) same (record { sent = fits a is; fits = fits a is })
+
+  heard_comes : (bytes : List ℕ) (i : Given) → BringsFits (Heard bytes) → input_of sent (Heard bytes) ≡ Some i → Comes c i
+  heard_comes bytes i fits e =
+      let t = heard_is_answer sent bytes i e in
+      subst (Comes c) (sym t.0) (record { may = answer_arrives bytes t.1.answer fits t.1.reads; fits = tt; key = tt })
+
   pub brings_come : (b : Brings) (i : Given) → BringsFits b → input_of sent b ≡ Some i → Comes c i
   brings_come (Op op) i fits e = let same : given.Submit op ≡ i = cc in subst (Comes c) same (record { may = tt; fits = fits; key = tt })
+  brings_come (Ask observer key) i fits e =
+      let same : given.Read observer key ≡ i = cc in subst (Comes c) same (record { may = tt; fits = tt; key = fits })
   brings_come (Timer tick) i fits e = let same : given.Ticked tick ≡ i = cc in subst (Comes c) same (record { may = tt; fits = tt; key = tt })
   brings_come (Junk bytes) i fits e = junk_comes bytes i e
   brings_come (Equal bytes) i fits e = equal_comes bytes i e
+  brings_come (Heard bytes) i fits e = heard_comes bytes i fits e
   brings_come _ i fits e = absurd cc
 
 -- ---- what arrives at a replica

@@ -1,11 +1,15 @@
 -- Safety of the whole world: whatever comes to its actors, in whatever order.
-use Rattle.std.specs.Prelude.{◌≡◌, ◌≤◌, ◌++◌, ◌/◌, ℕ, ⊤, List, [], ◌∷◌, length, true, Some, slice_get}
-use Rattle.nop_types.specs.declared.limits.TheConstants.{MAX_OP_BYTES}
+use Rattle.std.specs.Prelude.{◌≡◌, ◌≤◌, ◌++◌, ◌/◌, ℕ, ⊤, List, [], ◌∷◌, length, true, Some, Ok, slice_get}
+use Rattle.nop_types.specs.declared.limits.TheConstants.{MAX_OP_BYTES, MAX_KEY_BYTES}
 use Rattle.nop_types.specs.Configuration.{Configuration, is_configuration}
 use Rattle.nop_types.specs.Legality.{Legal}
 use Rattle.nop_types.specs.Meaning.{Meaning}
+use Rattle.nop_types.specs.Ranges.{AnswerFits}
+use Rattle.nop_types.specs.declared.datagram.Answer.{Answer}
+use Rattle.nop_types.specs.declared.datagram.Datagram.TheVariants as datagrams
 use Rattle.nop_types.specs.declared.output.Actor.{Actor}
 use Rattle.nop_types.specs.declared.output.Actor.TheVariants as actors
+use Rattle.oum_codec.specs.Reading.{reading}
 use Rattle.replica_rows.specs.Within.{ResultsShort}
 use Rattle.world.specs.Seats.{Seated}
 use Rattle.protocol.specs.Conf.{Conf}
@@ -14,14 +18,16 @@ use Rattle.protocol.specs.Invariant.{Inv}
 use Rattle.protocol.specs.Runs.{Move, run, MayAll}
 use Rattle.protocol_sync.specs.Sound.{Sound, GoesOn}
 use Rattle.protocol_sync.specs.Synced.{Sync}
-use Rattle.whole_world.specs.Whole.{WholeReplica, WholeWorld, Brings, Op, Agreed, history}
+use Rattle.whole_world.specs.Whole.{WholeReplica, WholeWorld, Brings, Op, Ask, Heard, Agreed, history}
 use Rattle.whole_world.specs.Whole.{whole_step}
 use Rattle.whole_world.specs.Passed.{passed}
 use Rattle.whole_world.specs.Shows.{Shows}
 
--- an op that is submitted has at most the greatest length
+-- an op that is submitted and a key that is asked for have at most the greatest length, a key at least a byte; an answer is in its ranges
 abbrev pub BringsFits : Brings → Type 0
 BringsFits (Op op) = length op ≤ MAX_OP_BYTES
+BringsFits (Ask observer key) = (1 ≤ length key) × (length key ≤ MAX_KEY_BYTES)
+BringsFits (Heard bytes) = (a : Answer) → reading bytes ≡ Ok (datagrams.Answer a) → AnswerFits a
 BringsFits _ = ⊤
 
 abbrev pub AllFit : List (Actor × Brings) → Type 0

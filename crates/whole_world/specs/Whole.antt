@@ -6,7 +6,7 @@ use Rattle.std.specs.Str.{bytes_eq}
 use Rattle.nop_types.specs.Configuration.{Configuration}
 use Rattle.nop_types.specs.Logs.{Whole}
 use Rattle.nop_types.specs.Meaning.{Meaning}
-use Rattle.nop_types.specs.Given.{Given, Packet, Ticked, Submit}
+use Rattle.nop_types.specs.Given.{Given, Packet, Ticked, Submit, Read}
 use Rattle.nop_types.specs.Lines.{Line}
 use Rattle.nop_types.specs.Lines as lines
 use Rattle.nop_types.specs.Histories.{history_of}
@@ -62,20 +62,24 @@ pub record WholeWorld : Type 0 where
   -- those that submit, accept, or find a client busy
   pub lines : List Line
 
--- what an event delivers to its actor: nothing that others said but what was said here
+-- what an event delivers to its actor: nothing that others said but what was said here, and answers to reads, whoever gives them
 pub data Brings : Type 0 where
   Nothing : Brings
   Op : (op : List ℕ) → Brings
+  -- a key, of the observer with this number
+  Ask : (observer : ℕ) → (key : List ℕ) → Brings
   Timer : Tick → Brings
   -- bytes that spell no datagram
   Junk : (bytes : List ℕ) → Brings
   -- the datagram with these bytes
   Equal : (bytes : List ℕ) → Brings
+  -- bytes that spell an answer
+  Heard : (bytes : List ℕ) → Brings
   -- the message of this sender and number
   Message : (sender number : ℕ) → Brings
   Crash : Brings
 
--- ---- looked up, so that nothing comes that was not sent here
+-- ---- looked up, so that nothing but an answer comes that was not sent here
 
 abbrev pub was_sent : List Sent → List ℕ → Bool
 was_sent sent bytes = list_any (λ s. bytes_eq s.bytes bytes) sent
@@ -89,6 +93,11 @@ abbrev pub junk_if : Result Datagram Bad → List ℕ → Option Given
 junk_if (Ok d) bytes = None
 junk_if (Err e) bytes = Some (Packet bytes)
 
+-- an answer may come from anywhere, since no observer is here
+abbrev pub heard_if : Result Datagram Bad → List ℕ → Option Given
+heard_if (Ok (datagrams.Answer a)) bytes = Some (Packet bytes)
+heard_if _ bytes = None
+
 abbrev pub letter_of : List Letter → ℕ → ℕ → Option Peer
 letter_of [] q n = None
 letter_of (x ∷ xs) q n = cond ((x.peer.sender == q) && (x.number == n)) (Some x.peer) (letter_of xs q n)
@@ -96,9 +105,11 @@ letter_of (x ∷ xs) q n = cond ((x.peer.sender == q) && (x.number == n)) (Some 
 -- an input, but for peer messages
 abbrev pub input_of : List Sent → Brings → Option Given
 input_of sent (Op op) = Some (Submit op)
+input_of sent (Ask observer key) = Some (Read observer key)
 input_of sent (Timer tick) = Some (Ticked tick)
 input_of sent (Junk bytes) = junk_if (reading bytes) bytes
 input_of sent (Equal bytes) = given_if (was_sent sent bytes) bytes
+input_of sent (Heard bytes) = heard_if (reading bytes) bytes
 input_of sent _ = None
 
 abbrev pub message_if : Option Peer → Option messages.Arrival

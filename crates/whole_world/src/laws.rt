@@ -3,7 +3,12 @@ ghost use Rattle.nop_types.specs.Configuration.{Configuration, is_configuration}
 ghost use Rattle.nop_types.specs.Meaning.{Meaning};
 ghost use Rattle.nop_types.specs.declared.output.Actor.{Actor};
 ghost use Rattle.whole_world.specs.Archives.{IsArchive, ArchivesGoOn};
-ghost use Rattle.whole_world.specs.Coming.{DatagramsWereSent, JunkIsNoDatagram, MessagesWereSent};
+ghost use Rattle.whole_world.specs.Coming.{
+  DatagramsWereSent,
+  HeardIsAnswer,
+  JunkIsNoDatagram,
+  MessagesWereSent,
+};
 ghost use Rattle.whole_world.specs.Passed.{passed};
 ghost use Rattle.whole_world.specs.Safe.{AllFit, CrashedStay, WholeRunsAreSafe};
 ghost use Rattle.whole_world.specs.Trimming.{RowsTrim, SafeCanTrim, WholeCanTrim};
@@ -21,11 +26,12 @@ pub fn crashed_replicas_stay<S>()
     ensures { (m : Meaning S) → CrashedStay m }
 {}
 
-/// Nothing comes that was not sent: a datagram was sent with these bytes, junk spells none, and a message is that of a letter
-/// with this sender and number.
+/// Nothing but an answer comes that was not sent: a datagram was sent with these bytes, junk spells none, what is heard spells an
+/// answer, and a message is that of a letter with this sender and number.
 pub fn what_comes_was_sent()
     ensures datagrams { DatagramsWereSent }
     ensures junk { JunkIsNoDatagram }
+    ensures heard { HeardIsAnswer }
     ensures messages { MessagesWereSent }
 {}
 

@@ -2,9 +2,10 @@
 //! events is taken, it is safe.
 //!
 //! `WholeWorld` has the actors, all datagrams that are no fragments, and letters: a peer message, whole, with its sender, its
-//! number and its destination. An event says what it delivers to its actor (`Brings`): a tick, an op, malformed bytes, a crash; the
-//! datagram with these bytes; or the message of this sender and number. The last two are looked up, so nothing comes that was
-//! not sent (`what_comes_was_sent`); a crashed replica takes no step (`crashed_replicas_stay`). `whole_step` is one event,
+//! number and its destination. An event says what it delivers to its actor (`Brings`): a tick, an op, a key that is asked for,
+//! malformed bytes, a crash; an answer to a read, whoever gives it, since no observer is here; the datagram with these bytes; or
+//! the message of this sender and number. The last two are looked up, so nothing but an answer comes that was not sent
+//! (`what_comes_was_sent`); a crashed replica takes no step (`crashed_replicas_stay`). `whole_step` is one event,
 //! `whole_run` a list of them, and both are total. A replica's row is that of the step table (`arrive`).
 //!
 //! `whole_runs_are_safe`: after any list of events in their ranges a configuration of the protocol shows the world, and moves

@@ -19,15 +19,17 @@ use Rattle.replica_core.specs.ReplicaSteps as replica
 use Rattle.replica_core.specs.ReplicaSteps.{Replica}
 use Rattle.sequencer.specs.SequencerSteps as sequencer
 use Rattle.session_control.specs.ControllerSteps as controller
+use Rattle.observer.specs.ObserverSteps as observer
+use Rattle.observer.specs.ObserverSteps.{Observer}
 use Rattle.schedule_text.specs.declared.event.Event.{Event}
 use Rattle.schedule_text.specs.declared.event.Event.TheVariants.{Junk}
 use Rattle.network.specs.Network.{Sent, sends_by, Did, Nothing, Outputs}
 use Rattle.world.specs.Archive.{archived}
 use Rattle.world.specs.Others.{Kind, Sequencers, Clients, Controllers, State, next, Others, seats}
-use Rattle.world.specs.Others.{with_seat, Who, AReplica, Another, who, actor_at}
+use Rattle.world.specs.Others.{with_seat, Who, AReplica, Another, AnObserver, who, actor_at}
 use Rattle.world.specs.Seats.{Seated, Stimulus, Takes, seated, moved_if}
 use Rattle.world.specs.WorldSteps.{WorldState, Refusal, Happened, actor_of, junk_of, stimulus_of, crashed_in, crashed_by}
-use Rattle.world.specs.WorldSteps.{has_crashed, at_replica, at_other, then_at, step_at, step_of, step}
+use Rattle.world.specs.WorldSteps.{has_crashed, at_replica, at_other, at_observer, then_at, step_at, step_of, step}
 use Rattle.world.proofs.Others.{actor_who, seat_found}
 use Rattle.world.proofs.Places.{slice_set-found}
 
@@ -65,6 +67,10 @@ module _ (w : WorldState) (did : Did) (silent : IsSilent did) where
   other_idles k i p found = stays (record w { others = with_seat k w.others i p }) (actor_at (Another k i))
       (ap (λ (o : Others). record w { others = o }) (seat_found k w.others i p found))
 
+  observer_idles : (i : ℕ) (p : Seated Observer) → slice_get w.observers i ≡ Some p → (at_observer w i (p, did)).world ≡ w
+  observer_idles i p found = stays (record w { observers = slice_set w.observers i p }) (actors.Observer i)
+      (ap (λ (ps : List (Seated Observer)). record w { observers = ps }) (slice_set-found w.observers i p found))
+
 -- ---- a crashed actor
 
 rests : {S : Type 0} (next : S → Given → S × List Out) (f : Seated S × Did → Happened) (o : Option (Seated S))
@@ -88,7 +94,9 @@ crashed_rests m w (AReplica i) what h c e =
 crashed_rests m w (Another k i) what h c e =
     let r = rests (next k) (at_other k w i) (slice_get (seats k w.others) i) what h c e in
     dead w _ (actor_at (Another k i)) h r.is (other_idles w Nothing nothing_is_silent k i r.seat r.found)
-crashed_rests m w _ what h c e = absurd cc
+crashed_rests m w (AnObserver i) what h c e =
+    let r = rests (observer.next m) (at_observer w i) (slice_get w.observers i) what h c e in
+    dead w _ (actors.Observer i) h r.is (observer_idles w Nothing nothing_is_silent i r.seat r.found)
 
 pub crashed_takes_no_step : {S : Type 0} (m : Meaning S) (w : WorldState) (e : Event) (h : Happened) → has_crashed w (actor_of e) ≡ true
     → step m w e ≡ Ok h → h ≡ record { world = w; lines = Dead (actor_of e) ∷ [] }
@@ -104,6 +112,11 @@ replica_ignores : {S : Type 0} (m : Meaning S) (bytes : List ℕ) (b : Bad) → 
     → replica.next m s (Packet bytes) ≡ (s, [])
 unfolding replica.next
 replica_ignores m bytes b e s = ap (replica.on_datagram m s) e
+
+observer_ignores : {S : Type 0} (m : Meaning S) (bytes : List ℕ) (b : Bad) → reading bytes ≡ Err b → (s : Observer)
+    → observer.next m s (Packet bytes) ≡ (s, [])
+unfolding observer.next
+observer_ignores m bytes b e s = ap (observer.on_datagram m s) e
 
 client_ignores : (bytes : List ℕ) (b : Bad) → reading bytes ≡ Err b → (s : Client) → next Clients s (Packet bytes) ≡ (s, [])
 unfolding requests.next reads.next
@@ -150,7 +163,9 @@ junk_stays m w (AReplica i) bytes h e =
 junk_stays m w (Another k i) bytes h e =
     let r = ignores (next k) (at_other k w i) (slice_get (seats k w.others) i) bytes (reading bytes) h (other_ignores k bytes) e in
     world_stays w h _ r.2.is (other_idles w r.0 r.1 k i r.2.seat r.2.found)
-junk_stays m w _ bytes h e = absurd cc
+junk_stays m w (AnObserver i) bytes h e =
+    let r = ignores (observer.next m) (at_observer w i) (slice_get w.observers i) bytes (reading bytes) h (observer_ignores m bytes) e in
+    world_stays w h _ r.2.is (observer_idles w r.0 r.1 i r.2.seat r.2.found)
 
 pub junk_changes_nothing : {S : Type 0} (m : Meaning S) (w : WorldState) (actor : Actor) (bytes : List ℕ) (h : Happened)
     → step m w (Junk actor bytes) ≡ Ok h → h.world ≡ w

@@ -11,6 +11,8 @@ use Rattle.sequencer.specs.SequencerSteps as sequencer
 use Rattle.sequencer.specs.declared.state.SequencerState.{SequencerState}
 use Rattle.session_control.specs.ControllerSteps as controller
 use Rattle.session_control.specs.declared.state.ControllerState.{ControllerState}
+use Rattle.observer.specs.ObserverSteps as observer
+use Rattle.observer.specs.ObserverSteps.{Observer}
 use Rattle.world.specs.declared.seat.Seat.{Seat}
 use Rattle.network.specs.Network.{Sent}
 use Rattle.world.specs.Seats.{Seated, seated}
@@ -28,15 +30,17 @@ counted_more {C} {S} state make n old new made so_far pushed opens =
 
 -- all actors in their opening states, and nothing sent or archived
 pub world_opens : (config : Configuration) (rs : List (Seated Replica)) (ss : List (Seated SequencerState)) (cs : List (Seated Client))
-    (ks : List (Seated ControllerState)) (sent : List Sent) (archive : List Entry)
+    (ks : List (Seated ControllerState)) (os : List (Seated Observer)) (sent : List Sent) (archive : List Entry)
     → rs ≡ numbered_seats (replica.opening config) config.replicas → ss ≡ numbered_seats sequencer.opening config.sequencers
     → cs ≡ numbered_seats (opening_client config) config.clients
-    → ks ≡ numbered_seats (controller.opening config) config.controllers → sent ≡ [] → archive ≡ []
+    → ks ≡ numbered_seats (controller.opening config) config.controllers
+    → os ≡ numbered_seats (observer.opening config) config.observers → sent ≡ [] → archive ≡ []
     → (let w : WorldState = record {
       config = config;
       replicas = rs;
       others = record { sequencers = ss; clients = cs; controllers = ks };
+      observers = os;
       sent = sent;
       archive = archive;
     } in w) ≡ opening config
-world_opens config rs ss cs ks sent archive a b c d e f = cc
+world_opens config rs ss cs ks os sent archive a b c d e f g = cc

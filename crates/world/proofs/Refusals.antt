@@ -18,15 +18,16 @@ use Rattle.oum_codec.specs.Reading.{reading}
 use Rattle.replica_core.specs.ReplicaSteps as replica
 use Rattle.sequencer.specs.SequencerSteps as sequencer
 use Rattle.session_control.specs.ControllerSteps as controller
+use Rattle.observer.specs.ObserverSteps as observer
 use Rattle.schedule_text.specs.declared.event.Event.{Event}
 use Rattle.schedule_text.specs.declared.event.Event.TheVariants as events
 use Rattle.network.specs.Network.{Sent, Did}
 use Rattle.world.specs.Seats.{Seated, Stimulus, seated}
-use Rattle.world.specs.Others.{Kind, Sequencers, Clients, Controllers, next, seats, count, Who, AReplica, Another, who}
+use Rattle.world.specs.Others.{Kind, Sequencers, Clients, Controllers, next, seats, count, Who, AReplica, Another, AnObserver, who}
 use Rattle.world.specs.Refusals.{HasActors, is_one_of, is_actor, has_input, forged_if, later_cause, cause_of, refusal_in}
 use Rattle.world.specs.WorldSteps.{WorldState, Refusal, NoSuchActor, NoSuchDatagram, Happened, actor_of, numbered_seats, opening}
-use Rattle.world.specs.WorldSteps.{opening_client, tick_if, datagram_at, junk_of, stimulus_of, step_with, step_at, step_of, step}
-use Rattle.world.specs.WorldSteps.{at_replica, at_other, then_at, opening_others}
+use Rattle.world.specs.WorldSteps.{opening_client, tick_if, read_if, datagram_at, junk_of, stimulus_of, step_with, step_at, step_of, step}
+use Rattle.world.specs.WorldSteps.{at_replica, at_other, at_observer, then_at, opening_others}
 use Rattle.world.proofs.Others.{others_become}
 
 -- ---- the actor
@@ -58,13 +59,18 @@ actor_refusal m w (AReplica i) what h =
     then_refusal (at_replica w i) _ ∙ at_refusal (replica.next m) w.replicas i w.config.replicas what h.replicas
 actor_refusal m w (Another k i) what h =
     then_refusal (at_other k w i) _ ∙ at_refusal (next k) (seats k w.others) i (count k w.config) what (h.others k)
-actor_refusal m w _ what h = refl
+actor_refusal m w (AnObserver i) what h =
+    then_refusal (at_observer w i) _ ∙ at_refusal (observer.next m) w.observers i w.config.observers what h.observers
 
 -- ---- what the event delivers
 
 tick_refusal : (b : Bool) (tick : Tick) → refusal_in (tick_if b tick) ≡ (if b then None else Some NoSuchActor)
 tick_refusal true tick = refl
 tick_refusal false tick = refl
+
+read_refusal : (b : Bool) (observer : ℕ) (key : List ℕ) → refusal_in (read_if b observer key) ≡ (if b then None else Some NoSuchActor)
+read_refusal true observer key = refl
+read_refusal false observer key = refl
 
 datagram_refusal : (sent : List Sent) (index : ℕ)
     → refusal_in (datagram_at index (length sent) (slice_get sent index))
@@ -91,6 +97,7 @@ unfolding stimulus_of
 input_refusal w (events.Deliver index actor) = datagram_refusal w.sent index
 input_refusal w (events.Tick actor tick) = tick_refusal _ tick
 input_refusal w (events.Install controller sequencer) = tick_refusal (nat_lt sequencer w.config.sequencers) (ticks.Install sequencer)
+input_refusal w (events.Read client observer key) = read_refusal (nat_lt observer w.config.observers) observer key
 input_refusal w (events.Junk actor bytes) = junk_refusal bytes (reading bytes)
 input_refusal w _ = refl
 
@@ -117,6 +124,7 @@ pub opening_has_actors : (c : Configuration) → HasActors (opening c)
 opening_has_actors c = record {
   replicas = length-counted (replica.opening c) c.replicas;
   others = λ k. others_opened k;
+  observers = length-counted (observer.opening c) c.observers;
 }
   where
     others_opened : (k : Kind) → length (seats k (opening_others c)) ≡ count k c
@@ -132,14 +140,16 @@ then_has_actors f (Err refusal) h all e = absurd cc
 step_of_has_actors : {S : Type 0} (m : Meaning S) (w : WorldState) (x : Who) (what : Result Stimulus Refusal) (h : Happened)
     → HasActors w → step_of m w x what ≡ Ok h → HasActors h.world
 step_of_has_actors m w (AReplica i) what h has e = then_has_actors (at_replica w i) _ h
-    (λ p. record { replicas = length-set w.replicas i p.0 ∙ has.replicas; others = has.others }) e
+    (λ p. record { replicas = length-set w.replicas i p.0 ∙ has.replicas; others = has.others; observers = has.observers }) e
 step_of_has_actors m w (Another k i) what h has e = then_has_actors (at_other k w i) _ h
     (λ p. record {
       replicas = has.replicas;
       others = others_become (λ j ps. length ps ≡ count j w.config) w.others k (slice_set (seats k w.others) i p.0)
           (length-set (seats k w.others) i p.0 ∙ has.others k) has.others;
+      observers = has.observers;
     }) e
-step_of_has_actors m w _ what h has e = absurd cc
+step_of_has_actors m w (AnObserver i) what h has e = then_has_actors (at_observer w i) _ h
+    (λ p. record { replicas = has.replicas; others = has.others; observers = length-set w.observers i p.0 ∙ has.observers }) e
 
 pub step_has_actors : {S : Type 0} (m : Meaning S) (w : WorldState) (e : Event) (h : Happened) → HasActors w → step m w e ≡ Ok h
     → HasActors h.world

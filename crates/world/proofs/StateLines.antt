@@ -1,12 +1,16 @@
 -- Lines that are put one after the other.
 use Rattle.std.proofs.Common.{◌≡◌, ℕ, ◌+◌, ◌<◌, ◌≤◌, List, ◌∷◌, ◌++◌, length, drop, get_or, sym, ap, ◌∙◌, append_assoc, append-nil}
-use Rattle.std.specs.Prelude.{map}
+use Rattle.std.proofs.Common.{arith}
+use Rattle.std.specs.Prelude.{map, IsTrue}
 use Rattle.std.proofs.lemmas.List.{drop_more, drop_all}
+use Rattle.nop_types.specs.Configuration.{Configuration, is_configuration}
+use Rattle.nop_types.specs.declared.limits.TheConstants.{MAX_OBSERVERS}
 use Rattle.nop_types.specs.declared.request.Entry.{Entry}
 use Rattle.transcript_text.specs.Transcript.{entry_line}
+use Rattle.observer.specs.ObserverSteps.{Observer}
 use Rattle.replica_core.specs.ReplicaSteps.{Replica}
 use Rattle.world.specs.Seats.{Seated}
-use Rattle.world.specs.StateLines.{entries_text, replica_text, replicas_text}
+use Rattle.world.specs.StateLines.{entries_text, replica_text, replicas_text, observer_text, observers_text}
 
 -- where all is what was put and what is left, it is so after one more
 pub entries_next : (replica i : ℕ) (es : List Entry) (e : Entry) (now new all : List ℕ) → i < length es → e ≡ get_or es i e
@@ -36,3 +40,20 @@ module _ {X : Type 0} (archive : List Entry) (f : X → Seated Replica) (i : ℕ
   pub replicas_end : (now all : List ℕ) → length ps ≤ i → now ++ replicas_text archive i (map f (drop i ps)) ≡ all → now ≡ all
   replicas_end now all le so_far =
       sym (append-nil now) ∙ ap (λ (xs : List X). now ++ replicas_text archive i (map f xs)) (sym (drop_all i ps le)) ∙ so_far
+
+module _ {X : Type 0} (f : X → Seated Observer) (i : ℕ) (ps : List X) where
+  pub observers_next : (p : X) (now new all : List ℕ) → i < length ps → p ≡ get_or ps i p → new ≡ now ++ observer_text i (f p)
+      → now ++ observers_text i (map f (drop i ps)) ≡ all → new ++ observers_text (i + 1) (map f (drop (i + 1) ps)) ≡ all
+  observers_next p now new all lt is put so_far =
+      let left : List ℕ = observers_text (i + 1) (map f (drop (i + 1) ps)) in
+      let next : drop i ps ≡ p ∷ drop (i + 1) ps = drop_more ps i p lt ∙ ap (λ (x : X). x ∷ drop (i + 1) ps) (sym is) in
+      ap (λ (t : List ℕ). t ++ left) put ∙ append_assoc now (observer_text i (f p)) left
+      ∙ ap (λ (xs : List X). now ++ observers_text i (map f xs)) (sym next) ∙ so_far
+
+  pub observers_end : (now all : List ℕ) → length ps ≤ i → now ++ observers_text i (map f (drop i ps)) ≡ all → now ≡ all
+  observers_end now all le so_far =
+      sym (append-nil now) ∙ ap (λ (xs : List X). now ++ observers_text i (map f xs)) (sym (drop_all i ps le)) ∙ so_far
+
+-- a configuration has few observers
+pub few_observers : (config : Configuration) → IsTrue (is_configuration config) → config.observers ≤ MAX_OBSERVERS
+few_observers config is = grind (arith, is)

@@ -24,6 +24,7 @@ world_of a =
         clients = map (seated_of (λ c. c.state)) a.clients.items;
         controllers = map (seated_of (λ c. c.state)) a.controllers.items;
       };
+      observers = map (seated_of (λ o. o.state)) a.observers.items;
       sent = a.network;
       archive = a.archive;
     }

@@ -19,7 +19,7 @@ timers_by w (AReplica i) = timers_if (slice_get w.replicas i) replica.timers
 timers_by w (Another k i) = timers_if (slice_get (seats k w.others) i) (timers k)
 timers_by w _ = []
 
--- the timers of an actor in order, with their periods in milliseconds
+-- the timers of an actor in order, with their periods in milliseconds; an observer has none
 abbrev pub timers_of : WorldState → Actor → List (Tick × ℕ)
 timers_of w actor = timers_by w (who actor)
 

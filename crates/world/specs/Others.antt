@@ -1,4 +1,5 @@
--- Sequencers, clients and controllers, the actors that are no replicas: what is the same of them is said once, over their kinds.
+-- Sequencers, clients and controllers, the actors that are neither replicas nor observers: what is the same of them is said once, over
+-- their kinds.
 use Rattle.std.specs.Prelude.{ℕ, List, [], slice_set}
 use Rattle.nop_types.specs.Configuration.{Configuration}
 use Rattle.nop_types.specs.Given.{Given}

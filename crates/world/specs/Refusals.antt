@@ -8,18 +8,19 @@ use Rattle.oum_codec.specs.Reading.{reading}
 use Rattle.schedule_text.specs.declared.event.Event.{Event}
 use Rattle.schedule_text.specs.declared.event.Event.TheVariants as events
 use Rattle.schedule_text.specs.Ticks.{takes_tick}
-use Rattle.world.specs.Others.{Kind, seats, count, Who, AReplica, Another, who}
+use Rattle.world.specs.Others.{Kind, seats, count, Who, AReplica, Another, AnObserver, who}
 use Rattle.world.specs.WorldSteps.{WorldState, Refusal, NoSuchActor, NoSuchDatagram, Forged, actor_of}
 
 -- the actors of the configuration are there
 pub record HasActors (w : WorldState) : Type 0 where
   pub replicas : length w.replicas ≡ w.config.replicas
   pub others : (k : Kind) → length (seats k w.others) ≡ count k w.config
+  pub observers : length w.observers ≡ w.config.observers
 
 abbrev pub is_one_of : Configuration → Who → Bool
 is_one_of c (AReplica i) = nat_lt i c.replicas
 is_one_of c (Another k i) = nat_lt i (count k c)
-is_one_of c _ = false
+is_one_of c (AnObserver i) = nat_lt i c.observers
 
 abbrev pub is_actor : Configuration → Actor → Bool
 is_actor c actor = is_one_of c (who actor)
@@ -28,6 +29,7 @@ is_actor c actor = is_one_of c (who actor)
 abbrev pub has_input : Configuration → Event → Bool
 has_input c (events.Tick actor tick) = takes_tick actor tick
 has_input c (events.Install controller sequencer) = nat_lt sequencer c.sequencers
+has_input c (events.Read client observer key) = nat_lt observer c.observers
 has_input c _ = true
 
 abbrev pub forged_if : Result Datagram Bad → Option Refusal

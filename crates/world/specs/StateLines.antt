@@ -1,8 +1,10 @@
--- The lines that show the replicas at the end of a run.
+-- The lines that show the replicas and the observers at the end of a run.
 use Rattle.std.specs.Prelude.{ℕ, ◌+◌, List, [], ◌∷◌, ◌++◌, take}
 use Rattle.nop_types.specs.Logs.{Trimmed, length_of}
 use Rattle.nop_types.specs.declared.request.Entry.{Entry}
-use Rattle.transcript_text.specs.Transcript.{replica_line, entry_line}
+use Rattle.transcript_text.specs.Transcript.{replica_line, entry_line, observer_line}
+use Rattle.observer.specs.ObserverSteps.{Observer}
+use Rattle.observer.specs.Observing.{position}
 use Rattle.replica_state.specs.declared.state.ReplicaState.{ReplicaState}
 use Rattle.replica_core.specs.ReplicaSteps.{Replica}
 use Rattle.world.specs.Seats.{Seated}
@@ -21,3 +23,10 @@ replica_text archive i p =
 abbrev pub replicas_text : List Entry → ℕ → List (Seated Replica) → List ℕ
 replicas_text archive i [] = []
 replicas_text archive i (p ∷ ps) = replica_text archive i p ++ replicas_text archive (i + 1) ps
+
+abbrev pub observer_text : ℕ → Seated Observer → List ℕ
+observer_text i p = observer_line i p.crashed (position p.state.heard.state)
+
+abbrev pub observers_text : ℕ → List (Seated Observer) → List ℕ
+observers_text i [] = []
+observers_text i (p ∷ ps) = observer_text i p ++ observers_text (i + 1) ps

@@ -1,9 +1,9 @@
 -- The world: all actors and the network, and one event as one step of one actor.
 use Rattle.std.specs.Prelude.{ℕ, zero, suc, List, [], ◌∷◌, ◌++◌, length, map, Bool, true, false, Option, Some, None, Result, Ok, Err}
-use Rattle.std.specs.Prelude.{slice_get, slice_set, nat_lt, if◌then◌else◌}
+use Rattle.std.specs.Prelude.{cond, slice_get, slice_set, nat_lt, if◌then◌else◌}
 use Rattle.nop_types.specs.Configuration.{Configuration}
 use Rattle.nop_types.specs.Meaning.{Meaning}
-use Rattle.nop_types.specs.Given.{Given, Packet, Ticked, Submit}
+use Rattle.nop_types.specs.Given.{Given, Packet, Ticked, Submit, Read}
 use Rattle.nop_types.specs.Lines.{Line}
 use Rattle.nop_types.specs.Views.{leader_of, outranks, first_view}
 use Rattle.nop_types.specs.Histories.{history_of}
@@ -22,11 +22,13 @@ use Rattle.replica_core.specs.ReplicaSteps as replica
 use Rattle.replica_core.specs.ReplicaSteps.{Replica}
 use Rattle.sequencer.specs.SequencerSteps as sequencer
 use Rattle.client_quorum.specs.Core as client
+use Rattle.observer.specs.ObserverSteps as observer
+use Rattle.observer.specs.ObserverSteps.{Observer}
 use Rattle.session_control.specs.ControllerSteps as controller
 use Rattle.schedule_text.specs.declared.event.Event.{Event}
 use Rattle.schedule_text.specs.declared.event.Event.TheVariants as events
 use Rattle.schedule_text.specs.Ticks.{takes_tick}
-use Rattle.world.specs.Others.{Kind, State, next, Others, seats, with_seat, Who, AReplica, Another, who, actor_at}
+use Rattle.world.specs.Others.{Kind, State, next, Others, seats, with_seat, Who, AReplica, Another, AnObserver, who, actor_at}
 use Rattle.world.specs.Seats.{Seated, Stimulus, Takes, Crashes, seated, seat_step}
 use Rattle.network.specs.Network.{Did, Sent, sends_by, lines_by}
 use Rattle.world.specs.Archive.{archived, with_archive}
@@ -36,6 +38,7 @@ pub record WorldState : Type 0 where
   pub config : Configuration
   pub replicas : List (Seated Replica)
   pub others : Others
+  pub observers : List (Seated Observer)
   pub sent : List Sent
   -- the synchronised entries that moved out of logs, from slot 1 on
   pub archive : List Entry
@@ -58,12 +61,17 @@ actor_of (events.Submit client op) = actors.Client client
 actor_of (events.Deliver index actor) = actor
 actor_of (events.Tick actor tick) = actor
 actor_of (events.Install controller sequencer) = actors.Controller controller
+actor_of (events.Read client observer key) = actors.Client client
 actor_of (events.Crash actor) = actor
 actor_of (events.Junk actor bytes) = actor
 
 abbrev pub tick_if : Bool → Tick → Result Stimulus Refusal
 tick_if true tick = Ok (Takes (Ticked tick))
 tick_if false tick = Err NoSuchActor
+
+-- a key, of an observer that is there
+abbrev pub read_if : Bool → (observer : ℕ) → (key : List ℕ) → Result Stimulus Refusal
+read_if is_there observer key = cond is_there (Ok (Takes (Read observer key))) (Err NoSuchActor)
 
 -- the datagram with an index, where `count` were sent
 abbrev pub datagram_at : ℕ → ℕ → Option Sent → Result Stimulus Refusal
@@ -81,6 +89,7 @@ stimulus_of c sent (events.Submit number op) = Ok (Takes (Submit op))
 stimulus_of c sent (events.Deliver index actor) = datagram_at index (length sent) (slice_get sent index)
 stimulus_of c sent (events.Tick actor tick) = tick_if (takes_tick actor tick) tick
 stimulus_of c sent (events.Install controller sequencer) = tick_if (nat_lt sequencer c.sequencers) (ticks.Install sequencer)
+stimulus_of c sent (events.Read client observer key) = read_if (nat_lt observer c.observers) observer key
 stimulus_of c sent (events.Crash actor) = Ok Crashes
 stimulus_of c sent (events.Junk actor bytes) = junk_of bytes (reading bytes)
 
@@ -96,6 +105,9 @@ at_replica w i p =
 
 abbrev pub at_other : (k : Kind) → WorldState → ℕ → Seated (State k) × Did → Happened
 at_other k w i p = carried w (actor_at (Another k i)) p.1 (record w { others = with_seat k w.others i p.0 })
+
+abbrev pub at_observer : WorldState → ℕ → Seated Observer × Did → Happened
+at_observer w i p = carried w (actors.Observer i) p.1 (record w { observers = slice_set w.observers i p.0 })
 
 -- what an actor's step makes of the world, unless the event is refused
 abbrev pub then_at : {S : Type 0} → (Seated S × Did → Happened) → Result (Seated S × Did) Refusal → Result Happened Refusal
@@ -115,11 +127,11 @@ step_at next (Some p) what = step_with next p what
 -- ---- events
 
 module _ {S : Type 0} (m : Meaning S) where
-  -- the step of an actor; no observer is there
+  -- the step of an actor
   abbrev pub step_of : WorldState → Who → Result Stimulus Refusal → Result Happened Refusal
   step_of w (AReplica i) what = then_at (at_replica w i) (step_at (replica.next m) (slice_get w.replicas i) what)
   step_of w (Another k i) what = then_at (at_other k w i) (step_at (next k) (slice_get (seats k w.others) i) what)
-  step_of w _ what = Err NoSuchActor
+  step_of w (AnObserver i) what = then_at (at_observer w i) (step_at (observer.next m) (slice_get w.observers i) what)
 
   -- one event is one step of one actor, unless it is refused
   unfoldable pub step : WorldState → Event → Result Happened Refusal
@@ -158,6 +170,7 @@ opening c =
       config = c;
       replicas = numbered_seats (replica.opening c) c.replicas;
       others = opening_others c;
+      observers = numbered_seats (observer.opening c) c.observers;
       sent = [];
       archive = [];
     }
@@ -205,7 +218,7 @@ crashed_in (Some p) = p.crashed
 abbrev pub crashed_by : WorldState → Who → Bool
 crashed_by w (AReplica i) = crashed_in (slice_get w.replicas i)
 crashed_by w (Another k i) = crashed_in (slice_get (seats k w.others) i)
-crashed_by w _ = false
+crashed_by w (AnObserver i) = crashed_in (slice_get w.observers i)
 
 -- whether an actor crashed, false for an actor that is not of the configuration
 abbrev pub has_crashed : WorldState → Actor → Bool

@@ -2,6 +2,7 @@ ghost use Rattle.std.specs.Prelude.{◌≡◌, [], IfOk, IfErr, OnOk, Ok, length
 ghost use Rattle.replica_core.specs.ReplicaSteps as replica;
 ghost use Rattle.sequencer.specs.SequencerSteps as sequencer;
 ghost use Rattle.session_control.specs.ControllerSteps as controller;
+ghost use Rattle.observer.specs.ObserverSteps as observer;
 ghost use Rattle.world.specs.Actors.{world_of, moved_out, Gives, Happens};
 ghost use Rattle.network.specs.Network.{did_of};
 ghost use Rattle.world.specs.Others.{who};
@@ -26,6 +27,7 @@ use crate::stimulus::actor_of;
 use client_quorum::Client;
 use network::{Lines, Network, carry_out, send_all};
 use nop_types::{Actor, Config, Host, NoMemory, Outbox};
+use observer::Observer;
 use replica_core::Replica;
 use schedule_text::Event;
 use sequencer::Sequencer;
@@ -40,6 +42,7 @@ pub struct Actors<H: Host> {
     pub sequencers: Vec<Seat<Sequencer>>,
     pub clients: Vec<Seat<Client>>,
     pub controllers: Vec<Seat<Controller>>,
+    pub observers: Vec<Seat<Observer<H>>>,
     pub network: Network,
     pub archive: Archive,
 }
@@ -91,12 +94,25 @@ fn controllers(alloc: Global, config: Config) -> Result<Vec<Seat<Controller>>, N
     Ok(seats)
 }
 
+fn observers<H: Host>(alloc: Global, config: Config) -> Result<Vec<Seat<Observer<H>>>, NoMemory>
+    ensures seats { IfOk result (λ v. map (seated_of (λ o. o.state)) v.items
+        ≡ numbered_seats (observer.opening config) config.observers) }
+    ensures count { IfOk result (λ v. length v.items ≡ config.observers) }
+{
+    let mut seats = Vec::new(alloc);
+    for number in 0..config.observers() {
+        seats.push(Seat::new(Observer::new(alloc, config, number)?))?;
+    }
+    Ok(seats)
+}
+
 impl<H: Host> Actors<H> {
     /// All actors in their opening states, around a network in which nothing is sent yet.
     pub fn new(alloc: Global, config: Config, network: Network) -> Result<Actors<H>, NoMemory>
         requires { network ≡ [] }
         ensures opening { IfOk result (λ a. world_of a ≡ opening config) }
         ensures count { IfOk result (λ a. length a.replicas.items ≡ a.config.replicas) }
+        ensures observers { IfOk result (λ a. length a.observers.items ≡ a.config.observers) }
     {
         Ok(Actors {
             config,
@@ -104,6 +120,7 @@ impl<H: Host> Actors<H> {
             sequencers: sequencers(alloc, config)?,
             clients: clients(alloc, config)?,
             controllers: controllers(alloc, config)?,
+            observers: observers(alloc, config)?,
             network,
             archive: Archive::new(alloc),
         })
@@ -118,6 +135,7 @@ impl<H: Host> Actors<H> {
     ) -> Result<Option<Outbox>, StepError>
         ensures config { self.new.config ≡ self.old.config }
         ensures count { length self.new.replicas.items ≡ length self.old.replicas.items }
+        ensures observers { length self.new.observers.items ≡ length self.old.observers.items }
         ensures network { self.new.network ≡ self.old.network }
         ensures archive { self.new.archive ≡ self.old.archive }
         ensures ok { IfOk result (λ outs. step_of H.meaning (world_of self.old) (who actor)
@@ -164,7 +182,16 @@ impl<H: Host> Actors<H> {
                     event,
                 )
             }
-            Actor::Observer(_) => Err(StepError::NoSuchActor),
+            Actor::Observer(i) => {
+                take_at(
+                    alloc,
+                    config,
+                    network,
+                    &mut self.observers,
+                    i as usize,
+                    event,
+                )
+            }
         }
     }
 
@@ -173,6 +200,7 @@ impl<H: Host> Actors<H> {
     pub fn step(&mut self, alloc: Global, event: &Event) -> Result<Lines, StepError>
         ensures config { self.new.config ≡ self.old.config }
         ensures count { length self.new.replicas.items ≡ length self.old.replicas.items }
+        ensures observers { length self.new.observers.items ≡ length self.old.observers.items }
         ensures ok { IfOk result (Happens (step H.meaning (world_of self.old) event.now)
             (world_of self.new)) }
         ensures err { IfErr result (λ e. Refuses e (step H.meaning (world_of self.old) event.now)
@@ -196,6 +224,7 @@ impl<H: Host> Actors<H> {
     ) -> Result<Option<Outbox>, NoMemory>
         ensures config { self.new.config ≡ self.old.config }
         ensures count { length self.new.replicas.items ≡ length self.old.replicas.items }
+        ensures observers { length self.new.observers.items ≡ length self.old.observers.items }
         ensures archive { OnOk result (world_of self.new
             ≡ moved_out actor (did_of did) (world_of self.old)) }
         ensures rest { IfOk result (λ rest. rest ≡ option_map untrimmed did) }
@@ -216,6 +245,7 @@ impl<H: Host> Actors<H> {
     pub fn step_outs(&mut self, alloc: Global, event: &Event) -> Result<Option<Outbox>, StepError>
         ensures config { self.new.config ≡ self.old.config }
         ensures count { length self.new.replicas.items ≡ length self.old.replicas.items }
+        ensures observers { length self.new.observers.items ≡ length self.old.observers.items }
         ensures ok { IfOk result (Gives (step H.meaning (world_of self.old) event.now)
             (actor_of event.now) (world_of self.old) (world_of self.new)) }
         ensures err { IfErr result (λ e. Refuses e (step H.meaning (world_of self.old) event.now)
@@ -236,7 +266,7 @@ impl<H: Host> Actors<H> {
             Actor::Sequencer(i) => is_crashed(&self.sequencers, i as usize),
             Actor::Client(i) => is_crashed(&self.clients, i as usize),
             Actor::Controller(i) => is_crashed(&self.controllers, i as usize),
-            Actor::Observer(_) => false,
+            Actor::Observer(i) => is_crashed(&self.observers, i as usize),
         }
     }
 }

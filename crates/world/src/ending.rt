@@ -36,7 +36,7 @@ fn history_lines(requests: &[Request], to: &mut Vec<u8>) -> Result<(), NoMemory>
     Ok(())
 }
 
-/// Appends the lines at the end of the input: replicas, entries, history, end. After an error some of them stand there.
+/// Appends the lines at the end of the input: replicas, entries, observers, history, end. After an error some of them stand there.
 #[tactic(auto, unfolding(crate::specs::Ending::final_text))]
 fn put_final<H: Host>(world: &World<H>, to: &mut Vec<u8>) -> Result<(), NoMemory>
     ensures ok { OnOk result (to.new.items ≡ to.old.items ++ final_text world.now.state) }
@@ -44,6 +44,7 @@ fn put_final<H: Host>(world: &World<H>, to: &mut Vec<u8>) -> Result<(), NoMemory
 {
     let history = world.history()?;
     world.replica_lines(to)?;
+    world.observer_lines(to)?;
     history_lines(&history, to)?;
     end_line(to)
 }

@@ -10,8 +10,8 @@
 //! bytes change nothing (`junk_changes_nothing`).
 //!
 //! The other calls read what the definition of their name reads: `config`, `sent`, `sent_to`,
-//! `sent_count`, `replica`, `entry`, `crashed`, `timer`, `history`, `main_view`, `main_log`,
-//! `replica_lines`. `final_lines` appends the lines at the end of a transcript, or nothing on an
+//! `sent_count`, `replica`, `observer`, `entry`, `crashed`, `timer`, `history`, `main_view`, `main_log`,
+//! `replica_lines`, `observer_lines`. `final_lines` appends the lines at the end of a transcript, or nothing on an
 //! error. `find` is the first index of a datagram with the given bytes. `takes(client)`:
 //! whether a submit would be accepted: the client exists, is up, has no open request, and an id is
 //! left. `with_index` is `new` with an index for `find`.

@@ -1,12 +1,19 @@
 ghost use Rattle.std.specs.Prelude.{◌≡◌, ◌≤◌, ◌++◌, OnOk, length, map};
 ghost use Rattle.world.specs.SeatOutcomes.{seated_of};
-ghost use Rattle.world.specs.StateLines.{entries_text, replica_text, replicas_text};
+ghost use Rattle.world.specs.StateLines.{
+  entries_text,
+  observer_text,
+  observers_text,
+  replica_text,
+  replicas_text,
+};
 
 use crate::main_log::prefix;
 use crate::seat::Seat;
-use nop_types::{Entry, Host, MAX_LENGTH, MAX_REPLICAS, NoMemory};
+use nop_types::{Entry, Host, MAX_LENGTH, MAX_OBSERVERS, MAX_REPLICAS, NoMemory};
+use observer::Observer;
 use replica_core::Replica;
-use transcript_text::{entry_line, replica_line};
+use transcript_text::{entry_line, observer_line, replica_line};
 
 fn put_entries(replica: u8, entries: &[Entry], to: &mut Vec<u8>) -> Result<(), NoMemory>
     requires { length entries.now ≤ MAX_LENGTH }
@@ -54,6 +61,29 @@ pub fn put_replicas<H: Host>(
 {
     for (i, seat) in seats.iter().enumerate() {
         put_replica(archive, i as u8, seat, to)?;
+    }
+    Ok(())
+}
+
+fn put_observer<H: Host>(
+    number: u8,
+    seat: &Seat<Observer<H>>,
+    to: &mut Vec<u8>,
+) -> Result<(), NoMemory>
+    ensures { OnOk result (to.new.items ≡ to.old.items
+        ++ observer_text number (seated_of (λ o. o.state) seat.now)) }
+{
+    observer_line(number, seat.crashed, seat.core.position(), to)
+}
+
+/// Appends the lines of all observers. Where memory runs out, `to` keeps the lines before, each of them whole.
+pub fn put_observers<H: Host>(seats: &[Seat<Observer<H>>], to: &mut Vec<u8>) -> Result<(), NoMemory>
+    requires { length seats.now ≤ MAX_OBSERVERS }
+    ensures { OnOk result (to.new.items ≡ to.old.items
+        ++ observers_text 0 (map (seated_of (λ o. o.state)) seats.now)) }
+{
+    for (i, seat) in seats.iter().enumerate() {
+        put_observer(i as u8, seat, to)?;
     }
     Ok(())
 }

@@ -4,6 +4,7 @@ ghost use Rattle.world.specs.SeatOutcomes.{owned, Refuses};
 ghost use Rattle.world.specs.WorldSteps.{
   actor_of,
   tick_if,
+  read_if,
   datagram_at,
   junk_of,
   stimulus_of,
@@ -11,7 +12,7 @@ ghost use Rattle.world.specs.WorldSteps.{
 
 use crate::step_error::StepError;
 use network::Network;
-use nop_types::{Actor, Bytes, Config, Input, Tick};
+use nop_types::{Actor, Bytes, Config, Input, Key, Tick};
 use oum_codec::read_datagram;
 use schedule_text::{Event, takes_tick};
 use std::alloc::Global;
@@ -32,6 +33,7 @@ pub fn actor_of(event: &Event) -> Actor
     match event {
         Event::Submit(client, _) => Actor::Client(*client),
         Event::Install(controller, _) => Actor::Controller(*controller),
+        Event::Read(client, _, _) => Actor::Client(*client),
         Event::Deliver(_, actor)
         | Event::Tick(actor, _)
         | Event::Crash(actor)
@@ -45,6 +47,18 @@ fn tick_if(takes: bool, tick: Tick) -> Result<Stimulus<'static>, StepError>
 {
     if takes {
         Ok(Stimulus::Input(Input::Tick(tick)))
+    } else {
+        Err(StepError::NoSuchActor)
+    }
+}
+
+/// A key, of an observer that is there.
+fn read_if(is_there: bool, observer: u8, key: &Key) -> Result<Stimulus<'_>, StepError>
+    ensures ok { IfOk result (λ s. read_if is_there observer key.now ≡ Ok (owned s)) }
+    ensures err { IfErr result (λ e. Refuses e (read_if is_there observer key.now) ⊤) }
+{
+    if is_there {
+        Ok(Stimulus::Input(Input::Read(observer, key)))
     } else {
         Err(StepError::NoSuchActor)
     }
@@ -98,6 +112,7 @@ pub fn stimulus_of<'a>(
         Event::Install(_, sequencer) => {
             tick_if(*sequencer < config.sequencers(), Tick::Install(*sequencer))
         }
+        Event::Read(_, observer, key) => read_if(*observer < config.observers(), *observer, key),
         Event::Crash(_) => Ok(Stimulus::Crash),
         Event::Junk(_, bytes) => junk(alloc, bytes.as_slice()),
     }

@@ -19,7 +19,7 @@ ghost use Rattle.schedule_text.specs.Fits.{EventFits};
 ghost use Rattle.world.specs.Actors.{world_of, Gives, Happens};
 ghost use Rattle.world.specs.SeatOutcomes.{Refuses};
 ghost use Rattle.world.specs.WorldSteps.{actor_of, step, opening, history, has_crashed};
-ghost use Rattle.world.specs.StateLines.{replicas_text};
+ghost use Rattle.world.specs.StateLines.{observers_text, replicas_text};
 
 mod lookups;
 mod queries;
@@ -28,10 +28,11 @@ use crate::actors::Actors;
 use crate::history::history_of;
 use crate::main_log::main_log;
 use crate::seat::core_at;
-use crate::state_lines::put_replicas;
+use crate::state_lines::{put_observers, put_replicas};
 use crate::step_error::StepError;
 use network::{Lines, Network};
 use nop_types::{Actor, Bytes, Config, Host, NoMemory, Outbox, Request};
+use observer::Observer;
 use replica_core::Replica;
 use schedule_text::Event;
 use std::alloc::Global;
@@ -41,8 +42,14 @@ use std::marker::Model;
 fn limits(event: &Event)
     ensures { EventFits event.now }
 {
-    if let Event::Submit(_, op) = event {
-        let _limit = op.as_slice();
+    match event {
+        Event::Submit(_, op) => {
+            let _limit = op.as_slice();
+        }
+        Event::Read(_, _, key) => {
+            let _limits = key.as_slice();
+        }
+        _ => (),
     }
 }
 
@@ -70,7 +77,8 @@ impl<H: Host> Model for World<H> {
 
     ghost use Rattle.std.specs.Prelude.{◌≡◌, length};
 
-    ghost invariant = { λ w. length w.actors.replicas.items ≡ w.actors.config.replicas };
+    ghost invariant = { λ w. (length w.actors.replicas.items ≡ w.actors.config.replicas)
+        × (length w.actors.observers.items ≡ w.actors.config.observers) };
 }
 
 // By hand, so that a crate with a world proves nothing on how its parts are dropped.
@@ -184,6 +192,15 @@ impl<H: Host> World<H> {
         core_at(&self.actors.replicas, i as usize)
     }
 
+    /// The observer with this number.
+    pub fn observer(&self, i: u8) -> Option<&Observer<H>>
+        ensures some { IsSome result ↔ (i < self.now.state.config.observers) }
+        ensures state { option_map (λ o. o.now.state) result
+            ≡ option_map (λ p. p.state) (slice_get self.now.state.observers i) }
+    {
+        core_at(&self.actors.observers, i as usize)
+    }
+
     /// Whether an actor crashed, false for an actor that is not of the configuration.
     pub fn crashed(&self, actor: Actor) -> bool
         ensures { result ≡ has_crashed self.now.state actor }
@@ -205,6 +222,20 @@ impl<H: Host> World<H> {
             &self.actors.replicas,
             &mut lines,
         )?;
+        to.extend_from_slice(&lines)?;
+        Ok(())
+    }
+
+    /// Appends a line for each observer.
+    pub fn observer_lines(&self, to: &mut Vec<u8>) -> Result<(), NoMemory>
+        ensures ok { OnOk result (to.new.items ≡ to.old.items
+            ++ observers_text 0 self.now.state.observers) }
+        ensures err { OnErr result (to.new.items ≡ to.old.items) }
+    {
+        // at most four
+        let _count = self.actors.config.observers();
+        let mut lines = Vec::new(self.alloc);
+        put_observers(&self.actors.observers, &mut lines)?;
         to.extend_from_slice(&lines)?;
         Ok(())
     }

@@ -9,6 +9,9 @@ use std::process::Abort;
 /// A schedule, and its transcript: no events, two crashes of one replica, a refused event, actors that are not there. In the last one a
 /// put is synchronised by replicas 0 and 2 while replica 1 has nothing. That one asks for the slot, is told the checkpoint, and leads the
 /// next view, in which a get finds the value; at the end the put is in its log too.
+///
+/// Then observers. One is told the log and its commit, and its second answer has the put; one that was not told the log does not follow
+/// the commit. One that crashed answers nothing, and the client takes no answer of another one.
 const REPLAYS: &str = "\
 nopaxos 1 replicas 1 sequencers 1 clients 1
 |
@@ -105,6 +108,119 @@ entry r2 1 c0 1 5000016b000176
 history 1 c0 1 5000016b000176
 history 2 c1 1 4700016b
 end
+----
+nopaxos 3 replicas 3 sequencers 1 clients 1 controllers 1 observers 1
+submit c0 5000016b000176
+deliver 0 s0
+deliver 1 r0
+deliver 1 r1
+tick r0 sync
+deliver 4 r1
+deliver 5 r0
+deliver 4 o0
+read c0 o0 6b
+deliver 7 o0
+deliver 8 c0
+deliver 6 o0
+read c0 o0 6b
+deliver 9 o0
+deliver 10 c0
+|
+transcript 3 replicas 3 sequencers 1 clients 1 controllers 1 observers 1
+submit c0 1 5000016b000176
+send 0 c0 s* request 25
+send 1 s0 r* stamped 41
+send 2 r0 c0 reply 40
+send 3 r1 c0 reply 36
+send 4 r0 r* fragment 61
+send 5 r1 r0 fragment 35
+send 6 r0 r* fragment 35
+read c0 1 o0 6b
+send 7 c0 o0 read 19
+send 8 o0 c0 answer 27
+answer c0 1 o0 0 6e6f6e65
+read c0 2 o0 6b
+send 9 c0 o0 read 19
+send 10 o0 c0 answer 25
+answer c0 2 o0 1 3d76
+replica r0 up normal 0 1 1 1
+entry r0 1 c0 1 5000016b000176
+replica r1 up normal 0 1 1 0
+replica r2 up normal 0 1 0 0
+observer o0 up 1
+history 1 c0 1 5000016b000176
+end
+----
+nopaxos 3 replicas 3 sequencers 1 clients 1 controllers 1 observers 1
+submit c0 5000016b000176
+deliver 0 s0
+deliver 1 r0
+deliver 1 r1
+tick r0 sync
+deliver 4 r1
+deliver 5 r0
+read c0 o0 6b
+deliver 7 o0
+deliver 8 c0
+deliver 6 o0
+read c0 o0 6b
+deliver 9 o0
+deliver 10 c0
+|
+transcript 3 replicas 3 sequencers 1 clients 1 controllers 1 observers 1
+submit c0 1 5000016b000176
+send 0 c0 s* request 25
+send 1 s0 r* stamped 41
+send 2 r0 c0 reply 40
+send 3 r1 c0 reply 36
+send 4 r0 r* fragment 61
+send 5 r1 r0 fragment 35
+send 6 r0 r* fragment 35
+read c0 1 o0 6b
+send 7 c0 o0 read 19
+send 8 o0 c0 answer 27
+answer c0 1 o0 0 6e6f6e65
+read c0 2 o0 6b
+send 9 c0 o0 read 19
+send 10 o0 c0 answer 27
+answer c0 2 o0 0 6e6f6e65
+replica r0 up normal 0 1 1 1
+entry r0 1 c0 1 5000016b000176
+replica r1 up normal 0 1 1 0
+replica r2 up normal 0 1 0 0
+observer o0 up 0
+history 1 c0 1 5000016b000176
+end
+----
+nopaxos 3 replicas 1 sequencers 1 clients 1 controllers 1 observers 2
+crash o0
+read c0 o0 6b
+deliver 0 o0
+read c0 o0 6b
+tick c0 retry
+deliver 1 o1
+deliver 2 c0
+junk o1 4e4f0309
+crash o0
+|
+transcript 3 replicas 1 sequencers 1 clients 1 controllers 1 observers 2
+read c0 1 o0 6b
+send 0 c0 o0 read 19
+dead o0
+busy c0
+send 1 c0 o0 read 19
+send 2 o1 c0 answer 27
+dead o0
+replica r0 up normal 0 1 0 0
+observer o0 crashed 0
+observer o1 up 0
+end
+----
+nopaxos 3 replicas 1 sequencers 1 clients 1 controllers 1 observers 1
+tick o0 resend
+|
+transcript 3 replicas 1 sequencers 1 clients 1 controllers 1 observers 1
+error line 2 rule 7
 ";
 
 /// Replays what stands before the bar, with reads of at most so many bytes, and compares what is written with what stands below it.

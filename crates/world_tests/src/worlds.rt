@@ -1,5 +1,5 @@
 use kv_host::KvHost;
-use nop_types::{Actor, Config, Dest, Entry, Host, Out, Outbox, Tick};
+use nop_types::{Actor, Config, Dest, Entry, Host, Key, Out, Outbox, Tick};
 use outside::ReadMem;
 use safety::run_events;
 use schedule_text::{Event, Reader};
@@ -235,5 +235,37 @@ fn no_observers(rt: HostRuntime) {
     check_refused(&rt, &mut world, &Event::Deliver(0, observer));
     check_refused(&rt, &mut world, &Event::Tick(observer, Tick::Resend));
     check_refused(&rt, &mut world, &Event::Crash(observer));
+    let key = Key::new(rt.alloc(), b"k").expect(&rt, "memory");
+    check_refused(&rt, &mut world, &Event::Read(0, 0, key));
     assert!(rt; !world.crashed(observer) && world.timer(observer, 0).is_none());
+    assert!(rt; world.observer(0).is_none());
+}
+
+/// What is synchronised, and told to an observer, which crashes then.
+const OBSERVED: &str = "\
+nopaxos 3 replicas 3 sequencers 1 clients 1 controllers 1 observers 1
+submit c0 5000016b000176
+deliver 0 s0
+deliver 1 r0
+deliver 1 r1
+tick r0 sync
+deliver 4 r1
+deliver 5 r0
+deliver 4 o0
+deliver 6 o0
+crash o0
+read c0 o0 6b
+deliver 7 o0
+";
+
+#[test]
+fn an_observer_that_crashed(rt: HostRuntime) {
+    let config = Config::new(3, 1, 1, 1, 1).expect(&rt, "a group");
+    let events = events_of(&rt, rt.alloc(), OBSERVED);
+    let world: Result<World<KvHost>, StepError> = run_events(rt.alloc(), config, &events);
+    let world = world.ok().expect(&rt, "refused");
+    let observer = world.observer(0).expect(&rt, "an observer");
+    assert!(rt; observer.position() == 1 && world.observer(1).is_none());
+    assert!(rt; world.crashed(Actor::Observer(0)) && world.sent_count() == 8);
+    assert!(rt; world.sent_to(7) == Some(Dest::One(Actor::Observer(0))));
 }

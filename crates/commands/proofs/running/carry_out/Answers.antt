@@ -1,5 +1,5 @@
 use Rattle.std.proofs.Common.{Some, true}
-use Rattle.command_line.specs.declared.command.Command.TheVariants.{Client}
+use Rattle.command_line.specs.declared.command.Command.TheVariants.{Client, Read}
 use Rattle.commands.proofs.AnswerLemmas.{client_answers}
 use Rattle.commands.proofs.RunLemmas.{no_read}
 use Rattle.one_box.specs.Showing.{links_of}
@@ -19,4 +19,19 @@ returns-in-Client-clause-ends g c =
       attaches = c.run_client.ensures.attaches;
       reads = no_read (g.S.Source.fault_count c.args.source.now) true c.run_client.result c.run_client.ensures.status;
       writes = c.run_client.ensures.writes;
+    })
+
+pub returns-in-Read-clause-ends : goal.returns-in-Read-clause-ends
+returns-in-Read-clause-ends g c =
+    rw c.in-Read.is (record {
+      drawing = tt;
+      node = c.run_read.ensures.ends;
+      cluster = tt;
+      client = client_answers g.H.Host.meaning (links_of g.P.L.Link) (ports_of g.P.Ports c.args.ports.now c.run_read.new.ports)
+          (g.C.Clock.values c.args.clock.now) (Some (Read c.in-Read.id c.in-Read.site c.in-Read.observer c.in-Read.key)) c.run_read.result
+          (g.K.Sink.held c.args.sink.now) (g.K.Sink.held c.run_read.new.sink) c.run_read.ensures.ends;
+      back = λ is. c.run_read.ensures.back;
+      attaches = c.run_read.ensures.attaches;
+      reads = no_read (g.S.Source.fault_count c.args.source.now) true c.run_read.result c.run_read.ensures.status;
+      writes = c.run_read.ensures.writes;
     })

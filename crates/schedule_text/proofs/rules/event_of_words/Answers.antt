@@ -58,6 +58,19 @@ returns-then-is_word-6 c =
       ← c.if-is_word-6.ensures,
     ) c.junk.ensures
 
+pub returns-then-is_word-7 : goal.returns-then-is_word-7
+returns-then-is_word-7 c =
+    rw (
+      c.cut.ensures,
+      ← c.if-is_word.ensures,
+      ← c.if-is_word-2.ensures,
+      ← c.if-is_word-3.ensures,
+      ← c.if-is_word-4.ensures,
+      ← c.if-is_word-5.ensures,
+      ← c.if-is_word-6.ensures,
+      ← c.if-is_word-7.ensures,
+    ) c.read.ensures
+
 pub returns : goal.returns
 returns c =
     rw (
@@ -68,4 +81,5 @@ returns c =
       ← c.if-is_word-4.ensures,
       ← c.if-is_word-5.ensures,
       ← c.if-is_word-6.ensures,
+      ← c.if-is_word-7.ensures,
     ) refl

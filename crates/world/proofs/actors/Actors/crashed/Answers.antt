@@ -20,3 +20,8 @@ pub returns-in-Controller : goal.returns-in-Controller
 returns-in-Controller g c =
     rw c.in-Controller.is (crashed_at (λ k. k.state) c.deref-in-Controller.result.now c.args.self.now.controllers.items c.in-Controller.i
     c.is_crashed-in-Controller.result c.deref-in-Controller.ensures.value c.is_crashed-in-Controller.ensures)
+
+pub returns-in-Observer : goal.returns-in-Observer
+returns-in-Observer g c =
+    rw c.in-Observer.is (crashed_at (λ o. o.state) c.deref-in-Observer.result.now c.args.self.now.observers.items c.in-Observer.i
+    c.is_crashed-in-Observer.result c.deref-in-Observer.ensures.value c.is_crashed-in-Observer.ensures)

@@ -6,7 +6,7 @@ use Rattle.world.proofs.world_state.World.replica.Goals as goal
 pub returns-clause-some : goal.returns-clause-some
 returns-clause-some g c =
     let count : length c.deref.result.now ≡ c.args.self.now.state.config.replicas =
-    ap length c.deref.ensures.value ∙ c.self.invariant ∙ ap (λ w. w.state.config.replicas) c.self.view_is in
+    ap length c.deref.ensures.value ∙ c.self.invariant.0 ∙ ap (λ w. w.state.config.replicas) c.self.view_is in
     subst (λ (n : ℕ). (IsSome c.core_at.result → c.args.i < n) × (c.args.i < n → IsSome c.core_at.result)) count c.core_at.ensures.some
 
 pub returns-clause-state : goal.returns-clause-state

@@ -6,7 +6,7 @@ pub put_replicas-requires : goal.put_replicas-requires
 put_replicas-requires g c = omega (
   arith,
   is_configuration-few_replicas c.self.inside.actors.config c.replicas-count.ensures.limits,
-  c.self.invariant,
+  c.self.invariant.0,
   ap length
       c.deref.ensures.value,
 )

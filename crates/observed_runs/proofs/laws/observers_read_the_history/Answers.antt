@@ -1,8 +1,0 @@
-use Rattle.nop_types.specs.Checkpoints.{KeepsTo}
-use Rattle.observed_runs.proofs.Watched.{observers_read_the_history}
-use Rattle.observed_runs.proofs.laws.observers_read_the_history.Goals as goal
-
-pub returns : goal.returns
-returns g c =
-    let keeps : KeepsTo g.H.Host.meaning g.H.Host.is_sound = search (g.met.H.Host) in
-    observers_read_the_history g.H.Host.meaning g.H.Host.is_sound keeps
