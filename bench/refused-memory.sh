@@ -6,7 +6,7 @@
 #
 #   bench/refused-memory.sh        NOPAXOS  the program file (crates/nopaxos/out/nopaxos);  BASE  a port (44000)
 #
-# What it runs: three schedules of examples/, each command of a node, and words that are not taken. A client's answers come from
+# What it runs: four schedules of examples/, each command of a node, and words that are not taken. A client's answers come from
 # peer.py over the loopback address, or never. The allocator that refuses is loaded before the C library (LD_PRELOAD), so the program
 # has to be linked dynamically, as it is; with it comes a clock that stands still. Needs a C compiler. It takes about a minute.
 set -u
@@ -81,7 +81,7 @@ if [ ! -e "$folder/refused" ] || [ "$status" != 6 ] || ! is_front examples/one-p
 fi
 
 printf '%-34s %6s %10s %15s %6s\n' run number 'no memory' 'whole output' wrong
-for name in one-put retry-in-two-sessions sync-commit-first; do
+for name in one-put retry-in-two-sessions sync-commit-first observer-answers-reads; do
     sweep "$name" 0 examples/$name.transcript examples/$name.schedule replay
 done
 # The line as checks/processes.sh has it.
@@ -102,13 +102,20 @@ site="--replicas 3 --sequencers 1 --base $base"
 served='served TURNS lost 0'
 printf '%s\n' "submit c0 1 $put" 'accept c0 1 6e6f6e65' "$served" > "$folder/answered"
 printf '%s\n' "submit c0 1 $put" "$served" > "$folder/unanswered"
+printf '%s\n' 'read c0 1 o0 6b' 'answer c0 1 o0 0 6e6f6e65' "$served" > "$folder/told"
+printf '%s\n' 'read c0 1 o0 6b' "$served" > "$folder/untold"
 echo "$served" > "$folder/served"
 # shellcheck disable=SC2086
 {
     sweep 'client, answered' 0 "$folder/answered" /dev/null client --id 0 $site --turns 2000 $put
     sweep 'client, without an answer' 7 "$folder/unanswered" /dev/null client --id 0 --replicas 3 --sequencers 1 \
         --base $((base + 100)) --turns 2 $put
+    sweep 'read, answered' 0 "$folder/told" /dev/null read --id 0 --observer 0 $site --turns 2000 6b
+    sweep 'read, without an answer' 7 "$folder/untold" /dev/null read --id 0 --observer 0 --replicas 3 --sequencers 1 \
+        --base $((base + 100)) --turns 2 6b
     sweep 'node' 0 "$folder/served" /dev/null node --id 0 $site --turns 2
+    sweep 'node, with observers' 0 "$folder/served" /dev/null node --id 0 $site --observers 2 --turns 2
+    sweep 'observer' 0 "$folder/served" /dev/null observer --id 1 $site --turns 2
     sweep 'sequencer' 0 "$folder/served" /dev/null sequencer --id 0 --replicas 3 --sequencers 1 --base $((base + 100)) --turns 2
     sweep 'controller, with an install' 0 "$folder/served" /dev/null controller --id 0 $site --turns 2 --install 0
 }
