@@ -8,11 +8,11 @@
 #                                 KEEP  a folder to which the records of runs with a fault are copied
 #
 # A cluster has two sequencers, two controllers, four clients that put and four that read (bench/observed/clients.rs, rustc), for some
-# eight seconds. In each a part of the datagrams is lost, up to five in a hundred; and at drawn times a replica, sequencer
-# or observer stands still for up to 1.5 s, or is killed: sequencer 0, and no more replicas than may fail. Controllers then
-# install sequencer 1. At the end nothing is lost for three seconds. Filters at the sockets lose datagrams (bench/observed/loss.py:
-# Linux, and the right to trace the processes). It prints a line for each run and one for all. The status is 1
-# where an answer is wrong, a run had no put accepted or no read answered, or a put was not accepted in the end.
+# eight seconds. In each a part of the datagrams is lost, up to five in a hundred; and at drawn times a replica, sequencer or observer
+# stands still for up to 1.5 s, or is killed: sequencer 0, and no more replicas than may fail. Controllers then install sequencer 1. At
+# the end nothing is lost for three seconds. Filters at the sockets lose datagrams (bench/observed/loss.py: Linux, and the right to
+# trace the processes). It prints a line for each run and one for all. The status is 1 where an answer is wrong, a run had no put
+# accepted or no read answered, or a put was not accepted in the end.
 set -u
 cd "$(dirname "$0")/.." || exit 2
 program=$(realpath "${NOPAXOS:-crates/nopaxos/out/nopaxos}") || exit 2
@@ -92,6 +92,7 @@ for ((run = first; run < first + runs; run++)); do
     sleep 3
     touch "$folder/until"
     wait "${pids[clients]}"
+    unset 'pids[clients]'
     stop
     told=$(python3 bench/observed/judge.py $keys < "$folder/record")
     status=$?

@@ -27,10 +27,10 @@ kills() {
     done
 }
 
-# stop: all nodes end.
+# stop: all nodes end, also those that stand still.
 stop() {
     local pid
-    for pid in "${pids[@]}"; do kill "$pid" 2> /dev/null; done
+    for pid in "${pids[@]}"; do kill "$pid" 2> /dev/null && kill -CONT "$pid" 2> /dev/null; done
     for pid in "${pids[@]}"; do wait "$pid" 2> /dev/null; done
     pids=()
 }
