@@ -1,5 +1,5 @@
 #!/bin/sh
-# Measures `cut` and `Reassembly::take` on the longest peer message, 4,152,306 bytes in 2,966 fragments: megabytes a second, and
+# Measures `cut` and `Reassembly::take` on the longest peer message, 4,633,074 bytes in 3,310 fragments: megabytes a second, and
 # instructions a byte, counted with valgrind's callgrind. Beside them stands a plain copy of the message into fresh memory.
 #
 #   bench/fragments.sh [ROUNDS]
@@ -40,7 +40,7 @@ use std::alloc::Global;
 use std::process::ExitCode;
 use std::time::Instant;
 
-const BYTES: usize = 4_152_306;
+const BYTES: usize = 4_633_074;
 
 fn message(alloc: Global) -> Option<Vec<u8>> {
     let mut bytes = Vec::with_capacity(alloc, BYTES).ok()?;
@@ -72,7 +72,7 @@ fn place(order: &str, k: usize, count: usize) -> usize {
         return count.saturating_sub(k).saturating_sub(1);
     }
     if order == "shuffled" && count > 0 {
-        // 1,229 and 2,966 have no factor in common
+        // 1,229 and 3,310 have no factor in common
         return k.wrapping_mul(1229) % count;
     }
     k
@@ -112,7 +112,7 @@ fn copy_rounds(alloc: Global, bytes: &[u8], rounds: u32) -> Option<()> {
 
 fn cut_rounds(alloc: Global, bytes: &[u8], rounds: u32) -> Option<()> {
     for _ in 0..rounds {
-        if sent(alloc, bytes)?.as_slice().len() != 2966 {
+        if sent(alloc, bytes)?.as_slice().len() != 3310 {
             return None;
         }
     }

@@ -7,9 +7,10 @@
 # The program is proved and built in a folder of its own, over copies of the crates.
 . "$(dirname "$0")/parts.bash"
 
-copies nop_types kv_host
+copies nop_types lemmas kv_host
 measures kv_host kv_bench 'program save load' << 'CRATES'
 nop_types:
-kv_host: nop_types indexmap
+lemmas: nop_types
+kv_host: nop_types lemmas indexmap
 kv_bench: nop_types kv_host anyhow
 CRATES

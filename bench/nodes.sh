@@ -4,8 +4,10 @@
 #   bench/nodes.sh [REPLICAS]     NOPAXOS  the program file;  LANES  clients at once (16);  BASE  the port of replica 0 (46000)
 #
 # 62 clients, each with 63 puts at a key of its own and then a get of it: 3,906 puts in one cluster. Each
-# client has to be answered, and to read its own last value. The rate counts all ops and includes the starts of the client
-# processes; then one client of 64 ops less one of 1 op, in a fresh cluster, gives the time of an op without a start.
+# client has to be answered, and to read a value of its last eight puts: those after the first of them are open at one time with its
+# get, so any of these may be the last one before it. The rate counts all ops and includes the starts of the client
+# processes; then one client of 64 ops less one of 1 op, in a fresh cluster, gives the time of an op without a start, of up to eight
+# that are open at a time.
 # EVENT names what happens in the middle: kill (the leader), install (the controller is killed, and another one
 # installs sequencer 1) or stop (a follower stands still for two seconds).
 set -u
@@ -80,10 +82,11 @@ answered=0
 own=0
 for ((c = 0; c < 62; c++)); do
     if [ "$(cat "$folder/status$c")" = 0 ]; then answered=$((answered + 1)); fi
-    if grep -q "^accept c$c 64 3d003f$" "$folder/c$c"; then own=$((own + 1)); fi
+    # of its puts from 56 to 63
+    if grep -q "^accept c$c 64 3d003[89a-f]$" "$folder/c$c"; then own=$((own + 1)); fi
 done
 accepted=$(cat "$folder"/c[0-9]* | grep -c '^accept')
-echo "replicas $replicas event $event clients 62 answered $answered own_last_value $own accepted $accepted" \
+echo "replicas $replicas event $event clients 62 answered $answered own_late_value $own accepted $accepted" \
     "ops_per_second $((accepted * 1000000 / (ended - began)))"
 
 if [ "$event" = none ]; then

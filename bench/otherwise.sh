@@ -1,7 +1,7 @@
 #!/bin/bash
-# Tries rules that are other than the papers have them, in code and in the definition alike: a core with such a rule is proved, as it
-# does what its table says, and a theorem above has to refuse it. Each is a patch of bench/otherwise; this table says which crates
-# have to be proved with it, and which one to be refused.
+# Tries rules that are other than those of the protocol, in code and in the definition alike: a core with such a rule is proved, as it
+# does what its table says, and a theorem above has to refuse it. So it is with a definition that code does not meet, but theorems speak
+# of. Each is a patch of bench/otherwise; this table says which crates have to be proved with it, and which one to be refused.
 #
 #   bench/otherwise.sh            it works in a clone of what is committed, in a temporary folder
 #
@@ -33,4 +33,8 @@ rule() {
 # an observer executes a log as soon as a leader tells it, before anything of that is committed: then what it executed need not be
 # anchored (RowsAreWatched)
 rule what_is_told_is_executed observer_laws observer
+
+# an id that is a window behind the greatest one is not stale yet: then a request that is not stale need not have a result, since none is
+# kept with that id (has_result_where_served)
+rule an_id_a_window_behind_is_not_stale execution_laws nop_types lemmas
 exit "$wrong"

@@ -7,10 +7,11 @@
 # The program is proved and built in a folder of its own, over copies of the crates.
 . "$(dirname "$0")/parts.bash"
 
-copies nop_types oum_codec peer_codec
+copies nop_types lemmas oum_codec peer_codec
 measures peer_codec peer_bench 'program entries bytes encode-MB/s decode-MB/s' << 'CRATES'
 nop_types:
+lemmas: nop_types
 oum_codec: nop_types
-peer_codec: nop_types oum_codec
+peer_codec: nop_types lemmas oum_codec
 peer_bench: nop_types peer_codec anyhow
 CRATES

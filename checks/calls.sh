@@ -1,6 +1,7 @@
 #!/bin/bash
 # Runs `kv_call`, which calls the key-value store in words, on a cluster of real processes, also after its leader was killed, and looks at
-# each way in which it ends. It takes a few seconds, leaves nothing behind, and ends with status 1 at any difference.
+# each way in which it ends. A client that was told the slot of its write reads it of an observer at once, and waits while the observer does
+# not have it. It takes a few seconds, leaves nothing behind, and ends with status 1 at any difference.
 #
 #   checks/calls.sh              the nodes are those of crates/nopaxos/out/nopaxos, or of the file that NOPAXOS names
 . "$(dirname "$0")/common.bash" || exit 2
@@ -40,14 +41,83 @@ called() {
     ends 0 "$wanted" "$base" 3 1 "$client" 20000 "$@"
 }
 
+# slotted CLIENT WANTED OP..: a new client is answered so, behind a line of the op's slot, which is then $slot.
+slotted() {
+    local client=$1 wanted=$2
+    shift 2
+    made=$((made + 1))
+    timeout 60 "$program" --slot "$base" 3 1 "$client" 20000 "$@" > "$folder/out" 2> "$folder/err"
+    if ! grep -qx 'slot [1-9][0-9]*' <(head -n 1 "$folder/out") || [ "$(tail -n +2 "$folder/out")" != "$wanted" ]; then
+        differs "'--slot $*': '$(head -c 300 "$folder/out")', and on standard error '$(head -c 300 "$folder/err")'"
+    fi
+    slot=$(sed -n '1s/^slot //p' "$folder/out")
+}
+
+# asks NAME CLIENT POSITION: a new client asks the observer for the key m, until an answer has this position. Its lines go to the file.
+asks() {
+    # shellcheck disable=SC2086
+    timeout 60 "$nopaxos" read --id "$2" --observer 0 $site --position "$3" 6d > "$folder/$1" 2>&1
+}
+
+# answers NAME: the answers of this file, each a position and a result.
+answers() {
+    sed -n 's/^answer c[0-9]* [0-9]* o0 //p' "$folder/$1"
+}
+
+# sees NAME STATUS POSITION RESULT: the client ended with an answer that has this position or a greater one, and a result of this form.
+sees() {
+    local position result
+    made=$((made + 1))
+    read -r position result < <(answers "$1" | tail -n 1)
+    # shellcheck disable=SC2053
+    [ "$2" = 0 ] && [ "${position:-0}" -ge "${3:-0}" ] && [[ $result == $4 ]] ||
+        differs "the read at position $3: status $2, '$(head -c 600 "$folder/$1")'"
+}
+
+# waits NAME PROCESS POSITION RESULT: the client is answered, with this result, but not at this position, and goes on.
+waits() {
+    made=$((made + 1))
+    for _ in $(seq 100); do
+        answers "$1" | grep -q . && break
+        sleep 0.1
+    done
+    sleep 0.3
+    kill -0 "$2" 2> /dev/null && answers "$1" | awk -v at="$3" -v result="$4" '$1 >= at || $2 != result { wrong = 1 } END { exit wrong || !NR }' ||
+        differs "the read that waits for position $3: '$(head -c 600 "$folder/$1")'"
+}
+
 start s0 sequencer --id 0
-for i in 0 1 2; do start "r$i" node --id $i; done
+for i in 0 1 2; do start "r$i" node --id $i --observers 1; done
+start o0 observer --id 0
 start ctl controller --id 0
 sleep 0.5
 called 0 none put k v
 called 1 '=v' get k
 called 2 yes compare-and-set k v 0x00
 called 3 no compare-and-set k v w
+slotted 7 '=0x00' get k
+
+# Who knows the slot of a write reads it at once.
+slotted 20 none put m 0
+asks read 32 "$slot"
+sees read $? "$slot" 3d30
+# No more slots are synchronised for now.
+later=$((slot + 3))
+asks waiting 31 "$later" &
+pids[waiting]=$!
+waits waiting "${pids[waiting]}" "$later" 3d30
+before=0
+for value in 1 2 3 4 5 6 7 8 9; do
+    slotted $((20 + value)) "=$before" put m "$value"
+    asks read $((32 + value)) "$slot"
+    sees read $? "$slot" "3d3$value"
+    before=$value
+    [ "$slot" -lt "$later" ] || break
+done
+wait "${pids[waiting]}"
+sees waiting $? "$later" '3d3[1-9]'
+unset 'pids[waiting]'
+
 fails "$base" 3 1 4 20000 put k x
 kills r0
 called 5 '=x' get k
@@ -59,11 +129,11 @@ ends 5 '' "$((base - 8))" 3 1 0 20000 get k
 # Nobody is at these ports.
 ends 7 '' "$((base + 64))" 3 1 0 20 get k
 
-usage='usage: kv_call PORT REPLICAS SEQUENCERS CLIENT TURNS OP'
+usage='usage: kv_call [--slot] PORT REPLICAS SEQUENCERS CLIENT TURNS OP'
 for words in '' "$base 3 1 7 20" "$base 3 1 7 20 take k" "$base 3 1 7 20 get" "$base 3 1 7 20 get k v" "$base 3 1 7 20 get 0x" \
     "$base 2 1 7 20 get k" "$base 259 1 7 20 get k" "$base 3 0 7 20 get k" '1023 3 1 7 20 get k' '65001 3 1 7 20 get k' \
     '66559 3 1 7 20 get k' "$base 3 1 4294967296 20 get k" "$base 3 1 x 20 get k" "$base 3 1 7 0 get k" \
-    "$base 3 1 7 18446744073709551616 get k"; do
+    "$base 3 1 7 18446744073709551616 get k" '--slot' "--slot $base 3 1 7 20 get" "$base --slot 3 1 7 20 get k"; do
     # shellcheck disable=SC2086
     ends 2 "$usage" $words
 done

@@ -11,7 +11,7 @@ needs "${NOPAXOS:-}" nopaxos -- replay
 . checks/nodes.bash
 nodes_of "$program" --replicas 3 --sequencers 4 --base $((20000 + $$ % 600 * 64))
 
-# client NUMBER: it puts its number at a key of its own, and gets it.
+# client NUMBER: it puts its number at a key of its own, and gets it. Both requests are open at once, and are stamped in their order.
 client() {
     local number
     printf -v number %02x "$1"
@@ -30,11 +30,11 @@ answered() {
         made=$((made + 1))
         wait "${running[c]}" || differs "$when, client $((first + c)): status $?, '$(cat "$folder/c$((first + c))")'"
         printf -v number %02x $((first + c))
-        lines=$(sed '$d' "$folder/c$((first + c))")
-        [ "$lines" = "submit c$((first + c)) 1 500001${number}0001$number
-accept c$((first + c)) 1 6e6f6e65
-submit c$((first + c)) 2 470001$number
-accept c$((first + c)) 2 3d$number" ] || differs "$when, client $((first + c)) wrote '$lines'"
+        lines=$(sed '$d' "$folder/c$((first + c))" | sort)
+        [ "$lines" = "accept c$((first + c)) 1 6e6f6e65
+accept c$((first + c)) 2 3d$number
+submit c$((first + c)) 1 500001${number}0001$number
+submit c$((first + c)) 2 470001$number" ] || differs "$when, client $((first + c)) wrote '$lines'"
     done
 }
 

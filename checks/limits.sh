@@ -255,7 +255,7 @@ same
 
 # ---- The greatest map: 4,096 keys of 64 bytes get values of 256 bytes, at the leader and at a follower, and are synchronised. A put of one
 # key more is answered `full`. The other follower has only that packet; it asks for slot 1, and is told the map in a checkpoint. Then it
-# leads a view, and answers the same. The checkpoint has the map and one client.
+# leads a view, and answers the same. The checkpoint has the map, and one client with the results of its last eight puts.
 begins 'the greatest checkpoint' 3 1 1
 value=0100$(bytes 76 256)
 key=0040$(bytes 6b 62)
@@ -294,7 +294,7 @@ reaches 4097 r2
 reply=$((sent - 1))
 sends r2 r0 fragment 35
 event "deliver $((sent - 1)) r0"
-checkpoint=$((4 + (4 + 4096 * (2 + 64 + 2 + 256)) + 4 + 18))
+checkpoint=$((4 + (4 + 4096 * (2 + 64 + 2 + 256)) + 4 + (13 + 8 * 14)))
 first=$sent
 tells r0 r2 $((22 + checkpoint))
 delivers "$first" $((sent - 1)) r2

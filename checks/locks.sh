@@ -59,9 +59,9 @@ sed "s/^accept c1 2 .*/accept c1 2 6772616e7465640000000000000001/" crates/lock_
 ends 'a token that is granted again' 8 'refuted line 31 clause 5' check < "$folder/changed"
 # Nothing that is counted depends on the answers, so it is what the key-value store gives.
 ends 'the longest drawn schedule' 0 'gen 7 100000
-sends 37609 accepts 25
-view 197 360 length 304 noops 117
-history 29' gen 7 100000
+sends 42966 accepts 67
+view 201 326 length 300 noops 161
+history 76' gen 7 100000
 
 # ---- a cluster: its schedule replays to its transcript, which is legal
 made=$((made + 1))

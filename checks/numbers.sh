@@ -13,7 +13,7 @@ nop_types MAX_VALUE_BYTES 256
 nop_types MAX_RESULT_BYTES 257
 nop_types MAX_HOST_BYTES 1_400_000
 nop_types MAX_SERVED 256
-nop_types WINDOW 1
+nop_types WINDOW 8
 nop_types MAX_SLOTS 4096
 nop_types MAX_LENGTH 4_294_967_295
 nop_types EPOCH_STEP 4
@@ -98,6 +98,7 @@ END
 apart() {
     cat << 'END'
 session_control PART_END
+client_table MAX_KEPT
 peer_codec HEAD_BYTES
 peer_codec SENDER_AT
 peer_codec LEAST_CLIENT

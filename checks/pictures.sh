@@ -145,8 +145,9 @@ shows 1 'session 1.1 at s0'
 shows 1 'stamped 1.1:1 c0#1'
 shows 1 'view (0,1.1) starts'
 
-# c0 has an open request; r1 crashes, again, and then a datagram comes
-drawn 'who is busy, and who crashed before' "$two" 'submit c0 4700016b' 'submit c0 4700016b' 'crash r1' 'crash r1' 'deliver 0 r1'
+# c0 has eight open requests; r1 crashes, again, and then a datagram comes
+mapfile -t submits < <(yes 'submit c0 4700016b' | head -n 9)
+drawn 'who is busy, and who crashed before' "$two" "${submits[@]}" 'crash r1' 'crash r1' 'deliver 0 r1'
 shows 1 busy
 shows 1 crash
 shows 2 crashed

@@ -89,9 +89,9 @@ same 'a schedule drawn twice' $? 0 "$(cat "$folder/whole")"
 # As two other programs for the same protocol have it.
 "$program" gen 7 100000 > "$folder/out" 2> "$folder/err"
 same 'the longest schedule' $? 0 'gen 7 100000
-sends 37609 accepts 25
-view 197 360 length 304 noops 117
-history 29'
+sends 42966 accepts 67
+view 201 326 length 300 noops 161
+history 76'
 "$program" gen 7 1 > /dev/full 2> "$folder/err"
 same 'a summary on a full disk' $? 4 ''
 

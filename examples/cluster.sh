@@ -71,8 +71,8 @@ runs() {
     exit 1
 }
 
-# client NUMBER OPS..: what it does, each op in words, its lines, its answers in words, and its exit status. Only a `wait` is left at
-# once for a trap.
+# client NUMBER OPS..: what it does, each op in words, its lines, its answers in words, and its exit status. Its ops are under way at
+# once, and are executed in their order as long as no request is lost. Only a `wait` is left at once for a trap.
 client() {
     local number=$1 op ops=() status word result
     shift

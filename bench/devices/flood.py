@@ -8,10 +8,11 @@ many turns. There are three rounds, each with a cluster of its own:
   quiet    clients alone
   strays   COUNT datagrams to all ports, drawn from NUMBER, RATE a second, while 62 clients put and get: random bytes, cut
            datagrams and datagrams with flipped bits, of all kinds, each of which spells nothing, or a datagram that its
-           receiver has no use for. Each client has to be answered, and to read its own last value.
+           receiver has no use for. Each client has to be answered, and to read a value of its last eight puts: those after
+           the first of them are open at one time with its get, so any of these may be the last one before it.
   forged   once the clients were served, COUNT / 4 datagrams that may spell anything, and those that take the most memory:
-           unfinished messages of the most fragments, and the longest logs, some with the greatest checkpoints, of a state or of none. Who can forge datagrams can stop the protocol, so
-           no client is there to be answered.
+           unfinished messages of the most fragments, and the longest logs, some with the greatest checkpoints, of a state or
+           of none. Who can forge datagrams can stop the protocol, so no client is there to be answered.
 
 At the end of the first two rounds each node gets datagrams of no bytes until its turns are taken, and has to end with its
 status and its lines. In the last one replicas with the longest logs keep each other busy without an end, so there each
@@ -52,6 +53,8 @@ HEAD = b"NO\3"
 # The kinds of datagrams that an actor has a use for.
 TAKES = {"replica": {2, 8}, "sequencer": {1, 4, 6}, "controller": {5, 7}, "client": {3}}
 OPS = 16
+# How many requests a client has open, and for how many ids replicas keep results.
+WINDOW = 8
 # The op of that client, the status that it ends with, and what it writes first.
 ENDS = {"client": (["4700016b"], 7, "submit c4294967295 1 4700016b\n")}
 LOG = 4096 * 720
@@ -77,8 +80,9 @@ def view(rng):
 
 
 def checkpoint(host, clients):
-    """A checkpoint of the host's state, and of so many clients with results of the greatest length."""
-    saved = [number(4, c) + number(8, 1) + number(2, 257) + b"=" * 257 for c in range(clients)]
+    """A checkpoint of the host's state, and of so many clients with as many results as are kept, each of the greatest length."""
+    kept = b"".join(number(8, i) + number(2, 257) + b"=" * 257 for i in range(1, WINDOW + 1))
+    saved = [number(4, c) + number(8, WINDOW) + number(1, WINDOW) + kept for c in range(clients)]
     return number(4, len(host)) + host + number(4, clients) + b"".join(saved)
 
 
@@ -256,10 +260,10 @@ class Clients:
                 run = subprocess.run(words, stdin=subprocess.DEVNULL, capture_output=True, timeout=60)
             except subprocess.TimeoutExpired:
                 continue
-            own = b"accept c%d %d %s\n" % (client, OPS, (b"=" + number(2, OPS - 1)).hex().encode())
+            late = [(b"=" + number(2, i)).hex().encode() for i in range(OPS - WINDOW, OPS)]
             with self.gate:
                 self.answered += run.returncode == 0 and not run.stderr
-                self.read_own += own in run.stdout
+                self.read_own += any(b"accept c%d %d %s\n" % (client, OPS, value) in run.stdout for value in late)
 
     def join(self):
         self.part = 1.0
@@ -351,7 +355,7 @@ def round_of(name, sink, folder):
         cluster.stop()
     for sort, (sent, some) in sorts.items():
         print(f"{name}: {sort}: sent {sent}, of these spell a datagram {some}")
-    print(f"{name}: clients {CLIENTS} answered {clients.answered} own_last_value {clients.read_own}")
+    print(f"{name}: clients {CLIENTS} answered {clients.answered} own_late_value {clients.read_own}")
     if clients.answered < CLIENTS or clients.read_own < CLIENTS:
         wrong.append(f"{name}: a client was not answered")
     print(f"{'round':7} {'node':12} {'KiB before':>10} {'after':>7} {'bound':>7} {'dropped':>8} {'status':>6}  last line")

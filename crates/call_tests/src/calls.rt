@@ -2,7 +2,7 @@ ghost use Rattle.std.specs.Prelude.{true, ◌≤◌, length};
 ghost use Rattle.outside.specs.Memory.{MayAnswer};
 
 use client_call::{CallError, Service, submit_and_wait};
-use nop_types::{Bytes, Config, MAX_DATAGRAM_BYTES, Op};
+use nop_types::{Accept, Bytes, Config, MAX_DATAGRAM_BYTES, Op};
 use outside::{ClockMem, Failing, LinkMem, PollAnswer, PortsMem};
 use std::alloc::Global;
 use std::process::Abort;
@@ -53,7 +53,7 @@ fn call(
     alloc: Global,
     polls: [&str; 2],
     failing: &[u64],
-) -> (Result<Bytes, CallError>, usize) {
+) -> (Result<Accept, CallError>, usize) {
     let service = Service {
         base: BasePort::new(41000).expect(rt, "a port"),
         config: Config::new(3, 1, 1, 1, 0).expect(rt, "a group"),
@@ -68,8 +68,8 @@ fn call(
 #[test]
 fn a_call_is_answered(rt: HostRuntime) {
     let (given, back) = call(&rt, rt.alloc(), [LEADER, FOLLOWER], &[]);
-    let result = given.ok().expect(&rt, "a result");
-    assert!(rt; result.as_slice() == b"none".as_slice() && back == 1);
+    let accept = given.ok().expect(&rt, "a result");
+    assert!(rt; accept.slot == 1 && accept.result.as_slice() == b"none".as_slice() && back == 1);
 }
 
 /// The call fails with this error, and so many links came back.

@@ -1,9 +1,9 @@
 -- A client with one op: what it accepted, and the lines of what it gave.
-use Rattle.std.proofs.Common.{◌≡◌, ℕ, zero, suc, ◌+◌, true, false, Option, Some, None, refl, sym, ap, ◌∙◌, List, [], ◌∷◌, ◌++◌, length}
-use Rattle.std.proofs.Common.{append-nil, inl, inr, subst}
+use Rattle.std.proofs.Common.{◌≡◌, ℕ, zero, suc, ◌≤◌, ◌<◌, Bool, true, false, Some, None, refl, sym, ap, ◌∙◌, List, [], ◌∷◌, ◌++◌}
+use Rattle.std.proofs.Common.{append-nil, arith, inl, inr, length, length-append, subst}
 use Rattle.std.specs.Prelude.{map}
-use Rattle.std.proofs.lemmas.Option.{none-some, same_Some}
-use Rattle.lemmas.proofs.Members.{Has-none, Has-rest, Has-append_left, Has-append_right, Has-append_cases}
+use Rattle.std.proofs.lemmas.Bool.{and_left, and_right, cases_eq, eq-eqb}
+use Rattle.lemmas.proofs.Members.{Has-none, Has-one, Has-rest}
 use Rattle.nop_types.specs.Configuration.{Configuration}
 use Rattle.nop_types.specs.Given.{Given, Packet, Ticked}
 use Rattle.nop_types.specs.Lists.{Has}
@@ -12,15 +12,17 @@ use Rattle.nop_types.specs.declared.output.Dest.{Dest}
 use Rattle.nop_types.specs.declared.output.Out.{Out}
 use Rattle.nop_types.specs.declared.output.Out.TheVariants.{Send, Submitted, Accepted, Busy}
 use Rattle.nop_types.specs.declared.request.Request.{Request}
-use Rattle.nop_types.specs.declared.datagram.Reply.{Reply}
 use Rattle.transcript_text.specs.Transcript.{submit_line, accept_line}
-use Rattle.client_quorum.specs.ClientSteps.{next, is_done}
-use Rattle.client_quorum.specs.OpenRequests.{is_empty, open_requests}
-use Rattle.client_quorum.specs.Runs.{after, gave, reply_of, replies_of, ops_of, HasNoSubmit, TakesTurns, IsAgreed, Stands, NoneYet, Waits, WasAccepted}
+use Rattle.client_quorum.specs.ClientSteps.{is_done}
+use Rattle.client_quorum.specs.OpenRequests.{open_requests}
+use Rattle.client_quorum.specs.Opens.{accepted_in, is_empty}
+use Rattle.client_quorum.specs.Runs.{accept_count, after, gave, replies_of, ops_of, without, Holds, HasNoSubmit, IsAgreed, IsRecent, TakesTurns}
 use Rattle.client_quorum.specs.declared.state.ClientState.{ClientState}
-use Rattle.client_quorum.proofs.Received.{accepts_replied}
+use Rattle.client_quorum.proofs.Counts.{some_open}
+use Rattle.client_quorum.proofs.OpenRequests.{open_has}
+use Rattle.client_quorum.proofs.Recents.{known, recent_kept}
 use Rattle.client_quorum.proofs.Turns.{takes_turns}
-use Rattle.client_quorum.proofs.Waits.{waiting_in_order, last_counts, last_stands}
+use Rattle.client_quorum.proofs.Waits.{waiting_in_order, last_counts}
 use Rattle.udp_node.specs.Effects.{Call, effects, lines}
 use Rattle.udp_node.specs.Folding.{AllOutside}
 use Rattle.udp_node.specs.Ports.{datagrams_to}
@@ -31,34 +33,16 @@ use Rattle.client_call.specs.Calls.{caller, request, IsAccepted}
 -- ---- what a client gives, from its turns and its ops
 
 -- with no open request and no op to come, nothing is accepted
-none_accepted : (number last : ℕ) (outs : List Out) → TakesTurns number None last outs → ops_of outs ≡ [] → (client id : ℕ) (result : List ℕ)
+none_accepted : (number last : ℕ) (outs : List Out) → TakesTurns number [] last outs → ops_of outs ≡ [] → (client id : ℕ) (result : List ℕ)
     → Has outs (Accepted client id result) → ⊥
 none_accepted number last [] t none client id result h = Has-none (Accepted client id result) h
 none_accepted number last (Submitted r ∷ outs) t none client id result h = absurd cc
-none_accepted number last (Send dest bytes ∷ outs) t none client id result h = absurd t.0
-none_accepted number last (Accepted c k a ∷ outs) t none client id result h = let held = t.0 in absurd cc
+none_accepted number last (Send dest bytes ∷ outs) t none client id result h = Has-none t.0.0 t.0.1
+none_accepted number last (Accepted c k a ∷ outs) t none client id result h = Has-none t.0.0 t.0.1
 none_accepted number last (Busy c ∷ outs) t none client id result (zero, e) = absurd cc
 none_accepted number last (Busy c ∷ outs) t none client id result (suc i, e) =
     none_accepted number last outs t.1 none client id result (i, e)
 none_accepted number last (_ ∷ outs) t none client id result h = absurd t
-
--- what is accepted is the client's own
-accepted_own : (number : ℕ) (held : Option Request) (last : ℕ) (outs : List Out) → TakesTurns number held last outs → (client id : ℕ)
-    (result : List ℕ)
-    → Has outs (Accepted client id result) → client ≡ number
-accepted_own number held last [] t client id result h = absurd (Has-none (Accepted client id result) h)
-accepted_own number held last (Submitted r ∷ outs) t client id result (zero, e) = absurd cc
-accepted_own number held last (Submitted r ∷ outs) t client id result (suc i, e) =
-    accepted_own number (Some r) (last + 1) outs t.3 client id result (i, e)
-accepted_own number held last (Send dest bytes ∷ outs) t client id result (zero, e) = absurd cc
-accepted_own number held last (Send dest bytes ∷ outs) t client id result (suc i, e) =
-    accepted_own number held last outs t.1 client id result (i, e)
-accepted_own number held last (Accepted c k a ∷ outs) t client id result (zero, e) = let same : c ≡ client = cc in sym same ∙ t.1
-accepted_own number held last (Accepted c k a ∷ outs) t client id result (suc i, e) =
-    accepted_own number None last outs t.3 client id result (i, e)
-accepted_own number held last (Busy c ∷ outs) t client id result (zero, e) = absurd cc
-accepted_own number held last (Busy c ∷ outs) t client id result (suc i, e) = accepted_own number held last outs t.1 client id result (i, e)
-accepted_own number held last (_ ∷ outs) t client id result h = absurd t
 
 -- a request with these fields
 request_is : (number : ℕ) (op : List ℕ) (client id : ℕ) (given : List ℕ) → client ≡ number → id ≡ 1 → given ≡ op
@@ -66,16 +50,23 @@ request_is : (number : ℕ) (op : List ℕ) (client id : ℕ) (given : List ℕ)
 request_is number op client id given of_client of_id of_op = rw (of_client, of_id, of_op) refl
 
 -- the first op is submitted as request 1
-first_submitted : (number : ℕ) (op : List ℕ) (outs : List Out) → TakesTurns number None 0 outs → ops_of outs ≡ op ∷ []
+first_submitted : (number : ℕ) (op : List ℕ) (outs : List Out) → TakesTurns number [] 0 outs → ops_of outs ≡ op ∷ []
     → Has outs (Submitted (request number op))
 first_submitted number op [] t one = absurd cc
 first_submitted number op (Submitted r ∷ outs) t one =
     let same : r.op ≡ op = cc in
     (zero, ap (λ (q : Request). Some (Submitted q)) (request_is number op r.client r.id r.op t.1 t.2 same))
-first_submitted number op (Send dest bytes ∷ outs) t one = absurd t.0
-first_submitted number op (Accepted c k a ∷ outs) t one = let held = t.0 in absurd cc
+first_submitted number op (Send dest bytes ∷ outs) t one = absurd (Has-none t.0.0 t.0.1)
+first_submitted number op (Accepted c k a ∷ outs) t one = absurd (Has-none t.0.0 t.0.1)
 first_submitted number op (Busy c ∷ outs) t one = Has-rest (Submitted (request number op)) (Busy c) outs (first_submitted number op outs t.1 one)
 first_submitted number op (_ ∷ outs) t one = absurd t
+
+-- the only open request is the one that is accepted
+alone_is : (r : Request) (id : ℕ) → Holds (r ∷ []) id → id ≡ r.id
+alone_is r id h = sym h.2 ∙ ap (λ (q : Request). q.id) (Has-one h.0 r h.1)
+
+alone_left : (r : Request) (id : ℕ) → id ≡ r.id → without (r ∷ []) id ≡ []
+alone_left r id is = rw (eq-eqb r.id id (sym is)) refl
 
 module _ (at : Address) where
   abbrev text : List Out → List ℕ
@@ -86,17 +77,17 @@ module _ (at : Address) where
       let sent = datagrams_to at dest bytes in
       lines_append (map Call sent) (effects at outs) ∙ ap (λ (l : List ℕ). l ++ text outs) (lines_map sent)
 
-  nothing_written : (number last : ℕ) (outs : List Out) → TakesTurns number None last outs → ops_of outs ≡ [] → text outs ≡ []
+  nothing_written : (number last : ℕ) (outs : List Out) → TakesTurns number [] last outs → ops_of outs ≡ [] → text outs ≡ []
   nothing_written number last [] t none = refl
   nothing_written number last (Submitted r ∷ outs) t none = absurd cc
-  nothing_written number last (Send dest bytes ∷ outs) t none = absurd t.0
-  nothing_written number last (Accepted c k a ∷ outs) t none = let held = t.0 in absurd cc
+  nothing_written number last (Send dest bytes ∷ outs) t none = absurd (Has-none t.0.0 t.0.1)
+  nothing_written number last (Accepted c k a ∷ outs) t none = absurd (Has-none t.0.0 t.0.1)
   nothing_written number last (Busy c ∷ outs) t none = nothing_written number last outs t.1 none
   nothing_written number last (_ ∷ outs) t none = absurd t
 
   -- with an open request and no op to come, the line of the acceptance is all that is written
-  accept_written : (number last : ℕ) (r : Request) (outs : List Out) → TakesTurns number (Some r) last outs → ops_of outs ≡ []
-      → (client id : ℕ) (result : List ℕ) → Has outs (Accepted client id result) → text outs ≡ accept_line number last result
+  accept_written : (number last : ℕ) (r : Request) (outs : List Out) → TakesTurns number (r ∷ []) last outs → ops_of outs ≡ []
+      → (client id : ℕ) (result : List ℕ) → Has outs (Accepted client id result) → text outs ≡ accept_line number r.id result
   accept_written number last r [] t none client id result h = absurd (Has-none (Accepted client id result) h)
   accept_written number last r (Submitted q ∷ outs) t none client id result h = absurd cc
   accept_written number last r (Send dest bytes ∷ outs) t none client id result (zero, e) = absurd cc
@@ -104,18 +95,22 @@ module _ (at : Address) where
       no_text dest bytes outs ∙ accept_written number last r outs t.1 none client id result (i, e)
   accept_written number last r (Accepted c k a ∷ outs) t none client id result (zero, e) =
       let same : a ≡ result = cc in
-      ap (λ (l : List ℕ). accept_line c k a ++ l) (nothing_written number last outs t.3 none)
+      let is : k ≡ r.id = alone_is r k t.0 in
+      let rest : TakesTurns number [] last outs = subst (λ (held : List Request). TakesTurns number held last outs) (alone_left r k is) t.2 in
+      ap (λ (l : List ℕ). accept_line c k a ++ l) (nothing_written number last outs rest none)
       ∙ append-nil (accept_line c k a)
-      ∙ rw (t.1, t.2, same) refl
+      ∙ rw (t.1, is, same) refl
   accept_written number last r (Accepted c k a ∷ outs) t none client id result (suc i, e) =
-      absurd (none_accepted number last outs t.3 none client id result (i, e))
+      let is : k ≡ r.id = alone_is r k t.0 in
+      let rest : TakesTurns number [] last outs = subst (λ (held : List Request). TakesTurns number held last outs) (alone_left r k is) t.2 in
+      absurd (none_accepted number last outs rest none client id result (i, e))
   accept_written number last r (Busy c ∷ outs) t none client id result (zero, e) = absurd cc
   accept_written number last r (Busy c ∷ outs) t none client id result (suc i, e) =
       accept_written number last r outs t.1 none client id result (i, e)
   accept_written number last r (_ ∷ outs) t none client id result h = absurd t
 
   -- with one op to come, the line of its request comes first
-  both_written : (number : ℕ) (op : List ℕ) (outs : List Out) → TakesTurns number None 0 outs → ops_of outs ≡ op ∷ []
+  both_written : (number : ℕ) (op : List ℕ) (outs : List Out) → TakesTurns number [] 0 outs → ops_of outs ≡ op ∷ []
       → (client id : ℕ) (result : List ℕ) → Has outs (Accepted client id result)
       → text outs ≡ submit_line (request number op) ++ accept_line number 1 result
   both_written number op [] t one client id result h = absurd (Has-none (Accepted client id result) h)
@@ -123,62 +118,27 @@ module _ (at : Address) where
   both_written number op (Submitted r ∷ outs) t one client id result (suc i, e) =
       let of_op : r.op ≡ op = cc in
       let none : ops_of outs ≡ [] = cc in
-      let same = request_is number op r.client r.id r.op t.1 t.2 of_op in
+      let of_id : r.id ≡ 1 = t.2 in
+      let same = request_is number op r.client r.id r.op t.1 of_id of_op in
       ap (λ (q : Request). submit_line q ++ text outs) same
       ∙ ap (λ (l : List ℕ). submit_line (request number op) ++ l) (accept_written number 1 r outs t.3 none client id result (i, e))
-  both_written number op (Send dest bytes ∷ outs) t one client id result h = absurd t.0
-  both_written number op (Accepted c k a ∷ outs) t one client id result h = let held = t.0 in absurd cc
+      ∙ ap (λ (n : ℕ). submit_line (request number op) ++ accept_line number n result) of_id
+  both_written number op (Send dest bytes ∷ outs) t one client id result h = absurd (Has-none t.0.0 t.0.1)
+  both_written number op (Accepted c k a ∷ outs) t one client id result h = absurd (Has-none t.0.0 t.0.1)
   both_written number op (Busy c ∷ outs) t one client id result (zero, e) = absurd cc
   both_written number op (Busy c ∷ outs) t one client id result (suc i, e) = both_written number op outs t.1 one client id result (i, e)
   both_written number op (_ ∷ outs) t one client id result h = absurd t
 
--- ---- the replies with which it was accepted
+-- what is accepted counts
+accepted_counts : (outs : List Out) (client id : ℕ) (result : List ℕ) → Has outs (Accepted client id result) → 1 ≤ accept_count outs
+accepted_counts [] client id result h = absurd (Has-none (Accepted client id result) h)
+accepted_counts (Accepted c k a ∷ outs) client id result h = omega arith
+accepted_counts (_ ∷ outs) client id result (zero, e) = absurd cc
+accepted_counts (_ ∷ outs) client id result (suc i, e) = accepted_counts outs client id result (i, e)
 
--- an input gave it
-record GivenBy (s : ClientState) (xs : List Given) (out : Out) : Type 0 where
-  past : List Given
-  input : Given
-  rest : List Given
-  split : xs ≡ past ++ input ∷ rest
-  gives : Has (next (after s past) input).1 out
-
-given_by : (s : ClientState) (xs : List Given) (out : Out) → Has (gave s xs) out → GivenBy s xs out
-given_by s [] out h = absurd (Has-none out h)
-given_by s (x ∷ xs) out h = elim (Has-append_cases (next s x).1 (gave (next s x).0 xs) out h) [
-  | inl now ↦ record { past = []; input = x; rest = xs; split = refl; gives = now }
-  | inr later ↦
-      let g = given_by (next s x).0 xs out later in
-      record { past = x ∷ g.past; input = g.input; rest = g.rest; split = ap (λ (l : List Given). x ∷ l) g.split; gives = g.gives }
-]
-
--- what came then is in all that came
-came_then : (past : List Given) (x : Given) (rest : List Given) (p : Reply) → Has (replies_of (past ++ x ∷ [])) p
-    → Has (replies_of (past ++ x ∷ rest)) p
-came_then [] x rest p h = elim (Has-append_cases (reply_of x) [] p h) [
-  | inl now ↦ Has-append_left (reply_of x) (replies_of rest) p now
-  | inr none ↦ absurd (Has-none p none)
-]
-came_then (y ∷ past) x rest p h = elim (Has-append_cases (reply_of y) (replies_of (past ++ x ∷ [])) p h) [
-  | inl now ↦ Has-append_left (reply_of y) (replies_of (past ++ x ∷ rest)) p now
-  | inr later ↦ Has-append_right (reply_of y) (replies_of (past ++ x ∷ rest)) p (came_then past x rest p later)
-]
-
-agreed_more : (n client id : ℕ) (result : List ℕ) (few all : List Reply) → ((p : Reply) → Has few p → Has all p) → IsAgreed n few client id result
-    → IsAgreed n all client id result
-agreed_more n client id result few all more a = record {
-  view = a.view;
-  slot = a.slot;
-  replies = a.replies;
-  enough = a.enough;
-  one_each = a.one_each;
-  received = λ p h. more p (a.received p h);
-  fits = a.fits;
-  leaders = a.leaders;
-  member = a.member;
-  leads = a.leads;
-  tagged = a.tagged;
-  brings = a.brings;
-}
+not_empty : (qs : List Request) (q : Request) → Has qs q → is_empty qs ≡ false
+not_empty [] q h = absurd (Has-none q h)
+not_empty (r ∷ qs) q h = refl
 
 no_submit : (xs : List Given) → AllOutside xs → HasNoSubmit xs
 no_submit [] outside = tt
@@ -190,25 +150,26 @@ module _ (config : Configuration) (number : ℕ) (op : List ℕ) (inputs : List 
   abbrev start : ClientState
   start = caller config number op
 
-  agreed : (client id : ℕ) (result : List ℕ) → Has (gave start inputs) (Accepted client id result)
-      → IsAgreed config.replicas (replies_of inputs) number id result
-  agreed client id result h =
-      let g = given_by start inputs (Accepted client id result) h in
-      agreed_more config.replicas number id result (replies_of (g.past ++ g.input ∷ [])) (replies_of inputs)
-      (λ p came. subst (λ (l : List Given). Has (replies_of l) p) (sym g.split) (came_then g.past g.input g.rest p came))
-      (accepts_replied config number (op ∷ []) g.past g.input client id result g.gives)
+  abbrev end : ClientState
+  end = after start inputs
 
-  turns : TakesTurns number None 0 (gave start inputs)
+  abbrev outs : List Out
+  outs = gave start inputs
+
+  alone : HasNoSubmit inputs
+  alone = no_submit inputs outside
+
+  turns : TakesTurns number [] 0 outs
   turns = takes_turns config number (op ∷ []) inputs
 
-  order : ops_of (gave start inputs) ++ (after start inputs).waiting ≡ op ∷ []
-  order = waiting_in_order config number (op ∷ []) inputs (no_submit inputs outside)
+  order : ops_of outs ++ end.waiting ≡ op ∷ []
+  order = waiting_in_order config number (op ∷ []) inputs alone
 
-  -- where something was accepted, the op was submitted, and none waits
-  submitted_by : (client id : ℕ) (result : List ℕ) → Has (gave start inputs) (Accepted client id result)
-      → (ops waiting : List (List ℕ)) → ops_of (gave start inputs) ≡ ops → ops ++ waiting ≡ op ∷ [] → (ops ≡ op ∷ []) × (waiting ≡ [])
-  submitted_by client id result h [] waiting is all = absurd (none_accepted number 0 (gave start inputs) turns is client id result h)
-  submitted_by client id result h (o ∷ []) waiting is all = let rest : waiting ≡ [] = cc in (cc, rest)
+  -- where something was accepted, the op was submitted
+  submitted_by : (client id : ℕ) (result : List ℕ) → Has outs (Accepted client id result)
+      → (ops waiting : List (List ℕ)) → ops_of outs ≡ ops → ops ++ waiting ≡ op ∷ [] → ops ≡ op ∷ []
+  submitted_by client id result h [] waiting is all = absurd (none_accepted number 0 outs turns is client id result h)
+  submitted_by client id result h (o ∷ []) waiting is all = cc
   submitted_by client id result h (o ∷ q ∷ ops) waiting is all = absurd cc
 
   -- where nothing was submitted, the op waits
@@ -216,55 +177,73 @@ module _ (config : Configuration) (number : ℕ) (op : List ℕ) (inputs : List 
   waits_still [] waiting none all = rw all refl
   waits_still (o ∷ ops) waiting none all = absurd cc
 
-  waits : (after start inputs).last_id ≡ 0 → is_empty (after start inputs).waiting ≡ false
-  waits none =
-      waits_still (ops_of (gave start inputs)) (after start inputs).waiting (sym (last_counts config number (op ∷ []) inputs) ∙ none) order
+  waits : end.last_id ≡ 0 → is_empty end.waiting ≡ false
+  waits none = waits_still (ops_of outs) end.waiting (sym (last_counts config number (op ∷ []) inputs) ∙ none) order
+
+  one_at_most : end.last_id ≤ 1
+  one_at_most =
+      let count = last_counts config number (op ∷ []) inputs in
+      let both = length-append (ops_of outs) end.waiting in
+      let all : length (ops_of outs ++ end.waiting) ≡ 1 = ap (λ (l : List (List ℕ)). length l) order in
+      omega (arith, count, both, all)
 
   -- ---- how the call stands
 
   -- the acceptance is that of the only request, and nothing is left to do
   pub record Ends (a : Accept) : Type 0 where
-    pub has : Has (gave start inputs) (Accepted number 1 a.result)
-    pub one : ops_of (gave start inputs) ≡ op ∷ []
-    pub done : is_done (after start inputs) ≡ true
+    pub has : Has outs (Accepted number 1 a.result)
+    pub one : ops_of outs ≡ op ∷ []
+    pub done : is_done end ≡ true
 
-  ends_by : (a : Accept) → a.id ≡ (after start inputs).last_id → open_requests (after start inputs) ≡ []
-      → Has (gave start inputs) (Accepted (after start inputs).number a.id a.result) → Ends a
-  ends_by a id free h =
-      let both = submitted_by (after start inputs).number a.id a.result h (ops_of (gave start inputs)) (after start inputs).waiting refl order in
-      let own = accepted_own number None 0 (gave start inputs) turns (after start inputs).number a.id a.result h in
-      let first : a.id ≡ 1 = id ∙ last_counts config number (op ∷ []) inputs ∙ ap (λ (l : List (List ℕ)). length l) both.0 in
-      record { has = rw (own, first) at h; one = both.0; done = rw (free, both.1) refl }
+  done_by : (result : List ℕ) → Has outs (Accepted number 1 result) → (b : Bool) → is_done end ≡ b → b ≡ true
+  done_by result h true is = refl
+  done_by result h false is =
+      let fewer : accept_count outs < 1 = some_open config number (op ∷ []) inputs alone is in
+      let some = accepted_counts outs number 1 result h in
+      absurd (omega (arith, fewer, some))
 
-  ends : (a : Accept) → (after start inputs).accepted ≡ Some a → Stands (gave start inputs) (after start inputs) → Ends a
-  ends a e (NoneYet last free none) = absurd (none-some a (sym none ∙ e))
-  ends a e (Waits r is id none) = absurd (none-some a (sym none ∙ e))
-  ends a e (WasAccepted b is id free h) = subst Ends (same_Some b a (sym is ∙ e)) (ends_by b id free h)
+  its : (a : Accept) → accepted_in end.recent 1 ≡ Some a → IsRecent config.replicas number end.last_id outs (replies_of inputs) a
+  its a e = (recent_kept config number (op ∷ []) inputs 1 a e).1
 
-  pub stands_ended : (a : Accept) → (after start inputs).accepted ≡ Some a → Ends a
-  stands_ended a e = ends a e (last_stands config number (op ∷ []) inputs)
+  first_id : (a : Accept) → accepted_in end.recent 1 ≡ Some a → a.id ≡ 1
+  first_id a e = (recent_kept config number (op ∷ []) inputs 1 a e).0
 
-  pub is_accepted : (a : Accept) → (after start inputs).accepted ≡ Some a → IsAccepted config number op a.result
+  pub stands_ended : (a : Accept) → accepted_in end.recent 1 ≡ Some a → Ends a
+  stands_ended a e =
+      let has : Has outs (Accepted number 1 a.result) =
+      subst (λ (i : ℕ). Has outs (Accepted number i a.result)) (first_id a e) (its a e).given in
+      record {
+        has = has;
+        one = submitted_by number 1 a.result has (ops_of outs) end.waiting refl order;
+        done = done_by a.result has (is_done end) refl;
+      }
+
+  pub is_accepted : (a : Accept) → accepted_in end.recent 1 ≡ Some a → IsAccepted config number op a
   is_accepted a e =
       let s = stands_ended a e in
+      let r = subst (λ (i : ℕ). (g : IsAgreed config.replicas (replies_of inputs) number i a.result) × (g.slot ≡ a.slot))
+      (first_id a e) ((its a e).agreed, (its a e).at_slot) in
       record {
         inputs = inputs;
         outside = outside;
-        submitted = first_submitted number op (gave start inputs) turns s.one;
+        submitted = first_submitted number op outs turns s.one;
         accepted = s.has;
-        agreed = agreed number 1 a.result s.has;
+        kept = e;
+        agreed = r.0;
+        at_slot = r.1;
       }
 
-  pub is_written : (at : Address) (a : Accept) → (after start inputs).accepted ≡ Some a
-      → lines (effects at (gave start inputs)) ≡ submit_line (request number op) ++ accept_line number 1 a.result
+  pub is_written : (at : Address) (a : Accept) → accepted_in end.recent 1 ≡ Some a
+      → lines (effects at outs) ≡ submit_line (request number op) ++ accept_line number 1 a.result
   is_written at a e =
       let s = stands_ended a e in
-      both_written at number op (gave start inputs) turns s.one number 1 a.result s.has
+      both_written at number op outs turns s.one number 1 a.result s.has
 
-  open_by : (after start inputs).accepted ≡ None → Stands (gave start inputs) (after start inputs) → is_done (after start inputs) ≡ false
-  open_by e (NoneYet last free none) = rw (free, waits last) refl
-  open_by e (Waits r is id none) = rw is refl
-  open_by e (WasAccepted b is id free h) = absurd (none-some b (sym e ∙ is))
-
-  pub is_open : (after start inputs).accepted ≡ None → is_done (after start inputs) ≡ false
-  is_open e = open_by e (last_stands config number (op ∷ []) inputs)
+  -- the request waits, or is open
+  pub is_open : accepted_in end.recent 1 ≡ None → is_done end ≡ false
+  is_open e = elim (cases_eq end.last_id 0) [
+    | inl none ↦ and_right (is_empty (open_requests end)) (is_empty end.waiting) (waits none)
+    | inr some ↦
+        let q = open_has end 1 (known config number (op ∷ []) inputs 1 (omega arith) (omega (arith, some)) (omega (arith, one_at_most)) e) in
+        and_left (is_empty (open_requests end)) (is_empty end.waiting) (not_empty (open_requests end) q.0 q.1)
+  ]

@@ -12,6 +12,7 @@ use Rattle.transcript_text.specs.Transcript.{submit_line, accept_line}
 use Rattle.client_quorum.specs.ClientSteps.{is_done}
 use Rattle.client_quorum.specs.Core as client
 use Rattle.client_quorum.specs.Core.{Client, HasNoRead}
+use Rattle.client_quorum.specs.Opens.{accepted_in}
 use Rattle.client_quorum.specs.Runs.{after, gave}
 use Rattle.client_quorum.specs.declared.state.ClientState.{ClientState}
 use Rattle.client_quorum.proofs.Alone.{state_alone, outs_alone, is_done_alone}
@@ -65,19 +66,23 @@ module _ (at : Address) (number : ℕ) (op : List ℕ) (t : Client) (h i : Optio
   outs_after = ap (λ (r : Client × List Out). r.1) (folded_is core_start took.inputs)
       ∙ outs_alone at.config number (op ∷ []) took.inputs no_read
 
-  accepted_after : (o : Option Accept) → t.requests.accepted ≡ o → (after start took.inputs).accepted ≡ o
-  accepted_after o is = ap (λ (s : ClientState). s.accepted) (sym is_after) ∙ is
+  -- the acceptance that the client keeps of its request
+  abbrev its_accept : Option Accept
+  its_accept = accepted_in t.requests.recent 1
+
+  accepted_after : (o : Option Accept) → its_accept ≡ o → accepted_in (after start took.inputs).recent 1 ≡ o
+  accepted_after o is = ap (λ (s : ClientState). accepted_in s.recent 1) (sym is_after) ∙ is
 
   -- ---- the result
 
-  accepted_answer : (result : List ℕ) (o : Option Accept) → t.requests.accepted ≡ o → GivesAccepted o (Ok result)
-      → IsAccepted at.config number op result
-  accepted_answer result None is gives = absurd gives
-  accepted_answer result (Some a) is gives =
+  accepted_answer : (accept : Accept) (o : Option Accept) → its_accept ≡ o → GivesAccepted o (Ok accept)
+      → IsAccepted at.config number op accept
+  accepted_answer accept None is gives = absurd gives
+  accepted_answer accept (Some a) is gives =
       subst (IsAccepted at.config number op) (sym gives)
       (is_accepted at.config number op took.inputs took.outside a (accepted_after (Some a) is))
 
-  open_answer : (o : Option Accept) → t.requests.accepted ≡ o → GivesAccepted o (Err Unanswered) → NotDone at.config number op
+  open_answer : (o : Option Accept) → its_accept ≡ o → GivesAccepted o (Err Unanswered) → NotDone at.config number op
   open_answer None is gives = record {
     inputs = took.inputs;
     outside = took.outside;
@@ -85,9 +90,9 @@ module _ (at : Address) (number : ℕ) (op : List ℕ) (t : Client) (h i : Optio
   }
   open_answer (Some a) is gives = absurd gives
 
-  pub answers_by : (result : Result (List ℕ) CallError) → GivesAccepted t.requests.accepted result → Answers at.config number op result
-  answers_by (Ok result) gives = accepted_answer result t.requests.accepted refl gives
-  answers_by (Err Unanswered) gives = open_answer t.requests.accepted refl gives
+  pub answers_by : (result : Result Accept CallError) → GivesAccepted its_accept result → Answers at.config number op result
+  answers_by (Ok accept) gives = accepted_answer accept its_accept refl gives
+  answers_by (Err Unanswered) gives = open_answer its_accept refl gives
   answers_by _ gives = tt
 
   -- ---- the run
@@ -105,9 +110,10 @@ module _ (at : Address) (number : ℕ) (op : List ℕ) (t : Client) (h i : Optio
         (rw empty at took.written)
         ∙ ap (λ os. lines (effects at os)) outs_after
 
-    run_answered : (result : List ℕ) (o : Option Accept) → t.requests.accepted ≡ o → GivesAccepted o (Ok result) → Answered at number op result r a b
-    run_answered result None is gives = absurd gives
-    run_answered result (Some x) is gives =
+    run_answered : (accept : Accept) (o : Option Accept) → its_accept ≡ o → GivesAccepted o (Ok accept)
+        → Answered at number op accept.result r a b
+    run_answered accept None is gives = absurd gives
+    run_answered accept (Some x) is gives =
         let known = accepted_after (Some x) is in
         let ended = stands_ended at.config number op took.inputs took.outside x known in
         record {
@@ -115,11 +121,11 @@ module _ (at : Address) (number : ℕ) (op : List ℕ) (t : Client) (h i : Optio
           works = run.works;
           lines =
               run_lines ∙ is_written at.config number op took.inputs took.outside at x known
-              ∙ ap (λ (l : List ℕ). submit_line (request number op) ++ accept_line number 1 l) (sym gives);
+              ∙ ap (λ (y : Accept). submit_line (request number op) ++ accept_line number 1 y.result) (sym gives);
           calls = (served.lost, run.effects.sends);
         }
 
-    run_open : (o : Option Accept) → t.requests.accepted ≡ o → GivesAccepted o (Err Unanswered) → TurnsEnded at turns r a b
+    run_open : (o : Option Accept) → its_accept ≡ o → GivesAccepted o (Err Unanswered) → TurnsEnded at turns r a b
     run_open None is gives =
         let open_ = is_open at.config number op took.inputs took.outside (accepted_after None is) in
         let not_done = done ∙ done_after ∙ open_ in
@@ -131,11 +137,11 @@ module _ (at : Address) (number : ℕ) (op : List ℕ) (t : Client) (h i : Optio
         }
     run_open (Some x) is gives = absurd gives
 
-    run_ends : (result : Result (List ℕ) CallError) → GivesAccepted t.requests.accepted result → EndsRun at number op turns r result a b
-    run_ends (Ok result) gives = run_answered result t.requests.accepted refl gives
+    run_ends : (result : Result Accept CallError) → GivesAccepted its_accept result → EndsRun at number op turns r result a b
+    run_ends (Ok accept) gives = run_answered accept its_accept refl gives
     run_ends (Err PortFault) gives = absurd gives
     run_ends (Err LinkFault) gives = absurd gives
-    run_ends (Err Unanswered) gives = run_open t.requests.accepted refl gives
+    run_ends (Err Unanswered) gives = run_open its_accept refl gives
     run_ends (Err NoMemory) gives = (
       served.lost,
       record { before = calls (effects_by at r.acts); rest = []; split = sym (append-nil (calls (effects_by at r.acts))); sends = run.effects.sends },
@@ -144,7 +150,7 @@ module _ (at : Address) (number : ℕ) (op : List ℕ) (t : Client) (h i : Optio
   pub ends_served : (turns : ℕ) (answers : Option (List PollAnswer)) (values : Option (List ℕ)) (served : Served) (a b : LinkSide)
       → h ≡ Some [] → ServesAfter client.next client.is_done [] client.timers at turns core_start answers values (Ok served) a b h i
       → served.done ≡ client.is_done t → (served.done ≡ false → served.turns ≡ turns)
-      → (result : Result (List ℕ) CallError) → GivesAccepted t.requests.accepted result
+      → (result : Result Accept CallError) → GivesAccepted its_accept result
       → EndsObserved at number op turns answers values result a b
   ends_served turns None values served a b empty run done spent result gives = tt
   ends_served turns (Some answers) None served a b empty run done spent result gives = tt
@@ -210,7 +216,7 @@ ends_before at number op turns (Some answers) (Some values) trace losses = (
 -- ---- a link that ports gave
 
 pub over_given : (at : Address) (number : ℕ) (op : List ℕ) (turns : ℕ) (to_come later : Option (List (List PollAnswer)))
-    (answers : Option (List PollAnswer)) (values : Option (List ℕ)) (result : Result (List ℕ) CallError) (trace : Option (List LinkCall))
+    (answers : Option (List PollAnswer)) (values : Option (List ℕ)) (result : Result Accept CallError) (trace : Option (List LinkCall))
     (losses : ℕ) (b : LinkSide)
     → GivesNext to_come later answers trace → losses ≡ 0
     → EndsObserved at number op turns answers values result (side trace 0 losses) b

@@ -13,6 +13,7 @@ use Rattle.outside.specs.declared.link.PollAnswer.{PollAnswer}
 use Rattle.transcript_text.specs.Transcript.{submit_line, accept_line}
 use Rattle.client_quorum.specs.ClientSteps.{opening, is_done}
 use Rattle.client_quorum.specs.Core as client
+use Rattle.client_quorum.specs.Opens.{accepted_in}
 use Rattle.client_quorum.specs.Runs.{after, gave, replies_of, IsAgreed}
 use Rattle.client_quorum.specs.declared.state.ClientState.{ClientState}
 use Rattle.udp_node.specs.Effects.{calls, effects_by, lines}
@@ -46,14 +47,16 @@ request number op = record { client = number; id = 1; op = op }
 
 -- ---- the result, over any devices
 
--- The client took some packets and ticks, submitted its request, and accepted this result. With it replied the leader of a view, and
--- with that f + 1 replicas at one slot.
-pub record IsAccepted (config : Configuration) (number : ℕ) (op result : List ℕ) : Type 0 where
+-- The client took some packets and ticks, submitted its request, and accepted this result, which it keeps with its slot. With it replied the
+-- leader of a view, and with that f + 1 replicas at the slot.
+pub record IsAccepted (config : Configuration) (number : ℕ) (op : List ℕ) (accept : Accept) : Type 0 where
   pub inputs : List Given
   pub outside : AllOutside inputs
   pub submitted : Has (gave (caller config number op) inputs) (Submitted (request number op))
-  pub accepted : Has (gave (caller config number op) inputs) (Accepted number 1 result)
-  pub agreed : IsAgreed config.replicas (replies_of inputs) number 1 result
+  pub accepted : Has (gave (caller config number op) inputs) (Accepted number 1 accept.result)
+  pub kept : accepted_in (after (caller config number op) inputs).recent 1 ≡ Some accept
+  pub agreed : IsAgreed config.replicas (replies_of inputs) number 1 accept.result
+  pub at_slot : agreed.slot ≡ accept.slot
 
 -- the client took some packets and ticks, and is not done
 pub record NotDone (config : Configuration) (number : ℕ) (op : List ℕ) : Type 0 where
@@ -61,15 +64,15 @@ pub record NotDone (config : Configuration) (number : ℕ) (op : List ℕ) : Typ
   pub outside : AllOutside inputs
   pub open_ : is_done (after (caller config number op) inputs) ≡ false
 
-abbrev pub Answers : Configuration → ℕ → List ℕ → Result (List ℕ) CallError → Type 0
-Answers config number op (Ok result) = IsAccepted config number op result
+abbrev pub Answers : Configuration → ℕ → List ℕ → Result Accept CallError → Type 0
+Answers config number op (Ok accept) = IsAccepted config number op accept
 Answers config number op (Err Unanswered) = NotDone config number op
 Answers config number op _ = ⊤
 
 -- what a client had accepted, if something
-abbrev pub GivesAccepted : Option Accept → Result (List ℕ) CallError → Type 0
-GivesAccepted None (Ok result) = ⊥
-GivesAccepted (Some a) (Ok result) = result ≡ a.result
+abbrev pub GivesAccepted : Option Accept → Result Accept CallError → Type 0
+GivesAccepted None (Ok accept) = ⊥
+GivesAccepted (Some a) (Ok accept) = accept ≡ a
 GivesAccepted accepted (Err PortFault) = ⊥
 GivesAccepted accepted (Err LinkFault) = ⊥
 GivesAccepted None (Err Unanswered) = ⊤
@@ -117,14 +120,14 @@ pub record PollFailed (at : Address) (r : NodeRun) (a b : LinkSide) : Type 0 whe
   pub broken : r.broken ≡ true
   pub calls : CallsMade (calls (effects_by at r.acts)) a b
 
-abbrev pub EndsRun : Address → ℕ → List ℕ → ℕ → NodeRun → Result (List ℕ) CallError → LinkSide → LinkSide → Type 0
-EndsRun at number op turns r (Ok result) a b = Answered at number op result r a b
+abbrev pub EndsRun : Address → ℕ → List ℕ → ℕ → NodeRun → Result Accept CallError → LinkSide → LinkSide → Type 0
+EndsRun at number op turns r (Ok accept) a b = Answered at number op accept.result r a b
 EndsRun at number op turns r (Err PortFault) a b = ⊥
 EndsRun at number op turns r (Err LinkFault) a b = PollFailed at r a b
 EndsRun at number op turns r (Err Unanswered) a b = TurnsEnded at turns r a b
 EndsRun at number op turns r (Err NoMemory) a b = SomeCallsMade (calls (effects_by at r.acts)) a b
 
-abbrev pub EndsObserved : Address → ℕ → List ℕ → ℕ → Option (List PollAnswer) → Option (List ℕ) → Result (List ℕ) CallError
+abbrev pub EndsObserved : Address → ℕ → List ℕ → ℕ → Option (List PollAnswer) → Option (List ℕ) → Result Accept CallError
     → LinkSide → LinkSide → Type 0
 EndsObserved at number op turns None values result a b = ⊤
 EndsObserved at number op turns (Some answers) None result a b = ⊤
@@ -134,7 +137,7 @@ EndsObserved at number op turns (Some answers) (Some values) result a b =
 -- ---- over ports
 
 -- the error where no link was attached
-abbrev pub IsUnattached : Result (List ℕ) CallError → Type 0
+abbrev pub IsUnattached : Result Accept CallError → Type 0
 IsUnattached (Err PortFault) = ⊤
 IsUnattached (Err NoMemory) = ⊤
 IsUnattached _ = ⊥
@@ -148,13 +151,13 @@ pub record Used : Type 0 where
 
 -- the call ran over this link, at the client's port; a poll failed only where that is the error
 pub record RanOver (at : Address) (number : ℕ) (op : List ℕ) (turns : ℕ) (answers : Option (List PollAnswer)) (values : Option (List ℕ))
-    (result : Result (List ℕ) CallError) (used : Used) : Type 0 where
+    (result : Result Accept CallError) (used : Used) : Type 0 where
   pub attached : ¬ (result ≡ Err PortFault)
   pub port : used.port ≡ port_of at.base at.own
   pub polls : CountsFor 0 used.faults LinkFault result
   pub run : EndsObserved at number op turns answers values result (side (Some []) 0 0) (side used.trace 0 used.losses)
 
 -- no link was attached, or the ports hold the one over which the call ran
-abbrev pub EndsOver : {L : Type 0} → (L → Used) → List L → List L → Result (List ℕ) CallError → (Used → Type 0) → Type 0
+abbrev pub EndsOver : {L : Type 0} → (L → Used) → List L → List L → Result Accept CallError → (Used → Type 0) → Type 0
 EndsOver {L} seen before after result Ran =
     (after ≡ before) × IsUnattached result ⊎ ((link : L) × (after ≡ before ++ link ∷ []) × Ran (seen link))

@@ -6,7 +6,7 @@ ghost use Rattle.client_call.specs.Calls.{address_of, Answers, EndsOver, RanOver
 
 use crate::CallError;
 use crate::waiting::{address, wait_over};
-use nop_types::{Bytes, Config, Op};
+use nop_types::{Accept, Config, Op};
 use outside::{AttachError, Clock, Ports};
 use std::alloc::Global;
 use udp_node::BasePort;
@@ -18,8 +18,8 @@ pub struct Service {
     pub config: Config,
 }
 
-/// Has one op executed by a service, and gives its result. Waits for at most `turns` turns, of about a millisecond each over
-/// sockets. The client's number is one that was never used before.
+/// Has one op executed by a service, and gives its result, with the slot from which on the service has executed it. Waits for at most
+/// `turns` turns, of about a millisecond each over sockets. The client's number is one that was never used before.
 pub fn submit_and_wait<P: Ports, C: Clock>(
     alloc: Global,
     service: &Service,
@@ -28,8 +28,8 @@ pub fn submit_and_wait<P: Ports, C: Clock>(
     turns: u64,
     ports: &mut P,
     clock: &mut C,
-) -> Result<Bytes, CallError>
-    // At Ok replicas replied with the result; the request is open where the call is unanswered.
+) -> Result<Accept, CallError>
+    // At Ok replicas replied with the result at the slot; the request is open where the call is unanswered.
     ensures answers { Answers service.now.config number op result }
 
     // Over an observable link and clock it is what the run of the client over them gives.

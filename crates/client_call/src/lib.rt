@@ -3,8 +3,10 @@
 //!
 //! Clauses of `submit_and_wait`:
 //! - `answers`: at Ok the client, with this op alone, submitted it as its request 1 and accepted
-//!   this result, with which f + 1 replicas replied. At Unanswered it says no more than that a client
-//!   may be left so.
+//!   this result, with which f + 1 replicas replied at the slot that is given with it. In each run
+//!   the op is in the history from that slot on (`safety`, `AcceptedStand`), so an answer of a
+//!   position that is not below it is of a state with the op. At Unanswered it says no more than
+//!   that a client may be left so.
 //! - `over`: over an observable link and clock the result is the one that the run of the client
 //!   over them prints, and what was sent is what that run sends; Unanswered is given only where all
 //!   turns were taken, and LinkFault exactly where a poll failed. The link is given back, whatever

@@ -2,13 +2,14 @@
 
 ghost use Rattle.std.specs.Prelude.{◌≡◌, IfOk, false, Err};
 ghost use Rattle.outside.specs.Causes.{CountsFor};
+ghost use Rattle.client_quorum.specs.Opens.{accepted_in};
 ghost use Rattle.udp_node.specs.Sends.{side};
 ghost use Rattle.client_call.specs.Calls.{GivesAccepted, Answers, EndsObserved, address_of, caller_core, error_of};
 ghost use Rattle.client_call.specs.declared.errors.CallError.TheVariants as errors;
 
 use crate::{CallError, Service};
 use client_quorum::Client;
-use nop_types::{Actor, Bytes, NoMemory, Op};
+use nop_types::{Accept, Actor, NoMemory, Op};
 use outside::{Clock, Link, WriteMem};
 use std::alloc::Global;
 use udp_node::{Address, ServeError, serve};
@@ -25,12 +26,16 @@ fn caller(alloc: Global, service: &Service, number: u32, op: Op) -> Result<Clien
     Client::new(alloc, service.config, number, ops)
 }
 
-/// The result that the client accepted.
-fn accepted(core: &Client) -> Result<Bytes, CallError>
-    ensures { GivesAccepted core.now.state.requests.accepted result }
+/// The acceptance of the client's request.
+fn accepted(core: &Client) -> Result<Accept, CallError>
+    ensures { GivesAccepted (accepted_in core.now.state.requests.recent 1) result }
 {
-    match core.accepted() {
-        Some(accept) => Ok(accept.result.try_clone()?),
+    match core.accepted(1) {
+        Some(accept) => Ok(Accept {
+            id: accept.id,
+            slot: accept.slot,
+            result: accept.result.try_clone()?,
+        }),
         None => Err(CallError::Unanswered),
     }
 }
@@ -65,7 +70,7 @@ pub(crate) fn wait_over<L: Link, C: Clock>(
     turns: u64,
     link: &mut L,
     clock: &mut C,
-) -> Result<Bytes, CallError>
+) -> Result<Accept, CallError>
     ensures answers { Answers service.now.config number op result }
     ensures run { EndsObserved (address_of service.now number) number op turns
         (L.answers link.old) (C.values clock.old) result

@@ -1,7 +1,6 @@
 -- A client's ops wait, are open, or were accepted.
-use Rattle.std.proofs.Common.{◌≡◌, ℕ, ◌+◌, ◌<◌, true, false, refl, sym, inl, inr, arith, List, [], ◌∷◌, ◌++◌, length, length-append, map}
-use Rattle.std.specs.Prelude.{◌&&◌, ◌^◌, ◌-◌, nat_lt}
-use Rattle.std.proofs.lemmas.Bool.{and_parts}
+use Rattle.std.proofs.Common.{◌≡◌, ℕ, ◌+◌, ◌<◌, true, false, refl, ap, ◌∙◌, inl, inr, arith, List, [], ◌∷◌, ◌++◌, length, length-append, map}
+use Rattle.std.specs.Prelude.{◌&&◌}
 use Rattle.nop_types.specs.Configuration.{Configuration}
 use Rattle.nop_types.specs.Given.{Given, Submit}
 use Rattle.nop_types.specs.declared.output.Out.{Out}
@@ -9,10 +8,12 @@ use Rattle.nop_types.specs.declared.output.Out.TheVariants.{Accepted}
 use Rattle.nop_types.specs.declared.request.Request.{Request}
 use Rattle.client_quorum.specs.declared.state.ClientState.{ClientState}
 use Rattle.client_quorum.specs.ClientSteps.{opening, next, request_of, sent, kept, is_done}
-use Rattle.client_quorum.specs.OpenRequests.{has_room, is_empty, open_requests}
+use Rattle.client_quorum.specs.OpenRequests.{open_requests}
+use Rattle.client_quorum.specs.Opens.{is_empty}
 use Rattle.client_quorum.specs.Rows.{Row, Rests, SaysBusy, Opens, Repeats, Keeps, Accepts}
-use Rattle.client_quorum.specs.Runs.{accept_count, after, gave, HasNoSubmit}
-use Rattle.client_quorum.proofs.OpenRequests.{closes, expected_is_open, keeps, kept_expected, opening_opens_none, opens}
+use Rattle.client_quorum.specs.Runs.{accept_count, after, gave, without, HasNoSubmit}
+use Rattle.client_quorum.proofs.Apart.{one_less, opening_tidy, row_tidy, IsTidy}
+use Rattle.client_quorum.proofs.OpenRequests.{closes, expected_is_open, keeps, open_has, opening_opens_none, opens}
 use Rattle.client_quorum.proofs.RowLemmas.{row_of}
 use Rattle.client_quorum.proofs.Waits.{no_submit, others}
 
@@ -30,28 +31,30 @@ abbrev left : ClientState → ℕ
 left s = length (open_requests s) + length s.waiting
 
 -- a row accepts as many requests as are open or wait less after it
-row_keeps : (s : ClientState) (x : Given) → ((op : List ℕ) → x ≡ Submit op → ⊥) → (y : ClientState × List Out) → Row s x y
+row_keeps : (s : ClientState) (x : Given) → IsTidy s → ((op : List ℕ) → x ≡ Submit op → ⊥) → (y : ClientState × List Out) → Row s x y
     → accept_count y.1 + left y.0 ≡ left s
-row_keeps s x alone y (Rests nothing) = omega arith
-row_keeps s x alone y (SaysBusy op is busy) = omega arith
-row_keeps s x alone y (Opens op waiting may (inl (is, from))) =
-    let now = opens s (request_of s op) waiting (and_parts (has_room s) (nat_lt s.last_id (2 ^ 64 - 1)) may).0 in
+row_keeps s x tidy alone y (Rests nothing) = omega arith
+row_keeps s x tidy alone y (SaysBusy op is busy) = omega arith
+row_keeps s x tidy alone y (Opens op waiting may (inl (is, from))) =
+    let now = opens s (request_of s op) waiting in
     rw (now.requests, from) (omega (arith, length-append {A = Request}))
-row_keeps s x alone y (Opens op waiting may (inr (is, same))) = absurd (alone op is)
-row_keeps s x alone y (Repeats is) = let none = sent_accept_none (open_requests s) in omega (arith, none)
-row_keeps s x alone y (Keeps p has e quorum) = rw (keeps s p (expected_is_open s p e)).requests (omega arith)
-row_keeps s x alone y (Accepts p leaders has e quorum) =
-    let before = keeps s p (expected_is_open s p e) in
-    let closed = closes (kept s p) p.id leaders (kept_expected s p e) in
-    let same = before.requests in
-    let one : length (open_requests s) ≡ length (open_requests y.0) + 1 = rw (sym same) closed.one in
-    omega (arith, one)
+row_keeps s x tidy alone y (Opens op waiting may (inr (is, same))) = absurd (alone op is)
+row_keeps s x tidy alone y (Repeats is) = let none = sent_accept_none (open_requests s) in omega (arith, none)
+row_keeps s x tidy alone y (Keeps p has e quorum) = rw (keeps s p (expected_is_open s p e)).requests (omega arith)
+row_keeps s x tidy alone y (Accepts p leaders has e quorum) =
+    let is = expected_is_open s p e in
+    let left_then : open_requests y.0 ≡ without (open_requests s) p.id =
+    (closes (kept s p) p.id leaders).requests ∙ ap (λ (qs : List Request). without qs p.id) (keeps s p is).requests in
+    let fewer : length (open_requests y.0) ≡ length (without (open_requests s) p.id) =
+    ap (λ (qs : List Request). length qs) left_then in
+    let one = one_less (open_requests s) p.id tidy.apart (open_has s p.id is) in
+    omega (arith, fewer, one)
 
-run_keeps : (xs : List Given) → HasNoSubmit xs → (s : ClientState) → accept_count (gave s xs) + left (after s xs) ≡ left s
-run_keeps [] alone s = omega arith
-run_keeps (x ∷ xs) alone s =
-    let one = row_keeps s x (λ op e. no_submit x xs op alone e) (next s x) (row_of s x) in
-    let rest = run_keeps xs (others x xs alone) (next s x).0 in
+run_keeps : (xs : List Given) → HasNoSubmit xs → (s : ClientState) → IsTidy s → accept_count (gave s xs) + left (after s xs) ≡ left s
+run_keeps [] alone s tidy = omega arith
+run_keeps (x ∷ xs) alone s tidy =
+    let one = row_keeps s x tidy (λ op e. no_submit x xs op alone e) (next s x) (row_of s x) in
+    let rest = run_keeps xs (others x xs alone) (next s x).0 (row_tidy s x tidy (next s x) (row_of s x)) in
     let both = accepts_append (next s x).1 (gave (next s x).0 xs) in
     omega (arith, one, rest, both)
 
@@ -71,7 +74,7 @@ module _ (config : Configuration) (number : ℕ) (ops : List (List ℕ)) (inputs
 
   whole : accept_count (gave s inputs) + left (after s inputs) ≡ length ops
   whole =
-      let all = run_keeps inputs alone s in
+      let all = run_keeps inputs alone s (opening_tidy config number ops) in
       let none : length (open_requests s) ≡ 0 = rw (opening_opens_none config number ops) refl in
       omega (arith, all, none)
 

@@ -1,10 +1,13 @@
 pub mod Alone
+pub mod Apart
 pub mod Counts
 pub mod Ignoring
 pub mod KeptReplies
 pub mod OpenRequests
+pub mod Opens
 pub mod Quorums
 pub mod Received
+pub mod Recents
 pub mod RowLemmas
 pub mod Short
 pub mod Turns

@@ -9,14 +9,17 @@ use Rattle.nop_types.specs.Lists.{Has}
 use Rattle.nop_types.specs.Views.{is_view, leader_of}
 use Rattle.nop_types.specs.declared.view.View.{View}
 use Rattle.nop_types.specs.declared.datagram.Reply.{Reply}
+use Rattle.nop_types.specs.declared.output.Out.{Out}
 use Rattle.nop_types.specs.declared.output.Out.TheVariants.{Accepted}
 use Rattle.lemmas.proofs.Views.{is_view-true, is_view-same}
 use Rattle.lemmas.proofs.Members.{Has-none, Has-from_find, find-some}
 use Rattle.client_quorum.specs.declared.state.ClientState.{ClientState}
 use Rattle.client_quorum.specs.ClientSteps.{is_expected, kept, accept_if, reply_if, reply}
 use Rattle.client_quorum.specs.KeptReplies.{HasOneEach, keep_reply, matches, is_leaders, quorum_of}
+use Rattle.client_quorum.specs.OpenRequests.{kept_for}
 use Rattle.client_quorum.specs.Runs.{HasQuorum}
 use Rattle.client_quorum.proofs.KeptReplies.{above, times, times_is, kept_one_each}
+use Rattle.client_quorum.proofs.OpenRequests.{quorum_here}
 
 pub matched : (v : View) (slot : ℕ) (p : Reply) → matches v slot p ≡ true → (p.view ≡ v) × (p.slot ≡ slot)
 matched v slot p e =
@@ -73,7 +76,8 @@ module _ (n : ℕ) (ks : List Reply) (v : View) (slot : ℕ) where
   Test k = matches v slot k && is_leaders n k
 
   quorum_at : (z : Reply) (b : Bool) → nat_le (n / 2 + 1) (count_by (matches v slot) ks) ≡ b
-      → (if b then find (λ k. matches v slot k && is_leaders n k) ks else None) ≡ Some z → HasQuorum n ks v slot z.result
+      → (if b then find (λ k. matches v slot k && is_leaders n k) ks else None) ≡ Some z
+      → (q : HasQuorum n ks v slot z.result) × (q.leaders ≡ z)
   quorum_at z true t e =
       let found = Has-from_find (λ k. matches v slot k && is_leaders n k) ks z e in
       let tests = and_parts (matches v slot z) (is_leaders n z) found.1 in
@@ -81,7 +85,7 @@ module _ (n : ℕ) (ks : List Reply) (v : View) (slot : ℕ) where
       let leading = and_parts (z.replica == leader_of z.view n) (z.tag == 1) tests.1 in
       let many = leb-true (n / 2 + 1) (count_by (matches v slot) ks) t in
       let counts = length-filter (matches v slot) ks in
-      record {
+      let q : HasQuorum n ks v slot z.result = record {
         enough = omega (arith, many, counts);
         leaders = z;
         member = found.0;
@@ -90,11 +94,18 @@ module _ (n : ℕ) (ks : List Reply) (v : View) (slot : ℕ) where
         leads = eqb-true z.replica (leader_of z.view n) leading.0 ∙ ap (λ (w : View). leader_of w n) place.0;
         tagged = eqb-true z.tag 1 leading.1;
         brings = refl;
-      }
+      } in
+      (q, refl)
   quorum_at z false t e = absurd (none-some z e)
 
   pub has_quorum : (z : Reply) → quorum_of n ks v slot ≡ Some z → HasQuorum n ks v slot z.result
-  has_quorum z e = quorum_at z (nat_le (n / 2 + 1) (count_by (matches v slot) ks)) refl e
+  has_quorum z e = (quorum_at z (nat_le (n / 2 + 1) (count_by (matches v slot) ks)) refl e).0
+
+  -- the reply that is taken is at the slot
+  pub leads_there : (z : Reply) → quorum_of n ks v slot ≡ Some z → z.slot ≡ slot
+  leads_there z e =
+      let q = quorum_at z (nat_le (n / 2 + 1) (count_by (matches v slot) ks)) refl e in
+      sym (ap (λ (k : Reply). k.slot) q.1) ∙ q.0.at_slot
 
   leads_at : (z : Reply) → z.view ≡ v → z.replica ≡ leader_of v n → z.tag ≡ 1 → is_leaders n z ≡ true
   leads_at z at_view leads tagged =
@@ -121,27 +132,37 @@ module _ (n : ℕ) (ks : List Reply) (v : View) (slot : ℕ) where
 
 -- ---- a reply accepts
 
-module _ (s : ClientState) (p : Reply) (result : List ℕ) where
+module _ (s : ClientState) (p : Reply) (result : List ℕ) (e : is_expected s p ≡ true) where
+  -- what is kept for its request, with it
+  abbrev its : List Reply
+  its = keep_reply (kept_for s p.id) p
+
   abbrev Quorate : Type 0
-  Quorate = HasQuorum s.config.replicas (keep_reply s.replies p) p.view p.slot result
+  Quorate = HasQuorum s.config.replicas its p.view p.slot result
 
-  accepted_at : (o : Option Reply) → quorum_of s.config.replicas (keep_reply s.replies p) p.view p.slot ≡ o
+  accepted_at : (o : Option Reply) → quorum_of s.config.replicas its p.view p.slot ≡ o
       → Has (accept_if (kept s p) p.id o).1 (Accepted s.number p.id result) → Quorate
-  accepted_at None e has = absurd (Has-none (Accepted s.number p.id result) has)
-  accepted_at (Some z) e (zero, h) =
+  accepted_at None is has = absurd (Has-none (Accepted s.number p.id result) has)
+  accepted_at (Some z) is (zero, h) =
       let same : z.result ≡ result = cc in
-      subst (λ (r : List ℕ). HasQuorum s.config.replicas (keep_reply s.replies p) p.view p.slot r) same
-      (has_quorum s.config.replicas (keep_reply s.replies p) p.view p.slot z e)
-  accepted_at (Some z) e (suc i, h) = absurd (none-some (Accepted s.number p.id result) h)
+      subst (λ (r : List ℕ). HasQuorum s.config.replicas its p.view p.slot r) same
+      (has_quorum s.config.replicas its p.view p.slot z is)
+  accepted_at (Some z) is (suc i, h) = absurd (none-some (Accepted s.number p.id result) h)
 
-  pub accepted_by : is_expected s p ≡ true → Has (reply s p).1 (Accepted s.number p.id result) → Quorate
-  accepted_by e =
-      subst (λ b. Has (reply_if b s p).1 (Accepted s.number p.id result) → Quorate) (sym e)
-      (accepted_at (quorum_of s.config.replicas (keep_reply s.replies p) p.view p.slot) refl)
+  -- what the reply makes of the client
+  does : reply s p ≡ accept_if (kept s p) p.id (quorum_of s.config.replicas its p.view p.slot)
+  does =
+      ap (λ (b : Bool). reply_if b s p) e
+      ∙ ap (λ (o : Option Reply). accept_if (kept s p) p.id o) (quorum_here s p e)
 
-  pub accepts_by : HasOneEach s.replies → is_expected s p ≡ true → Quorate → Has (reply s p).1 (Accepted s.number p.id result)
-  accepts_by one e q =
-      let z = gets_quorum s.config.replicas (keep_reply s.replies p) p.view p.slot result (kept_one_each p s.replies one) q in
-      subst (λ b. Has (reply_if b s p).1 (Accepted s.number p.id result)) (sym e)
-      (subst (λ o. Has (accept_if (kept s p) p.id o).1 (Accepted s.number p.id result)) (sym z.1)
+  pub accepted_by : Has (reply s p).1 (Accepted s.number p.id result) → Quorate
+  accepted_by has =
+      accepted_at (quorum_of s.config.replicas its p.view p.slot) refl
+      (subst (λ (y : ClientState × List Out). Has y.1 (Accepted s.number p.id result)) does has)
+
+  pub accepts_by : HasOneEach (kept_for s p.id) → Quorate → Has (reply s p).1 (Accepted s.number p.id result)
+  accepts_by one q =
+      let z = gets_quorum s.config.replicas its p.view p.slot result (kept_one_each p (kept_for s p.id) one) q in
+      subst (λ (y : ClientState × List Out). Has y.1 (Accepted s.number p.id result)) (sym does)
+      (subst (λ (o : Option Reply). Has (accept_if (kept s p) p.id o).1 (Accepted s.number p.id result)) (sym z.1)
       (zero, ap (λ (r : List ℕ). Some (Accepted s.number p.id r)) z.2))

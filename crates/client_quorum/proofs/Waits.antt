@@ -1,23 +1,17 @@
--- Waiting ops, and the last request.
-use Rattle.std.proofs.Common.{◌≡◌, ℕ, zero, ◌+◌, Option, Some, None, refl, sym, ap, ◌∙◌, inl, inr, arith, List, [], ◌∷◌, ◌++◌, length}
+-- Waiting ops, and how many were submitted.
+use Rattle.std.proofs.Common.{◌≡◌, ℕ, ◌+◌, refl, sym, ap, ◌∙◌, inl, inr, arith, List, [], ◌∷◌, ◌++◌, length}
 use Rattle.std.proofs.Common.{append_assoc, length-append, map}
-use Rattle.std.proofs.lemmas.Option.{none-some}
 use Rattle.nop_types.specs.Configuration.{Configuration}
 use Rattle.nop_types.specs.Given.{Given, Submit}
-use Rattle.nop_types.specs.Lists.{Has}
 use Rattle.nop_types.specs.declared.request.Request.{Request}
-use Rattle.nop_types.specs.declared.datagram.Reply.{Reply}
 use Rattle.nop_types.specs.declared.output.Out.{Out}
-use Rattle.nop_types.specs.declared.output.Out.TheVariants.{Submitted, Accepted}
-use Rattle.lemmas.proofs.Members.{Has-append_left, Has-append_right}
+use Rattle.nop_types.specs.declared.output.Out.TheVariants.{Submitted}
 use Rattle.client_quorum.specs.declared.state.ClientState.{ClientState}
-use Rattle.client_quorum.specs.ClientSteps.{opening, next, request_of, sent, kept}
-use Rattle.client_quorum.specs.OpenRequests.{listed, open_requests}
+use Rattle.client_quorum.specs.ClientSteps.{opening, next, sent}
+use Rattle.client_quorum.specs.OpenRequests.{open_requests}
 use Rattle.client_quorum.specs.Rows.{Row, Rests, SaysBusy, Opens, Repeats, Keeps, Accepts}
-use Rattle.client_quorum.specs.Runs.{after, gave, ops_of, HasNoSubmit, EndsWith, Stands, NoneYet, Waits, WasAccepted}
-use Rattle.client_quorum.proofs.OpenRequests.{opening_opens_none}
+use Rattle.client_quorum.specs.Runs.{after, gave, ops_of, HasNoSubmit, EndsWith}
 use Rattle.client_quorum.proofs.RowLemmas.{row_of}
-use Rattle.client_quorum.proofs.Turns.{IsTidy, open_of}
 
 ops_append : (xs ys : List Out) → ops_of (xs ++ ys) ≡ ops_of xs ++ ops_of ys
 ops_append [] ys = refl
@@ -111,50 +105,3 @@ counts_from (x ∷ xs) s =
 pub last_counts : (config : Configuration) (number : ℕ) (ops : List (List ℕ)) (inputs : List Given)
     → (after (opening config number ops) inputs).last_id ≡ length (ops_of (gave (opening config number ops) inputs))
 last_counts config number ops inputs = let h = counts_from inputs (opening config number ops) in omega (arith, h)
-
--- ---- how the last request stands
-
-module _ (all : List Out) (s : ClientState) where
-  listed_none : (o : Option Request) → listed o ≡ [] → (r : Request) → o ≡ Some r → ⊥
-  listed_none None none r e = none-some r e
-  listed_none (Some q) none r e = absurd cc
-
-  listed_some : (o : Option Request) (q : Request) → listed o ≡ q ∷ [] → (r : Request) → o ≡ Some r → q ≡ r
-  listed_some None q some r e = absurd cc
-  listed_some (Some p) q some r e = cc
-
-  tidy_of : Stands all s → IsTidy s
-  unfolding open_requests
-  tidy_of (NoneYet last none free) r e = absurd (listed_none s.pending none r e)
-  tidy_of (Waits q is id free) r e = ap (λ (x : Request). x.id) (sym (listed_some s.pending q is r e)) ∙ id
-  tidy_of (WasAccepted a is id none has) r e = absurd (listed_none s.pending none r e)
-
-  with_kept : (p : Reply) → Stands all s → Stands all (kept s p)
-  unfolding open_requests
-  with_kept p (NoneYet last none free) = NoneYet last none free
-  with_kept p (Waits q is id free) = Waits q is id free
-  with_kept p (WasAccepted a is id none has) = WasAccepted a is id none has
-
-  row_stands : (x : Given) → Stands all s → (y : ClientState × List Out) → Row s x y → ((o : Out) → Has y.1 o → Has all o) → Stands all y.0
-  unfolding open_requests
-  row_stands x stands y (Rests nothing) covers = stands
-  row_stands x stands y (SaysBusy op is busy) covers = stands
-  row_stands x stands y (Opens op waiting may from) covers = Waits (request_of s op) refl refl refl
-  row_stands x stands y (Repeats is) covers = stands
-  row_stands x stands y (Keeps p has e quorum) covers = with_kept p stands
-  row_stands x stands y (Accepts p leaders has e quorum) covers =
-      WasAccepted (record { id = p.id; result = leaders.result }) refl (open_of s p (tidy_of stands) e).1 refl
-      (covers (Accepted s.number p.id leaders.result) (zero, refl))
-
-stands_from : (all : List Out) (xs : List Given) (s : ClientState) → ((y : Out) → Has (gave s xs) y → Has all y) → Stands all s
-    → Stands all (after s xs)
-stands_from all [] s covers stands = stands
-stands_from all (x ∷ xs) s covers stands =
-    stands_from all xs (next s x).0 (λ y h. covers y (Has-append_right (next s x).1 (gave (next s x).0 xs) y h))
-    (row_stands all s x stands (next s x) (row_of s x) (λ y h. covers y (Has-append_left (next s x).1 (gave (next s x).0 xs) y h)))
-
-pub last_stands : (config : Configuration) (number : ℕ) (ops : List (List ℕ)) (inputs : List Given)
-    → Stands (gave (opening config number ops) inputs) (after (opening config number ops) inputs)
-last_stands config number ops inputs =
-    stands_from (gave (opening config number ops) inputs) inputs (opening config number ops) (λ y h. h)
-    (NoneYet refl (opening_opens_none config number ops) refl)

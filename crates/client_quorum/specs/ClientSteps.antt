@@ -1,12 +1,10 @@
 -- The step table of a client's requests.
-use Rattle.std.specs.Prelude.{ℕ, ◌+◌, ◌-◌, ◌^◌, ◌<◌, ◌≤◌, length, IfSome, List, map, [], ◌∷◌, Bool, true, false, Option, Some, None, Result, Ok, nat_lt, ◌==◌, ◌&&◌}
-use Rattle.nop_types.specs.declared.limits.TheConstants.{MAX_RESULT_BYTES}
+use Rattle.std.specs.Prelude.{ℕ, ◌+◌, ◌-◌, ◌^◌, ◌<◌, List, map, [], ◌∷◌, ◌++◌, Bool, true, false, Option, Some, None, Result, Ok, nat_lt, ◌==◌, ◌&&◌}
+use Rattle.std.specs.List.{AllByRecursion}
 use Rattle.nop_types.specs.Configuration.{Configuration}
 use Rattle.nop_types.specs.Given.{Given, Packet, Ticked, Submit}
 use Rattle.nop_types.specs.declared.input.Tick.{Tick}
 use Rattle.nop_types.specs.declared.input.Tick.TheVariants as ticks
-use Rattle.nop_types.specs.Ranges.{RequestFits}
-use Rattle.nop_types.specs.declared.output.Accept.{Accept}
 use Rattle.nop_types.specs.declared.output.Out.{Out}
 use Rattle.nop_types.specs.declared.output.Out.TheVariants.{Send, Submitted, Accepted, Busy}
 use Rattle.nop_types.specs.declared.output.Dest.TheVariants.{Sequencers}
@@ -17,24 +15,20 @@ use Rattle.nop_types.specs.declared.datagram.Datagram.TheVariants as datagrams
 use Rattle.oum_codec.specs.declared.bad.Bad.{Bad}
 use Rattle.oum_codec.specs.Reading.{reading}
 use Rattle.oum_codec.specs.Spelling.{spelling}
-use Rattle.client_quorum.specs.KeptReplies.{AreKept, keep_reply, quorum_of}
-use Rattle.client_quorum.specs.OpenRequests.{has_room, is_empty, is_open, open_requests}
+use Rattle.client_quorum.specs.KeptReplies.{quorum_of}
+use Rattle.client_quorum.specs.OpenRequests.{has_room, is_open, kept_for, open_requests}
+use Rattle.client_quorum.specs.Opens.{AcceptFits, OpenFits, closed, is_empty, recent_at, with_reply}
 use Rattle.client_quorum.specs.declared.state.ClientState.{ClientState}
-
--- the result of an acceptance is within its limit
-abbrev pub AcceptFits : Option Accept → Type 0
-AcceptFits accepted = IfSome accepted (λ a. length a.result ≤ MAX_RESULT_BYTES)
 
 -- within the limits
 pub record IsWithin (s : ClientState) : Type 0 where
   pub last_id : s.last_id < 2 ^ 64
-  pub pending : IfSome s.pending RequestFits
-  pub replies : AreKept s.replies
-  pub accepted : AcceptFits s.accepted
+  pub open_ : AllByRecursion OpenFits s.open_
+  pub recent : AllByRecursion AcceptFits s.recent
 
 abbrev pub opening : Configuration → ℕ → List (List ℕ) → ClientState
 opening config number ops =
-    record { config = config; number = number; last_id = 0; pending = None; replies = []; accepted = None; waiting = ops }
+    record { config = config; number = number; last_id = 0; open_ = []; recent = []; waiting = ops }
 
 -- the request, to all sequencers
 abbrev pub sent : Request → Out
@@ -49,8 +43,13 @@ can_submit s = has_room s && nat_lt s.last_id (2 ^ 64 - 1)
 abbrev pub request_of : ClientState → List ℕ → Request
 request_of s op = record { client = s.number; id = s.last_id + 1; op = op }
 
+-- the request is open, and an acceptance that is now a window behind is forgotten
 abbrev pub submitted : ClientState → Request → ClientState
-submitted s r = record s { last_id = s.last_id + 1; pending = Some r; replies = []; accepted = None }
+submitted s r = record s {
+  last_id = s.last_id + 1;
+  open_ = s.open_ ++ record { request = r; replies = [] } ∷ [];
+  recent = recent_at (s.last_id + 1) s.recent;
+}
 
 abbrev pub begin : ClientState → Request → ClientState × List Out
 begin s r = (submitted s r, Submitted r ∷ sent r ∷ [])
@@ -91,17 +90,21 @@ abbrev pub is_expected : ClientState → Reply → Bool
 is_expected s p = (p.client == s.number) && (is_open s p.id && nat_lt p.replica s.config.replicas)
 
 abbrev pub kept : ClientState → Reply → ClientState
-kept s p = record s { replies = keep_reply s.replies p }
+kept s p = record s { open_ = with_reply s.open_ p }
 
+-- the result of the leader's reply is that of the id
 abbrev pub accepts : ClientState → ℕ → Reply → ClientState
-accepts s id p = record s { pending = None; replies = []; accepted = Some (record { id = id; result = p.result }) }
+accepts s id p = record s {
+  open_ = closed s.open_ id;
+  recent = s.recent ++ record { id = id; slot = p.slot; result = p.result } ∷ [];
+}
 
 abbrev pub accept_if : ClientState → ℕ → Option Reply → ClientState × List Out
 accept_if s id None = (s, [])
 accept_if s id (Some p) = (accepts s id p, Accepted s.number id p.result ∷ [])
 
 abbrev pub accept : ClientState → Reply → ClientState × List Out
-accept s p = accept_if s p.id (quorum_of s.config.replicas s.replies p.view p.slot)
+accept s p = accept_if s p.id (quorum_of s.config.replicas (kept_for s p.id) p.view p.slot)
 
 abbrev pub reply_if : Bool → ClientState → Reply → ClientState × List Out
 reply_if true s p = accept (kept s p) p

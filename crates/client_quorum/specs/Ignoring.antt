@@ -10,7 +10,7 @@ use Rattle.oum_codec.specs.Reading.{reading}
 use Rattle.client_quorum.specs.declared.state.ClientState.{ClientState}
 use Rattle.client_quorum.specs.ClientSteps.{is_expected, next}
 
--- a reply of a replica to its pending request
+-- a reply of a replica to one of its open requests
 abbrev pub is_for : ClientState → Datagram → Bool
 is_for s (datagrams.Reply p) = is_expected s p
 is_for s _ = false

@@ -4,5 +4,6 @@ pub mod Core
 pub mod Ignoring
 pub mod KeptReplies
 pub mod OpenRequests
+pub mod Opens
 pub mod Rows
 pub mod Runs

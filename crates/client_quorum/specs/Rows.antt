@@ -1,5 +1,5 @@
 -- What a step of a client does: one of six things; and what becomes of its open requests and of what it keeps for them.
-use Rattle.std.specs.Prelude.{◌≡◌, ◌⊎◌, ℕ, ◌+◌, List, [], ◌∷◌, ◌++◌, map, filter, length, true, false, not, Option, Some, None, ◌==◌}
+use Rattle.std.specs.Prelude.{◌≡◌, ◌⊎◌, ℕ, ◌+◌, List, [], ◌∷◌, ◌++◌, map, filter, true, false, not, Option, Some, None, ◌==◌}
 use Rattle.nop_types.specs.Given.{Given, Packet, Ticked, Submit, Read}
 use Rattle.nop_types.specs.Lists.{Has}
 use Rattle.nop_types.specs.declared.input.Tick.{Tick}
@@ -13,6 +13,7 @@ use Rattle.client_quorum.specs.ClientSteps.{accepts, begin, can_submit, is_expec
 use Rattle.client_quorum.specs.Ignoring.{is_tick_for}
 use Rattle.client_quorum.specs.KeptReplies.{keep_reply, quorum_of}
 use Rattle.client_quorum.specs.OpenRequests.{kept_for, open_requests}
+use Rattle.client_quorum.specs.Opens.{recent_at}
 use Rattle.client_quorum.specs.Runs.{reply_of}
 
 -- ---- one of six things
@@ -58,7 +59,7 @@ pub record IsOpened (s t : ClientState) (r : Request) : Type 0 where
   pub last_id : t.last_id ≡ s.last_id + 1
   pub requests : open_requests t ≡ open_requests s ++ r ∷ []
   pub kept : (id : ℕ) → kept_for t id ≡ kept_for s id
-  pub accepted : t.accepted ≡ None
+  pub recent : t.recent ≡ recent_at t.last_id s.recent
 
 -- the reply is kept for its request
 pub record IsKept (s t : ClientState) (p : Reply) : Type 0 where
@@ -66,13 +67,12 @@ pub record IsKept (s t : ClientState) (p : Reply) : Type 0 where
   pub requests : open_requests t ≡ open_requests s
   pub here : kept_for t p.id ≡ keep_reply (kept_for s p.id) p
   pub others : (id : ℕ) → (id ≡ p.id → ⊥) → kept_for t id ≡ kept_for s id
-  pub accepted : t.accepted ≡ s.accepted
+  pub recent : t.recent ≡ s.recent
 
--- the request of the id, and no other, is no longer open, and has the result
-pub record IsClosed (s t : ClientState) (id : ℕ) (result : List ℕ) : Type 0 where
+-- the request of the id, and no other, is no longer open, and has the result of the leader's reply
+pub record IsClosed (s t : ClientState) (id : ℕ) (leaders : Reply) : Type 0 where
   pub last_id : t.last_id ≡ s.last_id
   pub requests : open_requests t ≡ filter (λ q. not (q.id == id)) (open_requests s)
-  pub one : length (open_requests s) ≡ length (open_requests t) + 1
   pub here : kept_for t id ≡ []
   pub others : (k : ℕ) → (k ≡ id → ⊥) → kept_for t k ≡ kept_for s k
-  pub accepted : t.accepted ≡ Some (record { id = id; result = result })
+  pub recent : t.recent ≡ s.recent ++ record { id = id; slot = leaders.slot; result = leaders.result } ∷ []

@@ -1,6 +1,7 @@
 -- Runs of a client over any inputs, and what they give.
-use Rattle.std.specs.Prelude.{◌≡◌, ℕ, ◌+◌, ⊤, List, [], ◌∷◌, ◌++◌, Bool, true, false, Option, Some, None, Result, Ok, filter, length, ◌/◌}
+use Rattle.std.specs.Prelude.{◌≡◌, ℕ, ◌+◌, ⊤, List, [], ◌∷◌, ◌++◌, Result, Ok, filter, not, ◌==◌, length, ◌/◌}
 use Rattle.std.specs.Prelude.{◌≤◌, ◌<◌}
+use Rattle.nop_types.specs.declared.limits.TheConstants.{WINDOW}
 use Rattle.nop_types.specs.Given.{Given, Packet, Submit}
 use Rattle.nop_types.specs.Lists.{Has}
 use Rattle.nop_types.specs.Views.{leader_of}
@@ -17,7 +18,6 @@ use Rattle.oum_codec.specs.Reading.{reading}
 use Rattle.client_quorum.specs.declared.state.ClientState.{ClientState}
 use Rattle.client_quorum.specs.ClientSteps.{next, sent}
 use Rattle.client_quorum.specs.KeptReplies.{HasOneEach, matches}
-use Rattle.client_quorum.specs.OpenRequests.{open_requests}
 
 -- the state after some inputs
 abbrev pub after : ClientState → List Given → ClientState
@@ -79,28 +79,43 @@ pub record IsAgreed (n : ℕ) (came : List Reply) (client id : ℕ) (result : Li
   pub tagged : leaders.tag ≡ 1
   pub brings : leaders.result ≡ result
 
--- ---- one request after the other
+-- ---- a window of requests
 
-abbrev pub has_none : Option Request → Bool
-has_none None = true
-has_none (Some r) = false
+-- beside these there is room for the request of the next id: fewer are held than a window has, and that id is near each of theirs
+pub record LeavesRoom (held : List Request) (last : ℕ) : Type 0 where
+  pub fewer : length held < WINDOW
+  pub near : (q : Request) → Has held q → last + 1 < q.id + WINDOW
 
--- the open request is sent
-abbrev pub SendsOpen : Option Request → Out → Type 0
-SendsOpen None out = ⊥
-SendsOpen (Some r) out = out ≡ sent r
+-- one of them has this id
+abbrev pub Holds : List Request → ℕ → Type 0
+Holds held id = (q : Request) × Has held q × (q.id ≡ id)
 
--- with this request held open, if one is, and this id the last one: a request is submitted under the next id where none is open,
--- what is sent is the open request, and the open one is accepted once
-abbrev pub TakesTurns : ℕ → Option Request → ℕ → List Out → Type 0
+-- all but those of this id
+abbrev pub without : List Request → ℕ → List Request
+without held id = filter (λ q. not (q.id == id)) held
+
+-- one of them is sent
+abbrev pub SendsOne : List Request → Out → Type 0
+SendsOne held out = (q : Request) × Has held q × (out ≡ sent q)
+
+-- with these requests held open, and this id the last one: a request is submitted under the next id where there is room, what is sent is
+-- one of those that are held, and each of them is accepted once
+abbrev pub TakesTurns : ℕ → List Request → ℕ → List Out → Type 0
 TakesTurns number held last [] = ⊤
 TakesTurns number held last (Submitted r ∷ outs) =
-    (has_none held ≡ true) × (r.client ≡ number) × (r.id ≡ last + 1) × TakesTurns number (Some r) (last + 1) outs
-TakesTurns number held last (Send dest bytes ∷ outs) = SendsOpen held (Send dest bytes) × TakesTurns number held last outs
+    LeavesRoom held last × (r.client ≡ number) × (r.id ≡ last + 1) × TakesTurns number (held ++ r ∷ []) (last + 1) outs
+TakesTurns number held last (Send dest bytes ∷ outs) = SendsOne held (Send dest bytes) × TakesTurns number held last outs
 TakesTurns number held last (Accepted client id result ∷ outs) =
-    (has_none held ≡ false) × (client ≡ number) × (id ≡ last) × TakesTurns number None last outs
+    Holds held id × (client ≡ number) × TakesTurns number (without held id) last outs
 TakesTurns number held last (Busy client ∷ outs) = (client ≡ number) × TakesTurns number held last outs
 TakesTurns number held last (_ ∷ outs) = ⊥
+
+-- an acceptance that is kept, after these outputs: it was given, for one of the last ids, and was agreed on at its slot
+pub record IsRecent (n number last_id : ℕ) (outs : List Out) (came : List Reply) (a : Accept) : Type 0 where
+  pub given : Has outs (Accepted number a.id a.result)
+  pub near : last_id < a.id + WINDOW
+  pub agreed : IsAgreed n came number a.id a.result
+  pub at_slot : agreed.slot ≡ a.slot
 
 -- ---- ops
 
@@ -125,11 +140,3 @@ HasNoSubmit (_ ∷ xs) = HasNoSubmit xs
 -- xs ends with these
 abbrev pub EndsWith : List (List ℕ) → List (List ℕ) → Type 0
 EndsWith xs rest = (prefix : List (List ℕ)) × (xs ≡ prefix ++ rest)
-
--- how the last request stands, after these outputs
-pub data Stands (outs : List Out) (s : ClientState) : Type 0 where
-  -- none was submitted
-  NoneYet : s.last_id ≡ 0 → open_requests s ≡ [] → s.accepted ≡ None → Stands outs s
-  Waits : (r : Request) → open_requests s ≡ r ∷ [] → r.id ≡ s.last_id → s.accepted ≡ None → Stands outs s
-  WasAccepted : (a : Accept) → s.accepted ≡ Some a → a.id ≡ s.last_id → open_requests s ≡ []
-      → Has outs (Accepted s.number a.id a.result) → Stands outs s

@@ -1,17 +1,18 @@
 ghost use Rattle.std.specs.Prelude.{◌≡◌, ◌++◌, false, IfOk, OnOk};
 ghost use Rattle.std.specs.Option.{option_copied};
 ghost use Rattle.nop_types.specs.Given.{given};
-ghost use Rattle.client_quorum.specs.ClientSteps.{AcceptFits, IsWithin, can_submit};
+ghost use Rattle.client_quorum.specs.ClientSteps.{IsWithin, can_submit};
+ghost use Rattle.client_quorum.specs.Opens.{accepted_in};
 ghost use Rattle.client_quorum.specs.Core.{next, opening, timers, is_done};
 
 use crate::rows::{act, can_submit};
-use crate::{ClientState, Pending, Replies, Waiting};
+use crate::{ClientState, OpenList, Recent, Waiting};
 use client_reads::ClientReads;
 use nop_types::{Accept, Config, Core, Input, NoMemory, Op, Outbox, Tick, end_step};
 use std::alloc::Global;
 use std::marker::Model;
 
-/// A client: one request is open at a time, and is accepted at f + 1 matching replies with the leader's; one read waits at a time.
+/// A client: up to eight requests are open at a time, each is accepted at f + 1 matching replies with the leader's, and one read waits.
 pub struct Client {
     alloc: Global,
     failed: bool,
@@ -35,7 +36,6 @@ impl Model for Client {
     ghost use Rattle.std.specs.Coded.{codes};
     ghost use Rattle.nop_types.specs.Machine.{Machine};
     ghost use Rattle.client_quorum.specs.contracts.state.ClientState as known;
-    ghost use Rattle.client_quorum.specs.ClientSteps.{AcceptFits};
     ghost use Rattle.client_quorum.specs.Code.{reads_code};
     ghost use Rattle.client_quorum.specs.Core as core;
 
@@ -47,12 +47,10 @@ impl Model for Client {
       failed = c.failed;
       state = record { requests = c.requests; reads = c.reads };
     } };
-
-    ghost invariant = { λ c. AcceptFits c.requests.accepted };
 }
 
 impl Client {
-    /// A client that submits these ops in turn, one at each tick Next at which none is pending.
+    /// A client that submits these ops in turn, one at each tick Next at which there is room.
     pub fn new(alloc: Global, config: Config, number: u32, ops: Vec<Op>) -> Result<Client, NoMemory>
         ensures { IfOk result (λ c.
             c ≡ record { failed = false; state = opening config number ops.items }) }
@@ -64,9 +62,8 @@ impl Client {
                 config,
                 number,
                 last_id: 0,
-                pending: Pending::none(),
-                replies: Replies::new(alloc),
-                accepted: None,
+                open_: OpenList::new(alloc),
+                recent: Recent::new(alloc),
                 waiting: Waiting::from_vec(ops),
             },
             reads: ClientReads::new(number),
@@ -85,12 +82,11 @@ impl Client {
         self.reads.step(self.alloc, input, out)
     }
 
-    /// The last acceptance: None exactly where no request was submitted, or the last submitted one was not accepted.
-    pub fn accepted(&self) -> Option<&Accept>
-        ensures accepted { option_copied result ≡ self.now.state.requests.accepted }
-        ensures limit { AcceptFits self.now.state.requests.accepted }
+    /// The acceptance of an id: None exactly where it is none of the last eight that were submitted, or is not accepted.
+    pub fn accepted(&self, id: u64) -> Option<&Accept>
+        ensures { option_copied result ≡ accepted_in self.now.state.requests.recent id }
     {
-        self.requests.accepted.as_ref()
+        self.requests.recent.accepted(id)
     }
 
     /// What the client knows of its requests. Whatever came, it is within the limits.
@@ -99,12 +95,12 @@ impl Client {
         ensures within { IsWithin self.now.state.requests }
     {
         let _last = self.requests.last_id;
-        let _pending = self.requests.pending.request();
-        let _kept = self.requests.replies.as_slice();
+        let _open = self.requests.open_.as_slice();
+        let _recent = self.requests.recent.as_slice();
         &self.requests
     }
 
-    /// Whether an op that is submitted now becomes the client's request: none is pending, and an id is left.
+    /// Whether an op that is submitted now becomes a request of the client: there is room for it, and an id is left.
     pub fn can_submit(&self) -> bool
         ensures { result ≡ can_submit self.now.state.requests }
     {
@@ -147,8 +143,8 @@ impl Core for Client {
         None
     }
 
-    #[tactic(auto, unfolding(crate::specs::OpenRequests::open_requests))]
+    #[tactic(auto, unfolding(crate::specs::OpenRequests::open_requests), using(crate::proofs::Opens::empty_requests))]
     fn done(&self) -> bool {
-        self.requests.pending.is_none() && self.requests.waiting.is_empty() && self.reads.is_done()
+        self.requests.open_.is_empty() && self.requests.waiting.is_empty() && self.reads.is_done()
     }
 }

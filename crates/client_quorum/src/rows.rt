@@ -1,19 +1,19 @@
 ghost use Rattle.std.specs.Prelude.{◌≡◌, ◌++◌, ◌∷◌, ◌<◌, ◌^◌, ◌+◌, [], OnOk};
 ghost use Rattle.nop_types.specs.Given.{given};
 ghost use Rattle.nop_types.specs.Ranges.{ReplyFits, RequestFits};
-ghost use Rattle.client_quorum.specs.ClientSteps.{AcceptFits, begin, can_submit, is_expected, next, on_tick, reply};
+ghost use Rattle.client_quorum.specs.ClientSteps.{begin, can_submit, is_expected, next, on_tick, reply};
 ghost use Rattle.client_quorum.specs.ClientSteps.{retry, sent, submit, submit_waiting};
 
-use crate::{ClientState, Pending};
+use crate::ClientState;
 use nop_types::{Accept, Datagram, Dest, Input, NoMemory, Op, Out, Outbox, Reply, Request, Tick};
 use oum_codec::{read_datagram, send_datagram};
 use std::alloc::Global;
 
-#[tactic(auto, unfolding(crate::specs::OpenRequests::has_room, crate::specs::OpenRequests::open_requests))]
+#[tactic(auto, unfolding(crate::specs::OpenRequests::has_room))]
 pub(crate) fn can_submit(state: &ClientState) -> bool
     ensures { result ≡ can_submit state.now }
 {
-    state.pending.is_none() && state.last_id < u64::MAX
+    state.open_.has_room(state.last_id) && state.last_id < u64::MAX
 }
 
 /// Sends a request to all sequencers.
@@ -25,11 +25,9 @@ fn send(alloc: Global, request: &Request, out: &mut Outbox) -> Result<(), NoMemo
     send_datagram(alloc, Dest::Sequencers, &datagram, out)
 }
 
-/// The op is pending under the next id, and its request is sent.
+/// The op is open under the next id, and its request is sent.
 fn begin(alloc: Global, state: &mut ClientState, op: Op, out: &mut Outbox) -> Result<(), NoMemory>
     requires room { state.old.last_id + 1 < 2 ^ 64 }
-    requires limit { AcceptFits state.old.accepted }
-    ensures limit { AcceptFits state.new.accepted }
     ensures state { OnOk result (state.new
         ≡ (begin state.old (record {
           client = state.old.number;
@@ -52,16 +50,12 @@ fn begin(alloc: Global, state: &mut ClientState, op: Op, out: &mut Outbox) -> Re
     out.push(Out::Submitted(request.try_clone()?))?;
     send(alloc, &request, out)?;
     state.last_id = id;
-    state.pending = Pending::of(request);
-    state.replies.clear();
-    state.accepted = None;
-    Ok(())
+    state.recent.forget(id);
+    state.open_.push(request)
 }
 
 /// An op is submitted.
 fn submit(alloc: Global, state: &mut ClientState, op: &Op, out: &mut Outbox) -> Result<(), NoMemory>
-    requires { AcceptFits state.old.accepted }
-    ensures limit { AcceptFits state.new.accepted }
     ensures state { OnOk result (state.new ≡ (submit state.old op.now).0) }
     ensures out { OnOk result (out.new ≡ out.old ++ (submit state.old op.now).1) }
 {
@@ -73,8 +67,6 @@ fn submit(alloc: Global, state: &mut ClientState, op: &Op, out: &mut Outbox) -> 
 
 /// The first waiting op is submitted, where that gives no Busy.
 fn submit_waiting(alloc: Global, state: &mut ClientState, out: &mut Outbox) -> Result<(), NoMemory>
-    requires { AcceptFits state.old.accepted }
-    ensures limit { AcceptFits state.new.accepted }
     ensures state { OnOk result (state.new ≡ (submit_waiting state.old).0) }
     ensures out { OnOk result (out.new ≡ out.old ++ (submit_waiting state.old).1) }
 {
@@ -92,15 +84,14 @@ fn is_expected(state: &ClientState, came: &Reply) -> bool
     ensures { result ≡ is_expected state.now came.now }
 {
     came.client == state.number
-        && state.pending.has_id(came.id)
+        && state.open_.has_id(came.id)
         && came.replica < state.config.replicas()
 }
 
-/// A reply comes: it is kept, and accepts at a quorum.
+/// A reply comes: it is kept for its request, and accepts at a quorum.
+#[tactic(auto, unfolding(crate::specs::OpenRequests::kept_for))]
 fn reply(state: &mut ClientState, came: Reply, out: &mut Outbox) -> Result<(), NoMemory>
-    requires limit { AcceptFits state.old.accepted }
-    requires fits { ReplyFits came }
-    ensures limit { AcceptFits state.new.accepted }
+    requires { ReplyFits came }
     ensures state { OnOk result (state.new ≡ (reply state.old came).0) }
     ensures out { OnOk result (out.new ≡ out.old ++ (reply state.old came).1) }
 {
@@ -110,14 +101,21 @@ fn reply(state: &mut ClientState, came: Reply, out: &mut Outbox) -> Result<(), N
     let id = came.id;
     let view = came.view;
     let slot = came.slot;
-    state.replies.put(came)?;
-    let (kept, shown) = match state.replies.quorum(state.config, view, slot) {
-        Some(leaders) => (leaders.result.try_clone()?, leaders.result.try_clone()?),
+    state.open_.put(came)?;
+    let (at, kept, shown) = match state.open_.quorum(state.config, id, view, slot) {
+        Some(leaders) => (
+            leaders.slot,
+            leaders.result.try_clone()?,
+            leaders.result.try_clone()?,
+        ),
         None => return Ok(()),
     };
-    state.pending = Pending::none();
-    state.replies.clear();
-    state.accepted = Some(Accept { id, result: kept });
+    state.open_.close(id);
+    state.recent.push(Accept {
+        id,
+        slot: at,
+        result: kept,
+    })?;
     out.push(Out::Accepted {
         client: state.number,
         id,
@@ -125,15 +123,14 @@ fn reply(state: &mut ClientState, came: Reply, out: &mut Outbox) -> Result<(), N
     })
 }
 
-/// The open request is sent again.
-#[tactic(auto, unfolding(crate::specs::OpenRequests::open_requests))]
+/// Each open request is sent again.
 fn retry(alloc: Global, state: &ClientState, out: &mut Outbox) -> Result<(), NoMemory>
     ensures { OnOk result (out.new ≡ out.old ++ (retry state.now).1) }
 {
-    match state.pending.request() {
-        Some(request) => send(alloc, request, out),
-        None => Ok(()),
+    for open in state.open_.as_slice() {
+        send(alloc, &open.request, out)?;
     }
+    Ok(())
 }
 
 fn on_tick(
@@ -142,8 +139,6 @@ fn on_tick(
     tick: Tick,
     out: &mut Outbox,
 ) -> Result<(), NoMemory>
-    requires { AcceptFits state.old.accepted }
-    ensures limit { AcceptFits state.new.accepted }
     ensures state { OnOk result (state.new ≡ (on_tick state.old tick).0) }
     ensures out { OnOk result (out.new ≡ out.old ++ (on_tick state.old tick).1) }
 {
@@ -162,8 +157,6 @@ pub(crate) fn act(
     input: Input<'_>,
     out: &mut Outbox,
 ) -> Result<(), NoMemory>
-    requires { AcceptFits state.old.accepted }
-    ensures limit { AcceptFits state.new.accepted }
     ensures state { OnOk result (state.new ≡ (next state.old (given input.entry)).0) }
     ensures out { OnOk result (out.new ≡ out.old ++ (next state.old (given input.entry)).1) }
 {

@@ -1,4 +1,4 @@
-pub mod OneResult
+pub mod AccountLemmas
 pub mod RunLemmas
 pub mod SavedLemmas
 pub mod TableLemmas

@@ -4,7 +4,8 @@ use Rattle.std.specs.List.{flat_map}
 use Rattle.nop_types.specs.declared.limits.TheConstants.{WINDOW}
 use Rattle.nop_types.specs.Lists.{Has}
 use Rattle.nop_types.specs.Windows.{is_new, is_stale}
-use Rattle.nop_types.specs.Tables.{Answered, Table, kept_for, with_result}
+use Rattle.nop_types.specs.declared.checkpoint.Answered.{Answered}
+use Rattle.nop_types.specs.Tables.{Table, kept_for, with_result}
 use Rattle.client_table.specs.Table.{Verdict, Fresh, Same, Stale, verdict_on}
 
 -- a client, and an answer to it

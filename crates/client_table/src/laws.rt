@@ -1,8 +1,9 @@
-ghost use Rattle.std.specs.Prelude.{◌≡◌, ◌==◌, ℕ, List, Option, Some, IsSome, if◌then◌else◌};
+ghost use Rattle.std.specs.Prelude.{◌≡◌, ◌==◌, ℕ, List, Option, Some, true, if◌then◌else◌};
 ghost use Rattle.std.specs.FinMap as finite;
 ghost use Rattle.nop_types.specs.declared.limits.TheConstants.{WINDOW};
-ghost use Rattle.nop_types.specs.Tables.{Answered, Account, Table, kept_for, result_kept, is_new_to, account_with, with_result};
-ghost use Rattle.client_table.specs.Table.{Former, verdict_on, is_fresh, result_of, former_of, put_back, unkept};
+ghost use Rattle.nop_types.specs.declared.checkpoint.Answered.{Answered};
+ghost use Rattle.nop_types.specs.Tables.{Account, Table, kept_for, result_kept, is_new_to, account_with, with_result};
+ghost use Rattle.client_table.specs.Table.{verdict_on, is_fresh, result_of, former_of, removed_for, unkept, AllKept, MayReturn};
 ghost use Rattle.client_table.specs.Runs.{Given, kept_after, EachIsFresh, IsVerdict};
 
 /// A table is what it keeps for each client.
@@ -12,29 +13,29 @@ pub fn table_is_by_client()
         ≡ kept_for u client) → t ≡ u }
 {}
 
-/// An answer is kept for its client, and all other clients have what they had; so when it is taken out again.
-#[tactic(auto, using(crate::specs::Laws::kept_of_with_result, crate::specs::Laws::kept_of_put_back))]
+/// An answer is kept for its client, and all other clients have what they had.
+#[tactic(auto, using(crate::specs::Laws::kept_of_with_result))]
 pub fn answer_is_for_client()
-    ensures kept { (table : Table) (client : ℕ) (a : Answered) (q : ℕ)
+    ensures { (table : Table) (client : ℕ) (a : Answered) (q : ℕ)
         → kept_for (with_result WINDOW table client a) q
         ≡ (if client == q then Some (account_with WINDOW (kept_for table client) a)
         else kept_for table q) }
-    ensures unkept { (table : Table) (client : ℕ) (account : Option Account) (q : ℕ)
-        → kept_for (put_back table client account) q
-        ≡ (if client == q then account else kept_for table q) }
 {}
 
-/// An answer that was kept can be taken out again, and the table is as before. So it is where an answer is taken out and kept
-/// again.
-#[tactic(auto, using(crate::specs::Laws::has_account, crate::specs::Laws::unkept_is_before, crate::specs::Laws::kept_is_again))]
+/// An answer that was kept can be taken out again, and the table is as before, where each account has what may be kept; and so it
+/// stays.
+#[tactic(auto, using(crate::specs::Laws::may_return, crate::specs::Laws::unkept_is_before, crate::specs::Laws::all_kept_with))]
 pub fn unkept_is_before()
-    ensures fits { (table : Table) (client : ℕ) (a : Answered)
-        → IsSome (kept_for (with_result WINDOW table client a) client) }
-    ensures table { (table : Table) (client : ℕ) (a : Answered)
-        → unkept (with_result WINDOW table client a) (former_of table client) ≡ table }
-    ensures again { (table : Table) (former : Former) (a : Answered)
-        → kept_for table former.client ≡ Some (account_with WINDOW former.account a)
-        → with_result WINDOW (unkept table former) former.client a ≡ table }
+    ensures fits { (table : Table) (client : ℕ) (a : Answered) → AllKept table
+        → is_new_to WINDOW (kept_for table client) a.id ≡ true
+        → MayReturn (kept_for (with_result WINDOW table client a) client) a.id
+        (removed_for (kept_for table client) a.id) }
+    ensures table { (table : Table) (client : ℕ) (a : Answered) → AllKept table
+        → is_new_to WINDOW (kept_for table client) a.id ≡ true
+        → unkept (with_result WINDOW table client a) (former_of table client a.id) ≡ table }
+    ensures stays { (table : Table) (client : ℕ) (a : Answered) → AllKept table
+        → is_new_to WINDOW (kept_for table client) a.id ≡ true
+        → AllKept (with_result WINDOW table client a) }
 {}
 
 /// A verdict says what the definitions of execution ask: whether an id is new to what is kept for its client, and what its

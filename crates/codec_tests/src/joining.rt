@@ -88,7 +88,7 @@ fn joined(rt: &impl Abort, alloc: Global, sent: &[Out]) -> Vec<u8> {
 }
 
 /// A message is cut into so many fragments, the last of a datagram of that length, and joined again.
-fn check_cut(rt: &impl Abort, alloc: Global, message: &[u8], count: usize, last: usize) {
+pub fn check_cut(rt: &impl Abort, alloc: Global, message: &[u8], count: usize, last: usize) {
     let mut out = Outbox::new(alloc);
     cut(alloc, 2, 5, message, &mut out, Dest::Replicas).expect(rt, "cut");
     let sent = out.as_slice();
@@ -153,7 +153,7 @@ fn messages_are_cut_and_joined(rt: HostRuntime) {
     check_length(&rt, rt.alloc(), 1, 1, 18);
     check_length(&rt, rt.alloc(), 1400, 1, 1417);
     check_length(&rt, rt.alloc(), 1401, 2, 18);
-    check_length(&rt, rt.alloc(), 4_152_306, 2966, 1323);
+    check_length(&rt, rt.alloc(), 4_633_074, 3310, 491);
     check_length(&rt, rt.alloc(), 5_734_400, 4096, 1417);
 }
 

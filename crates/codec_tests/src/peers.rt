@@ -1,15 +1,17 @@
 ghost use Rattle.nop_types.specs.Checkpoints.{CheckpointFits};
 ghost use Rattle.nop_types.specs.Ranges.{PeerFits};
 
+use crate::joining::check_cut;
 use crate::rows::{bytes_of, is_expected, text};
-use nop_types::{Bytes, Checkpoint, Entry, LogRef, Peer, SavedClient, View};
+use nop_types::{Answered, Bytes, Checkpoint, Entry, LogRef, Peer, SavedClient, View};
 use peer_codec::{EncodedPeer, LogBody, decode_peer, encode_peer, encode_with_log, read_peer};
 use std::alloc::Global;
 use std::process::Abort;
 
 /// The examples of the formats: bytes, and the message that they spell. The logs have the sync points 0, 1 and 2; the first checkpoint
-/// saves a map of one key, where one client has written it, and the second has nothing in it. The last eight messages have fields and
-/// logs at their greatest: two clients, an id and a result too, and a sync point with as many entries as it leaves, 4,096 or none.
+/// saves a map of one key, where one client has written it, and the second has nothing in it. The last nine messages have fields and
+/// logs at their greatest: two clients, ids and results too, eight results of one client, and a sync point with as many entries as it
+/// leaves, 4,096 or none.
 const EXAMPLES: &str = "\
 10 01 00000000 0000000000000001 00000001 = Peer { sender: 1, view: View { leader: 0, session: 1 }, body: SlotLookup(1) }
 11 00 00000000 0000000000000001 00000001 00000000 0000000000000001 0007 5000016b000176 = Peer { sender: 0, view: View { leader: 0, session: 1 }, body: Found(1, Request { client: 0, id: 1, op: Op { bytes: [80, 0, 1, 107, 0, 1, 118] } }) }
@@ -17,7 +19,7 @@ const EXAMPLES: &str = "\
 13 01 00000000 0000000000000001 00000001 = Peer { sender: 1, view: View { leader: 0, session: 1 }, body: GapRep(1) }
 14 01 00000001 0000000000000001 = Peer { sender: 1, view: View { leader: 1, session: 1 }, body: ViewChangeReq }
 14 01 00000001 0000000100000000 = Peer { sender: 1, view: View { leader: 1, session: 4294967296 }, body: ViewChangeReq }
-15 02 00000001 0000000000000001 00000000 0000000000000001 0000000000000003 00000001 0000000a 0000000100016b000176 00000001 00000000 0000000000000001 0004 6e6f6e65 00000001 01 00000001 0000000000000001 0004 4700016b = Peer { sender: 2, view: View { leader: 1, session: 1 }, body: ViewChange { last_normal: View { leader: 0, session: 1 }, next: 3, log: Log { sync_point: 1, checkpoint: Some(Checkpoint { host: Bytes { bytes: [0, 0, 0, 1, 0, 1, 107, 0, 1, 118] }, clients: [SavedClient { client: 0, id: 1, result: Bytes { bytes: [110, 111, 110, 101] } }] }), entries: [Req(Request { client: 1, id: 1, op: Op { bytes: [71, 0, 1, 107] } })] } } }
+15 02 00000001 0000000000000001 00000000 0000000000000001 0000000000000003 00000001 0000000a 0000000100016b000176 00000001 00000000 0000000000000001 01 0000000000000001 0004 6e6f6e65 00000001 01 00000001 0000000000000001 0004 4700016b = Peer { sender: 2, view: View { leader: 1, session: 1 }, body: ViewChange { last_normal: View { leader: 0, session: 1 }, next: 3, log: Log { sync_point: 1, checkpoint: Some(Checkpoint { host: Bytes { bytes: [0, 0, 0, 1, 0, 1, 107, 0, 1, 118] }, clients: [SavedClient { client: 0, greatest: 1, kept: [Answered { id: 1, result: Bytes { bytes: [110, 111, 110, 101] } }] }] }), entries: [Req(Request { client: 1, id: 1, op: Op { bytes: [71, 0, 1, 107] } })] } } }
 16 01 00000001 0000000000000001 0000000000000003 00000002 00000000 00000000 00000002 00 01 00000001 0000000000000001 0004 4700016b = Peer { sender: 1, view: View { leader: 1, session: 1 }, body: StartView { next: 3, log: Log { sync_point: 2, checkpoint: Some(Checkpoint { host: Bytes { bytes: [] }, clients: [] }), entries: [NoOp, Req(Request { client: 1, id: 1, op: Op { bytes: [71, 0, 1, 107] } })] } } }
 17 00 00000000 0000000000000001 00000000 00000001 01 00000000 0000000000000001 0007 5000016b000176 = Peer { sender: 0, view: View { leader: 0, session: 1 }, body: SyncPrepare(Log { sync_point: 0, checkpoint: None, entries: [Req(Request { client: 0, id: 1, op: Op { bytes: [80, 0, 1, 107, 0, 1, 118] } })] }) }
 18 01 00000000 0000000000000001 00000001 = Peer { sender: 1, view: View { leader: 0, session: 1 }, body: SyncRep(1) }
@@ -28,16 +30,19 @@ const EXAMPLES: &str = "\
 18 06 ffffffff ffffffffffffffff ffffffff = Peer { sender: 6, view: View { leader: 4294967295, session: 18446744073709551615 }, body: SyncRep(4294967295) }
 19 00 00000000 0000000000000001 ffffffff = Peer { sender: 0, view: View { leader: 0, session: 1 }, body: SyncCommit(4294967295) }
 17 06 ffffffff ffffffffffffffff ffffefff 00000000 00000000 00001000 00*4096 = Peer { sender: 6, view: View { leader: 4294967295, session: 18446744073709551615 }, body: SyncPrepare(Log { sync_point: 4294963199, checkpoint: Some(Checkpoint { host: Bytes { bytes: [] }, clients: [] }), entries: [NoOp, NoOp..
-17 00 00000000 0000000000000001 ffffffff 00000000 00000002 00000000 0000000000000000 0000 ffffffff ffffffffffffffff 0001 ff 00000000 = Peer { sender: 0, view: View { leader: 0, session: 1 }, body: SyncPrepare(Log { sync_point: 4294967295, checkpoint: Some(Checkpoint { host: Bytes { bytes: [] }, clients: [SavedClient { client: 0, id: 0, result: Bytes { bytes: [] } }, SavedClient { client: 4294967295, id: 18446744073709551615, result: Bytes { bytes: [255] } }] }), entries: [] }) }
+17 00 00000000 0000000000000001 ffffffff 00000000 00000002 00000000 0000000000000001 01 0000000000000001 0000 ffffffff ffffffffffffffff 02 fffffffffffffff8 0000 ffffffffffffffff 0001 ff 00000000 = Peer { sender: 0, view: View { leader: 0, session: 1 }, body: SyncPrepare(Log { sync_point: 4294967295, checkpoint: Some(Checkpoint { host: Bytes { bytes: [] }, clients: [SavedClient { client: 0, greatest: 1, kept: [Answered { id: 1, result: Bytes { bytes: [] } }] }, SavedClient { client: 4294967295, greatest: 18446744073709551615, kept: [Answered { id: 18446744073709551608, result: Bytes { bytes: [] } }, Answered { id: 18446744073709551615, result: Bytes { bytes: [255] } }] }] }), entries: [] }) }
+17 00 00000000 0000000000000001 00000001 00000000 00000001 00000007 0000000000000008 08 0000000000000001 0000 0000000000000002 0000 0000000000000003 0000 0000000000000004 0000 0000000000000005 0000 0000000000000006 0000 0000000000000007 0000 0000000000000008 0000 00000000 = Peer { sender: 0, view: View { leader: 0, session: 1 }, body: SyncPrepare(Log { sync_point: 1, checkpoint: Some(Checkpoint { host: Bytes { bytes: [] }, clients: [SavedClient { client: 7, greatest: 8, kept: [Answered { id: 1, result: Bytes { bytes: [] } }, Answered { id: 2, result: Bytes { bytes: [] } }, Answered { id: 3, result: Bytes { bytes: [] } }, Answered { id: 4, result: Bytes { bytes: [] } }, Answered { id: 5, result: Bytes { bytes: [] } }, Answered { id: 6, result: Bytes { bytes: [] } }, Answered { id: 7, result: Bytes { bytes: [] } }, Answered { id: 8, result: Bytes { bytes: [] } }] }] }), entries: [] }) }
 17 00 00000000 0000000000000001 00000000 00000001 01 ffffffff ffffffffffffffff 0280 ff*640 = Peer { sender: 0, view: View { leader: 0, session: 1 }, body: SyncPrepare(Log { sync_point: 0, checkpoint: None, entries: [Req(Request { client: 4294967295, id: 18446744073709551615, op: Op { bytes: [255, 255..
 11 00 00000000 0000000000000001 ffffffff ffffffff ffffffffffffffff 0280 ff*640 = Peer { sender: 0, view: View { leader: 0, session: 1 }, body: Found(4294967295, Request { client: 4294967295, id: 18446744073709551615, op: Op { bytes: [255, 255..
-15 06 ffffffff ffffffffffffffff ffffffff ffffffffffffffff 0001000000000000 ffffefff 00000002 ffff 00000001 ffffffff ffffffffffffffff 0101 ff*257 00001000 01ffffffffffffffffffffffff0000*4096 = Peer { sender: 6, view: View { leader: 4294967295, session: 18446744073709551615 }, body: ViewChange { last_normal: View { leader: 4294967295, session: 18446744073709551615 }, next: 281474976710656, log: Log { sync_point: 4294963199, checkpoint: Some(Checkpoint { host: Bytes { bytes: [255, 255] }, clients: [SavedClient { client: 4294967295, id: 18446744073709551615, result: Bytes { bytes: [255, 255..";
+15 06 ffffffff ffffffffffffffff ffffffff ffffffffffffffff 0001000000000000 ffffefff 00000002 ffff 00000001 ffffffff ffffffffffffffff 01 ffffffffffffffff 0101 ff*257 00001000 01ffffffffffffffffffffffff0000*4096 = Peer { sender: 6, view: View { leader: 4294967295, session: 18446744073709551615 }, body: ViewChange { last_normal: View { leader: 4294967295, session: 18446744073709551615 }, next: 281474976710656, log: Log { sync_point: 4294963199, checkpoint: Some(Checkpoint { host: Bytes { bytes: [255, 255] }, clients: [SavedClient { client: 4294967295, greatest: 18446744073709551615, kept: [Answered { id: 18446744073709551615, result: Bytes { bytes: [255, 255..";
 
 /// Bytes, and the first test that they fail: no bytes, other kinds, a sender of 7, a session of 0, a slot of 0, a next number of 2^48 + 1,
 /// bytes that are missing within a sync point and after one, 4,097 entries, a tag of 2, an op of 641 bytes, and bytes that are missing or
 /// too many. The last ones are of checkpoints: a host of 1,400,001 bytes, one of which a byte is missing, 257 clients, a client that is
 /// not there, one that comes twice, two that descend, a result of 258 bytes, one that is missing, no count of entries, an entry more than
-/// the greatest length allows, and a checkpoint behind a sync point of 0.
+/// the greatest length allows, and a checkpoint behind a sync point of 0. Then of a client's results: a greatest id of 0, no count, a
+/// count of 0 and of 9, ids of 0, eight behind the greatest, equal to the one before and above the greatest, a last one that is not the
+/// greatest, and what comes after the greatest: an id, nothing, and an id after the greatest of 64 bits.
 const REFUSALS: &str = "\
 = Short
 0f = Kind
@@ -65,14 +70,26 @@ const REFUSALS: &str = "\
 17 00 00000000 0000000000000001 00000001 00000002 00 = Short
 17 00 00000000 0000000000000001 00000001 00000000 00000101 = Field
 17 00 00000000 0000000000000001 00000001 00000000 00000001 0000 = Short
-17 00 00000000 0000000000000001 00000002 00000000 00000002 00000001 0000000000000001 0000 00000001 = Field
-17 00 00000000 0000000000000001 00000002 00000000 00000002 00000001 0000000000000001 0000 00000000 = Field
-17 00 00000000 0000000000000001 00000001 00000000 00000001 00000000 0000000000000001 0102 = Field
-17 00 00000000 0000000000000001 00000001 00000000 00000001 00000000 0000000000000001 0001 = Short
+17 00 00000000 0000000000000001 00000002 00000000 00000002 00000001 0000000000000001 01 0000000000000001 0000 00000001 = Field
+17 00 00000000 0000000000000001 00000002 00000000 00000002 00000001 0000000000000001 01 0000000000000001 0000 00000000 = Field
+17 00 00000000 0000000000000001 00000001 00000000 00000001 00000000 0000000000000001 01 0000000000000001 0102 = Field
+17 00 00000000 0000000000000001 00000001 00000000 00000001 00000000 0000000000000001 01 0000000000000001 0001 = Short
 17 00 00000000 0000000000000001 00000001 00000000 00000000 = Short
 17 00 00000000 0000000000000001 ffffffff 00000000 00000000 00000001 = Field
 17 00 00000000 0000000000000001 fffff000 00000000 00000000 00001000 = Field
-17 00 00000000 0000000000000001 00000000 00000000 00000000 00000000 = Trailing";
+17 00 00000000 0000000000000001 00000000 00000000 00000000 00000000 = Trailing
+17 00 00000000 0000000000000001 00000001 00000000 00000001 00000000 0000000000000000 = Field
+17 00 00000000 0000000000000001 00000001 00000000 00000001 00000000 0000000000000001 = Short
+17 00 00000000 0000000000000001 00000001 00000000 00000001 00000000 0000000000000001 00 = Field
+17 00 00000000 0000000000000001 00000001 00000000 00000001 00000000 0000000000000009 09 = Field
+17 00 00000000 0000000000000001 00000001 00000000 00000001 00000000 0000000000000002 02 0000000000000000 = Field
+17 00 00000000 0000000000000001 00000001 00000000 00000001 00000000 0000000000000009 02 0000000000000001 = Field
+17 00 00000000 0000000000000001 00000001 00000000 00000001 00000000 0000000000000003 03 0000000000000001 0000 0000000000000001 = Field
+17 00 00000000 0000000000000001 00000001 00000000 00000001 00000000 0000000000000002 02 0000000000000003 = Field
+17 00 00000000 0000000000000001 00000001 00000000 00000001 00000000 0000000000000002 01 0000000000000001 = Field
+17 00 00000000 0000000000000001 00000001 00000000 00000001 00000000 0000000000000002 03 0000000000000002 0000 0000000000000002 = Field
+17 00 00000000 0000000000000001 00000001 00000000 00000001 00000000 0000000000000002 03 0000000000000002 0000 = Short
+17 00 00000000 0000000000000001 00000001 00000000 00000001 00000000 ffffffffffffffff 02 ffffffffffffffff 0000 ffffffffffffffff = Field";
 
 /// The bytes that a message is written as.
 fn spelled(rt: &impl Abort, alloc: Global, message: &Peer) -> Vec<u8>
@@ -130,10 +147,14 @@ const SECOND: View = View {
 fn saved(rt: &impl Abort, alloc: Global) -> Checkpoint
     ensures { CheckpointFits result }
 {
-    let client = SavedClient {
-        client: 7,
+    let answered = Answered {
         id: 2,
         result: Bytes::new(alloc, b"=v").expect(rt, "memory"),
+    };
+    let client = SavedClient {
+        client: 7,
+        greatest: 2,
+        kept: vec![in alloc; answered].expect(rt, "memory"),
     };
     let host = Bytes::new(alloc, b"kv").expect(rt, "memory");
     let clients = vec![in alloc; client].expect(rt, "memory");
@@ -158,7 +179,7 @@ fn spells_a_borrowed_change(rt: HostRuntime) {
     let bytes = bytes_of(
         &rt,
         rt.alloc(),
-        "15 02 00000001 0000000000000001 00000000 0000000000000001 0000000000000003 00000001 00000002 6b76 00000001 00000007 0000000000000002 0002 3d76 00000002 00 00",
+        "15 02 00000001 0000000000000001 00000000 0000000000000001 0000000000000003 00000001 00000002 6b76 00000001 00000007 0000000000000002 01 0000000000000002 0002 3d76 00000002 00 00",
     );
     assert!(rt; change.sender() == 2);
     assert!(rt; change.as_slice() == bytes.as_slice());
@@ -179,7 +200,7 @@ fn spells_a_borrowed_start(rt: HostRuntime) {
     let bytes = bytes_of(
         &rt,
         rt.alloc(),
-        "16 01 00000001 0000000000000001 0000000000000003 00000002 00000002 6b76 00000001 00000007 0000000000000002 0002 3d76 00000002 00 00",
+        "16 01 00000001 0000000000000001 0000000000000003 00000002 00000002 6b76 00000001 00000007 0000000000000002 01 0000000000000002 0002 3d76 00000002 00 00",
     );
     assert!(rt; start.sender() == 1);
     assert!(rt; start.as_slice() == bytes.as_slice());
@@ -204,7 +225,8 @@ fn appends_a_borrowed_log(rt: HostRuntime) {
 const BEFORE_HOST: &str =
     "15 06 ffffffff ffffffffffffffff ffffffff ffffffffffffffff 0001000000000000 ffffefff 00155cc0";
 
-const OF_CLIENT: &str = "ffffffffffffffff 0101 ff*257";
+const OF_CLIENT: &str =
+    "ffffffffffffffff 08 fffffffffffffff8 0101 ff*257 fffffffffffffff9 0101 ff*257 fffffffffffffffa 0101 ff*257 fffffffffffffffb 0101 ff*257 fffffffffffffffc 0101 ff*257 fffffffffffffffd 0101 ff*257 fffffffffffffffe 0101 ff*257 ffffffffffffffff 0101 ff*257";
 
 const OF_ENTRY: &str = "01 ffffffff ffffffffffffffff 0280 ff*640";
 
@@ -212,18 +234,20 @@ fn put(rt: &impl Abort, bytes: &[u8], to: &mut Vec<u8>) {
     to.extend_from_slice(bytes).expect(rt, "memory");
 }
 
-/// The longest message.
+/// The longest message. Its clients, with eight results each, have 550,148 bytes.
 fn longest(rt: &impl Abort, alloc: Global) -> Vec<u8> {
     let mut to = bytes_of(rt, alloc, BEFORE_HOST);
     for _ in 0..1_400_000u32 {
         put(rt, b"h", &mut to);
     }
+    let before = to.len();
     put(rt, b"\0\0\x01\0", &mut to);
     let of_client = bytes_of(rt, alloc, OF_CLIENT);
     for client in 0..256u32 {
         put(rt, &client.to_be_bytes(), &mut to);
         put(rt, &of_client, &mut to);
     }
+    assert!(rt; of_client.len() == 2145 && to.len().saturating_sub(before) == 550_148);
     put(rt, b"\0\0\x10\0", &mut to);
     let entry = bytes_of(rt, alloc, OF_ENTRY);
     for _ in 0..4096u32 {
@@ -236,7 +260,8 @@ fn longest(rt: &impl Abort, alloc: Global) -> Vec<u8> {
 fn longest_message(rt: HostRuntime) {
     let alloc = rt.alloc();
     let bytes = longest(&rt, alloc);
-    assert!(rt; bytes.len() == 4_152_306);
+    assert!(rt; bytes.len() == 4_633_074);
     let message = decode_peer(alloc, &bytes).expect(&rt, "a message");
     assert!(rt; spelled(&rt, alloc, &message) == bytes);
+    check_cut(&rt, alloc, &bytes, 3310, 491);
 }

@@ -1,5 +1,7 @@
 use crate::rows::{check_text, request, text};
-use nop_types::{Bytes, Checkpoint, Config, Entry, Log, Out, Outbox, SavedClient, View, leader_of};
+use nop_types::{
+    Answered, Bytes, Checkpoint, Config, Entry, Log, Out, Outbox, SavedClient, View, leader_of,
+};
 use std::alloc::Global;
 use std::process::Abort;
 
@@ -8,10 +10,11 @@ fn checkpoint(rt: &impl Abort, alloc: Global, numbers: [u32; 2]) -> Option<Check
     let mut clients = Vec::new(alloc);
     for client in numbers {
         let result = Bytes::new(alloc, b"=").expect(rt, "memory");
+        let kept = vec![in alloc; Answered { id: 2, result }].expect(rt, "memory");
         let saved = SavedClient {
             client,
-            id: 2,
-            result,
+            greatest: 2,
+            kept,
         };
         clients.push(saved).expect(rt, "memory");
     }
@@ -41,7 +44,7 @@ fn checkpoints(rt: HostRuntime) {
 fn copies(rt: HostRuntime) {
     let alloc = rt.alloc();
     let expected =
-        "Log { sync_point: 1, checkpoint: Some(Checkpoint { host: Bytes { bytes: [104] }, clients: [SavedClient { client: 7, id: 2, result: Bytes { bytes: [61] } }, SavedClient { client: 8, id: 2, result: Bytes { bytes: [61] } }] }), entries: [Req(Request { client: 7, id: 3, op: Op { bytes: [111, 112] } }), NoOp] }";
+        "Log { sync_point: 1, checkpoint: Some(Checkpoint { host: Bytes { bytes: [104] }, clients: [SavedClient { client: 7, greatest: 2, kept: [Answered { id: 2, result: Bytes { bytes: [61] } }] }, SavedClient { client: 8, greatest: 2, kept: [Answered { id: 2, result: Bytes { bytes: [61] } }] }] }), entries: [Req(Request { client: 7, id: 3, op: Op { bytes: [111, 112] } }), NoOp] }";
     check_text(&rt, &text(&rt, alloc, &log(&rt, alloc)), expected);
     let bytes = Bytes::new(alloc, b"abc").expect(&rt, "memory");
     let copy = bytes.try_clone().expect(&rt, "memory").into_vec();

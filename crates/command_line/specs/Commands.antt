@@ -167,15 +167,17 @@ observer_by None site = None
 observer_by (Some id) None = None
 observer_by (Some id) (Some site) = if nat_lt id site.config.observers then Some (Observer id site) else None
 
-abbrev pub asking_by : ℕ → Site → ℕ → Option (List ℕ) → Option Command
-asking_by id site observer None = None
-asking_by id site observer (Some key) = Some (Read id site observer key)
+abbrev pub asking_by : ℕ → Site → (observer least : ℕ) → Option (List ℕ) → Option Command
+asking_by id site observer least None = None
+asking_by id site observer least (Some key) = Some (Read id site observer key least)
 
-abbrev pub read_by : Option ℕ → Option Site → Option ℕ → Option (List ℕ) → Option Command
-read_by None site observer key = None
-read_by (Some id) None observer key = None
-read_by (Some id) (Some site) None key = None
-read_by (Some id) (Some site) (Some observer) key = if nat_lt observer site.config.observers then asking_by id site observer key else None
+abbrev pub read_by : Option ℕ → Option Site → (observer least : Option ℕ) → Option (List ℕ) → Option Command
+read_by None site observer least key = None
+read_by (Some id) None observer least key = None
+read_by (Some id) (Some site) None least key = None
+read_by (Some id) (Some site) (Some observer) None key = None
+read_by (Some id) (Some site) (Some observer) (Some least) key =
+    if nat_lt observer site.config.observers then asking_by id site observer least key else None
 
 -- a number of 64 bits, and a count from 1 to 100,000
 abbrev pub gen_in : List Row → Option Command
@@ -203,7 +205,7 @@ observer_in rows = observer_by (value_of rows (codes "id") None 0 255) (site_of 
 abbrev pub read_in : List Row → Option Command
 read_in rows =
     read_by (value_of rows (codes "id") None 0 (2 ^ 32 - 1)) (site_of MAX_OBSERVERS rows) (value_of rows (codes "observer") None 0 255)
-    (key_in (first_of (codes "key") rows))
+    (value_of rows (codes "position") (Some 0) 0 (2 ^ 32 - 1)) (key_in (first_of (codes "key") rows))
 
 abbrev pub served_by : Text → List Row → Option Command
 served_by name rows =
@@ -263,7 +265,7 @@ IsFit (Sequencer id site) = id < MAX_SEQUENCERS
 IsFit (Controller site id install) = id < MAX_CONTROLLERS
 IsFit (Cluster site ops) = IsTrue (gives 1 site.config)
 IsFit (Observer id site) = id < MAX_OBSERVERS
-IsFit (Read id site observer key) = observer < MAX_OBSERVERS
+IsFit (Read id site observer key least) = observer < MAX_OBSERVERS
 IsFit _ = ⊤
 
 abbrev pub texts_of : {Z : Type 0} → List (String Z) → List Text

@@ -42,7 +42,11 @@ unfoldable pub cluster_app : App
 cluster_app = with_rule (with_rule (site_app (codes "cluster")) (option_rule (codes "clients") true)) ops_rule
 
 unfoldable pub read_app : App
-read_app = with_rule (with_rule (member_app (codes "read")) (option_rule (codes "observer") true)) (value_rule (codes "key"))
+read_app =
+    with_rule (with_rule (with_rule (member_app (codes "read"))
+    (option_rule (codes "observer") true))
+    (option_rule (codes "position") false))
+    (value_rule (codes "key"))
 
 -- the program with its subcommands, one after another
 unfoldable pub with_replay : App

@@ -30,6 +30,6 @@ pub enum Command {
     Check,
     /// An observer with this number.
     Observer(u8, Site),
-    /// A client with this number, which asks this observer for the key.
-    Read(u32, Site, u8, Key),
+    /// A client with this number, which asks this observer for the key until an answer's position is not below the last number.
+    Read(u32, Site, u8, Key, u32),
 }

@@ -70,6 +70,17 @@ fn observers(matches: &ArgMatches<'_>) -> Option<u8>
     }
 }
 
+/// The least position of an answer, 0 where the option is left out.
+pub(crate) fn position(matches: &ArgMatches<'_>) -> Option<u32>
+    ensures { result ≡ value_of (rows_of (found_of matches.now)) (codes "position")
+        (Some 0) 0 4294967295 }
+{
+    match value(matches, "position", Some(0), 0, 4_294_967_295) {
+        Some(n) => Some(n as u32),
+        None => None,
+    }
+}
+
 /// The number of a drawn schedule.
 pub(crate) fn number_drawn(matches: &ArgMatches<'_>) -> Option<u64>
     ensures { result ≡ value_of (rows_of (found_of matches.now)) (codes "number")

@@ -91,7 +91,12 @@ const COMMANDS: &[Row<'static>] = &[
     Row {
         name: "read",
         shared: SITE,
-        own: &[ID, Word::Required("observer"), Word::Value("key")],
+        own: &[
+            ID,
+            Word::Required("observer"),
+            Word::Optional("position"),
+            Word::Value("key"),
+        ],
     },
 ];
 

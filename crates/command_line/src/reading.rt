@@ -13,8 +13,8 @@ use crate::command::{Command, Site};
 use crate::key::read_key;
 use crate::ops::read_ops;
 use crate::options::{
-    choice, cluster_site, count_drawn, key_text, medium, number_drawn, ops, replica_site, site,
-    small,
+    choice, cluster_site, count_drawn, key_text, medium, number_drawn, ops, position, replica_site,
+    site, small,
 };
 use crate::program::program;
 use clap::ArgMatches;
@@ -177,13 +177,13 @@ fn observer(matches: &ArgMatches<'_>) -> Option<Command>
     observer_by(small(matches, "id"), site(MAX_OBSERVERS, matches))
 }
 
-fn asking_by(id: u32, site: Site, observer: u8, key: Option<Key>) -> Option<Command>
+fn asking_by(id: u32, site: Site, observer: u8, least: u32, key: Option<Key>) -> Option<Command>
     requires { observer < MAX_OBSERVERS }
-    ensures value { result ≡ asking_by id site observer key }
+    ensures value { result ≡ asking_by id site observer least key }
     ensures fits { IfSome result IsFit }
 {
     match key {
-        Some(key) => Some(Command::Read(id, site, observer, key)),
+        Some(key) => Some(Command::Read(id, site, observer, key, least)),
         None => None,
     }
 }
@@ -193,17 +193,18 @@ fn read_by(
     id: u32,
     site: Site,
     observer: u8,
+    least: u32,
     text: Option<&str>,
 ) -> Result<Option<Command>, NoMemory>
-    ensures value { IfOk result (λ c.
-        c ≡ read_by (Some id) (Some site) (Some observer) (key_in (text_in text.entry))) }
+    ensures value { IfOk result (λ c. c ≡ read_by (Some id) (Some site) (Some observer)
+        (Some least) (key_in (text_in text.entry))) }
     ensures fits { IfOk result (λ c. IfSome c IsFit) }
 {
     if observer >= site.config.observers() {
         return Ok(None);
     }
     match read_key(alloc, text) {
-        Ok(key) => Ok(asking_by(id, site, observer, key)),
+        Ok(key) => Ok(asking_by(id, site, observer, least, key)),
         Err(e) => Err(e),
     }
 }
@@ -213,9 +214,15 @@ fn read(alloc: Global, matches: &ArgMatches<'_>) -> Result<Option<Command>, NoMe
     ensures fits { IfOk result (λ c. IfSome c IsFit) }
 {
     let asked = small(matches, "observer");
-    match (medium(matches, "id"), site(MAX_OBSERVERS, matches), asked) {
-        (Some(id), Some(site), Some(observer)) => {
-            read_by(alloc, id, site, observer, key_text(matches))
+    let least = position(matches);
+    match (
+        medium(matches, "id"),
+        site(MAX_OBSERVERS, matches),
+        asked,
+        least,
+    ) {
+        (Some(id), Some(site), Some(observer), Some(least)) => {
+            read_by(alloc, id, site, observer, least, key_text(matches))
         }
         _ => Ok(None),
     }

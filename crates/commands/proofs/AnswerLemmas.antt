@@ -6,10 +6,12 @@ use Rattle.client_quorum.specs.Core.{HasNoRead}
 use Rattle.client_quorum.specs.Runs.{accept_count, after, gave, HasNoSubmit}
 use Rattle.client_quorum.proofs.Alone.{is_done_alone, outs_alone}
 use Rattle.client_quorum.proofs.Counts.{all_accepted, some_open}
-use Rattle.client_reads.specs.Runs.{answer_count}
 use Rattle.command_line.specs.declared.command.Command.{Command}
 use Rattle.command_line.specs.declared.command.Command.TheVariants.{Replay, Client, Read}
 use Rattle.command_line.specs.declared.command.Site.{Site}
+use Rattle.fresh_reads.specs.FreshReads as fresh
+use Rattle.fresh_reads.specs.FreshReads.{fresh_count, FreshRead}
+use Rattle.fresh_reads.proofs.FreshAnswers.{one_fresh, none_fresh}
 use Rattle.nop_types.specs.Meaning.{Meaning}
 use Rattle.nop_types.specs.Given.{Given, Packet, Ticked}
 use Rattle.nop_types.specs.Given as givens
@@ -22,7 +24,6 @@ use Rattle.commands.specs.Tasks.{CommandEnds, client_task, read_task, address_of
 use Rattle.commands.specs.Tasks.{ClientAnswers}
 use Rattle.commands.specs.declared.status.Status.{Status}
 use Rattle.commands.specs.declared.status.Status.TheVariants as statuses
-use Rattle.commands.proofs.ReadLemmas.{one_answer, no_answer}
 
 free : (xs : List Given) → AllOutside xs → HasNoSubmit xs
 free [] out = tt
@@ -101,27 +102,32 @@ module _ (id : ℕ) (site : Site) (ops : List (List ℕ)) where
     answers_ops statuses.Unanswered (inr a) = lacking 0 (w.losses a.link) h i a.last
     answers_ops _ ends = tt
 
-module _ (id : ℕ) (site : Site) (observer : ℕ) (key : List ℕ) where
-  abbrev reader : client.Client
-  reader = client.opening site.config id []
+fresh_folded : (s : FreshRead) (xs : List Given) → folded fresh.next s xs ≡ (fresh.after s xs, fresh.gave s xs)
+fresh_folded s [] = refl
+fresh_folded s (x ∷ xs) = ap (λ (r : FreshRead × List Out). (r.0, (fresh.next s x).1 ++ r.1)) (fresh_folded (fresh.next s x).0 xs)
+
+module _ (id : ℕ) (site : Site) (observer : ℕ) (key : List ℕ) (least : ℕ) where
+  abbrev reader : FreshRead
+  reader = fresh.opening site.config id observer key least
 
   module _ (rest : List Given) where
     abbrev all : List Given
     all = givens.Read observer key ∷ rest
 
-    read_done_is : client.is_done (folded client.next reader all).0 ≡ client.is_done (client.after reader all)
-    read_done_is = ap (λ (r : client.Client × List Out). client.is_done r.0) (folded_is reader all)
+    read_done_is : fresh.is_done (folded fresh.next reader all).0 ≡ fresh.is_done (fresh.after reader all)
+    read_done_is = ap (λ (r : FreshRead × List Out). fresh.is_done r.0) (fresh_folded reader all)
 
-    answers_are : answer_count (folded client.next reader all).1 ≡ answer_count (client.gave reader all)
-    answers_are = ap (λ (r : client.Client × List Out). answer_count r.1) (folded_is reader all)
+    answers_are : fresh_count least (folded fresh.next reader all).1 ≡ fresh_count least (fresh.gave reader all)
+    answers_are = ap (λ (r : FreshRead × List Out). fresh_count least r.1) (fresh_folded reader all)
 
-  answered : (losses losses_now : ℕ) (h i : Option (List ℕ)) → LastLine (read_task id site observer key) losses losses_now statuses.Done h i
-      → WroteAnswers (address_of site (actors.Client id)) 1 h i
+  answered : (losses losses_now : ℕ) (h i : Option (List ℕ))
+      → LastLine (read_task id site observer key least) losses losses_now statuses.Done h i
+      → WroteAnswers (address_of site (actors.Client id)) least 1 h i
   answered losses losses_now h i l =
-      let done : client.is_done (client.after reader (all l.inputs)) ≡ true = sym (read_done_is l.inputs) ∙ was_done _ l.ends in
-      let count = one_answer site.config id observer key l.inputs (free l.inputs l.outside) (no_reads l.inputs l.outside) done in
+      let done : fresh.is_done (fresh.after reader (all l.inputs)) ≡ true = sym (read_done_is l.inputs) ∙ was_done _ l.ends in
+      let count = one_fresh site.config id observer key least l.inputs (no_reads l.inputs l.outside) done in
       record {
-        outs = (folded client.next reader (all l.inputs)).1;
+        outs = (folded fresh.next reader (all l.inputs)).1;
         taken = l.taken;
         lost = l.lost;
         answers = answers_are l.inputs ∙ count;
@@ -129,13 +135,13 @@ module _ (id : ℕ) (site : Site) (observer : ℕ) (key : List ℕ) where
       }
 
   unanswered : (losses losses_now : ℕ) (h i : Option (List ℕ))
-      → LastLine (read_task id site observer key) losses losses_now statuses.Unanswered h i
-      → WroteAnswers (address_of site (actors.Client id)) 0 h i
+      → LastLine (read_task id site observer key least) losses losses_now statuses.Unanswered h i
+      → WroteAnswers (address_of site (actors.Client id)) least 0 h i
   unanswered losses losses_now h i l =
-      let open_ : client.is_done (client.after reader (all l.inputs)) ≡ false = sym (read_done_is l.inputs) ∙ was_open _ l.ends in
-      let count = no_answer site.config id observer key l.inputs (free l.inputs l.outside) (no_reads l.inputs l.outside) open_ in
+      let open_ : fresh.is_done (fresh.after reader (all l.inputs)) ≡ false = sym (read_done_is l.inputs) ∙ was_open _ l.ends in
+      let count = none_fresh site.config id observer key least l.inputs (no_reads l.inputs l.outside) open_ in
       record {
-        outs = (folded client.next reader (all l.inputs)).1;
+        outs = (folded fresh.next reader (all l.inputs)).1;
         taken = l.taken;
         lost = l.lost;
         answers = answers_are l.inputs ∙ count;
@@ -143,8 +149,8 @@ module _ (id : ℕ) (site : Site) (observer : ℕ) (key : List ℕ) where
       }
 
   module _ {L : Type 0} (w : LinkView L) (p : PortsView L) (values : Option (List ℕ)) (h i : Option (List ℕ)) where
-    answers_reads : (s : Status) → NodeEnds (read_task id site observer key) w p values s h i
-        → AnswersReads (address_of site (actors.Client id)) s h i
+    answers_reads : (s : Status) → NodeEnds (read_task id site observer key least) w p values s h i
+        → AnswersReads (address_of site (actors.Client id)) least s h i
     answers_reads statuses.Done (inl u) = absurd u.status
     answers_reads statuses.Done (inr a) = answered 0 (w.losses a.link) h i a.last
     answers_reads statuses.Unanswered (inl u) = absurd u.status
@@ -154,7 +160,7 @@ module _ (id : ℕ) (site : Site) (observer : ℕ) (key : List ℕ) where
 module _ {S L : Type 0} (m : Meaning S) (w : LinkView L) (p : PortsView L) (values : Option (List ℕ)) where
   pub client_answers : (c : Option Command) (s : Status) (h i : Option (List ℕ)) → CommandEnds m c w p values s h i → ClientAnswers c s h i
   client_answers (Some (Client id site ops)) s h i ends = answers_ops id site ops w p values h i s ends
-  client_answers (Some (Read id site observer key)) s h i ends = answers_reads id site observer key w p values h i s ends
+  client_answers (Some (Read id site observer key least)) s h i ends = answers_reads id site observer key least w p values h i s ends
   client_answers _ s h i ends = tt
 
 pub no_answers : (c : Option Command) (h : Option (List ℕ)) → ClientAnswers c statuses.NoMemory h h

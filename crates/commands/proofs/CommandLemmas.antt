@@ -48,8 +48,8 @@ module _ {S L : Type 0} (m : Meaning S) (w : LinkView L) (p : PortsView L) (valu
       ends_well (client_task id site ops) w p values h i s x y ends ports write sink polls
   command_ends_well (Some (Observer id site)) s h i x y runs ends ports write sink polls =
       ends_well (observer_task m id site) w p values h i s x y ends ports write sink polls
-  command_ends_well (Some (Read id site asked key)) s h i x y runs ends ports write sink polls =
-      ends_well (read_task id site asked key) w p values h i s x y ends ports write sink polls
+  command_ends_well (Some (Read id site asked key least)) s h i x y runs ends ports write sink polls =
+      ends_well (read_task id site asked key least) w p values h i s x y ends ports write sink polls
   command_ends_well _ s h i x y runs ends ports write sink polls = absurd cc
 
   nowhere : {T : Type 0} (k : NodeTask T) (h : Option (List ℕ)) → p.after ≡ p.before → NodeEnds k w p values statuses.NoMemory h h
@@ -62,7 +62,7 @@ module _ {S L : Type 0} (m : Meaning S) (w : LinkView L) (p : PortsView L) (valu
   not_begun (Some (Controller site number install)) h same = nowhere (controller_task site number install) h same
   not_begun (Some (Client id site ops)) h same = nowhere (client_task id site ops) h same
   not_begun (Some (Observer id site)) h same = nowhere (observer_task m id site) h same
-  not_begun (Some (Read id site asked key)) h same = nowhere (read_task id site asked key) h same
+  not_begun (Some (Read id site asked key least)) h same = nowhere (read_task id site asked key least) h same
   not_begun _ h same = tt
 
   -- a command that does not run a node

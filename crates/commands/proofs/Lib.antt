@@ -3,5 +3,4 @@ pub mod CheckLemmas
 pub mod ClusterLemmas
 pub mod CommandLemmas
 pub mod NodeLemmas
-pub mod ReadLemmas
 pub mod RunLemmas

@@ -3,10 +3,11 @@ use Rattle.std.specs.Prelude.{◌≡◌, ℕ, ◌<◌, List, [], ◌++◌, lengt
 use Rattle.std.specs.Io.KnownBytes.{Appends}
 use Rattle.client_quorum.specs.Core as client
 use Rattle.client_quorum.specs.Runs.{accept_count}
-use Rattle.client_reads.specs.Runs.{answer_count}
 use Rattle.command_line.specs.declared.command.Command.{Command}
 use Rattle.command_line.specs.declared.command.Command.TheVariants.{Gen, Node, Sequencer, Controller, Client, Observer, Read}
 use Rattle.command_line.specs.declared.command.Site.{Site}
+use Rattle.fresh_reads.specs.FreshReads as fresh
+use Rattle.fresh_reads.specs.FreshReads.{fresh_count}
 use Rattle.nop_types.specs.Meaning.{Meaning}
 use Rattle.nop_types.specs.Given.{Given, Ticked}
 use Rattle.nop_types.specs.Given as inputs
@@ -66,10 +67,11 @@ observer_task m id site =
     task_of (observer.next m) never_done [] (observer.opening site.config id)
     (address_of site (actors.Observer id)) (first_inputs None) site.turns false
 
--- an observer is asked for the key before the first turn, and the client waits until it is answered
-abbrev pub read_task : ℕ → Site → (asked : ℕ) → (key : List ℕ) → NodeTask client.Client
-read_task id site asked key =
-    task_of client.next client.is_done client.timers (client.opening site.config id [])
+-- an observer is asked for the key before the first turn, and the client waits, and asks again, until it is answered at this position or
+-- a higher one
+abbrev pub read_task : ℕ → Site → (asked : ℕ) → (key : List ℕ) → (least : ℕ) → NodeTask fresh.FreshRead
+read_task id site asked key least =
+    task_of fresh.next fresh.is_done fresh.timers (fresh.opening site.config id asked key least)
     (address_of site (actors.Client id)) (first_inputs (Some (inputs.Read asked key))) site.turns true
 
 -- how a command that runs a node ends; nothing is said here of others
@@ -80,7 +82,7 @@ CommandEnds m (Some (Sequencer id site)) w p values s h i = NodeEnds (sequencer_
 CommandEnds m (Some (Controller site number install)) w p values s h i = NodeEnds (controller_task site number install) w p values s h i
 CommandEnds m (Some (Client id site ops)) w p values s h i = NodeEnds (client_task id site ops) w p values s h i
 CommandEnds m (Some (Observer id site)) w p values s h i = NodeEnds (observer_task m id site) w p values s h i
-CommandEnds m (Some (Read id site asked key)) w p values s h i = NodeEnds (read_task id site asked key) w p values s h i
+CommandEnds m (Some (Read id site asked key least)) w p values s h i = NodeEnds (read_task id site asked key least) w p values s h i
 CommandEnds m _ w p values s h i = ⊤
 
 -- ---- the answers of a client
@@ -99,24 +101,25 @@ AnswersOps at count statuses.Done h i = WroteAccepts at count h i
 AnswersOps at count statuses.Unanswered h i = (fewer : ℕ) × (fewer < count) × WroteAccepts at fewer h i
 AnswersOps at count _ h i = ⊤
 
--- the lines of some outputs were written, with so many answer lines among them, and then the last line
-pub record WroteAnswers (at : Address) (count : ℕ) (h i : Option (List ℕ)) : Type 0 where
+-- the lines of some outputs were written, with so many answer lines among them whose position is not below the least, and then the last
+-- line
+pub record WroteAnswers (at : Address) (least count : ℕ) (h i : Option (List ℕ)) : Type 0 where
   pub outs : List Out
   pub taken : ℕ
   pub lost : ℕ
-  pub answers : answer_count outs ≡ count
+  pub answers : fresh_count least outs ≡ count
   pub line : Appends h i (lines (effects at outs) ++ served_line taken lost)
 
--- by its status: an answer line was written, or none
-abbrev pub AnswersReads : Address → Status → Option (List ℕ) → Option (List ℕ) → Type 0
-AnswersReads at statuses.Done h i = WroteAnswers at 1 h i
-AnswersReads at statuses.Unanswered h i = WroteAnswers at 0 h i
-AnswersReads at _ h i = ⊤
+-- by its status: such an answer line was written, or none
+abbrev pub AnswersReads : Address → (least : ℕ) → Status → Option (List ℕ) → Option (List ℕ) → Type 0
+AnswersReads at least statuses.Done h i = WroteAnswers at least 1 h i
+AnswersReads at least statuses.Unanswered h i = WroteAnswers at least 0 h i
+AnswersReads at least _ h i = ⊤
 
 -- of a command that runs a client; nothing is said here of others
 abbrev pub ClientAnswers : Option Command → Status → Option (List ℕ) → Option (List ℕ) → Type 0
 ClientAnswers (Some (Client id site ops)) s h i = AnswersOps (address_of site (actors.Client id)) (length ops) s h i
-ClientAnswers (Some (Read id site asked key)) s h i = AnswersReads (address_of site (actors.Client id)) s h i
+ClientAnswers (Some (Read id site asked key least)) s h i = AnswersReads (address_of site (actors.Client id)) least s h i
 ClientAnswers _ s h i = ⊤
 
 -- whether a command runs a node
@@ -126,13 +129,13 @@ runs_node (Some (Sequencer id site)) = true
 runs_node (Some (Controller site number install)) = true
 runs_node (Some (Client id site ops)) = true
 runs_node (Some (Observer id site)) = true
-runs_node (Some (Read id site asked key)) = true
+runs_node (Some (Read id site asked key least)) = true
 runs_node _ = false
 
 -- whether it waits until its ops are accepted, or its read is answered
 abbrev pub waits_for_answers : Option Command → Bool
 waits_for_answers (Some (Client id site ops)) = true
-waits_for_answers (Some (Read id site asked key)) = true
+waits_for_answers (Some (Read id site asked key least)) = true
 waits_for_answers _ = false
 
 -- ---- gen

@@ -15,8 +15,8 @@
 //!     `udp_node` says, and writes its last line; a cluster ends as `one_box` says; each link is
 //!     given back.
 //!   - `client`: over any link, a client that ends Done wrote an accept line for each of its ops,
-//!     and one that ends Unanswered fewer; a `read` that ends Done wrote one answer line, and one
-//!     that ends Unanswered none.
+//!     and one that ends Unanswered fewer; a `read` that ends Done wrote one answer line whose
+//!     position is not below the one that was asked for, and one that ends Unanswered none.
 //!   - `writes`: WriteFault comes only where a write failed, and a write that failed is always told:
 //!     the sink's count of faults rose by one at WriteFault, and stayed at every other status.
 //!   - `reads`: the source's count of faults rose by one at ReadFault; at WriteFault and NoMemory

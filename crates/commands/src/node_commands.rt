@@ -1,6 +1,7 @@
 //! The commands that run a node.
 
-ghost use Rattle.std.specs.Prelude.{◌≡◌, ◌<◌, false, option_map, true};
+ghost use Rattle.std.specs.Prelude.{◌≡◌, ◌<◌, false, option_map, true, IfOk};
+ghost use Rattle.fresh_reads.specs.FreshReads.{opening};
 ghost use Rattle.nop_types.specs.Given.{given};
 ghost use Rattle.nop_types.specs.declared.limits.TheConstants.{MAX_SEQUENCERS, MAX_CONTROLLERS, MAX_OBSERVERS};
 ghost use Rattle.commands.specs.Nodes.{NodeEndsOver};
@@ -11,6 +12,7 @@ use crate::node::{Task, run_core};
 use crate::status::Status;
 use client_quorum::Client;
 use command_line::{Ops, Site};
+use fresh_reads::FreshRead;
 use nop_types::{Actor, Host, Input, Key, NoMemory, Tick};
 use observer::Observer;
 use outside::{Clock, Ports, Sink};
@@ -184,7 +186,24 @@ pub(crate) fn run_observer<H: Host, P: Ports, T: Clock, K: Sink>(
     }
 }
 
-/// A client asks an observer for a key, and waits for the answer.
+/// A client that asks an observer for a key until an answer's position is not below `least`.
+fn reader(
+    alloc: Global,
+    id: u32,
+    site: &Site,
+    observer: u8,
+    key: &Key,
+    least: u32,
+) -> Result<FreshRead, NoMemory>
+    ensures { IfOk result (λ c. c ≡ record {
+      failed = false;
+      state = opening site.now.config id observer key.now least;
+    }) }
+{
+    FreshRead::new(alloc, site.config, id, observer, key.try_clone()?, least)
+}
+
+/// A client asks an observer for a key, and waits for an answer whose position is not below `least`.
 #[tactic(auto, using(crate::proofs::NodeLemmas::not_run))]
 pub(crate) fn run_read<P: Ports, T: Clock, K: Sink>(
     alloc: Global,
@@ -192,15 +211,16 @@ pub(crate) fn run_read<P: Ports, T: Clock, K: Sink>(
     site: &Site,
     observer: u8,
     key: Key,
+    least: u32,
     ports: &mut P,
     clock: &mut T,
     sink: &mut K,
 ) -> Status
     ensures { NodeEndsOver P.L.Link P.Ports T.Clock K.Sink
-        (read_task id site.now observer key)
+        (read_task id site.now observer key least)
         ports.old ports.new clock.old sink.old sink.new result }
 {
-    match Client::new(alloc, site.config, id, Vec::new(alloc)) {
+    match reader(alloc, id, site, observer, &key, least) {
         Ok(core) => {
             let mut core = core;
             let at = address(site, Actor::Client(id));

@@ -123,8 +123,8 @@ fn carry_out<H: Host, S: Source, K: Sink, P: Ports, C: Clock>(
         Command::Observer(id, site) => {
             run_observer::<H, P, C, K>(alloc, id, &site, ports, clock, sink)
         }
-        Command::Read(id, site, observer, key) => {
-            run_read(alloc, id, &site, observer, key, ports, clock, sink)
+        Command::Read(id, site, observer, key, least) => {
+            run_read(alloc, id, &site, observer, key, least, ports, clock, sink)
         }
     }
 }

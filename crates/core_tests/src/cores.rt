@@ -223,31 +223,52 @@ fn the_last_session(rt: HostRuntime) {
     play(&rt, alloc, from_mut(&mut core), &mut sent, LAST_SESSION);
 }
 
-/// One op: its request, a second op while it is pending, a follower's reply that comes twice, the request again, and the leader's reply.
+/// One op of its own and one that is submitted: the second is accepted first, by a follower's reply that comes twice and its leader's. A
+/// reply is kept for its own request, and what is open is sent again.
 const CLIENT: &str = "\
 0 tick next
   0 submitted 1
   1 Sequencers 4e4f030100000000000000000000000100075000016b000176
 0 submit 5000016b000176
-  2 busy
-0 packet 4e4f0303 01 00000000 0000000000000001 00000001 00000000 0000000000000001 00 0000
-0 packet 4e4f0303 01 00000000 0000000000000001 00000001 00000000 0000000000000001 00 0000
+  2 submitted 2
+  3 Sequencers 4e4f030100000000000000000000000200075000016b000176
+0 packet 4e4f0303 01 00000000 0000000000000001 00000002 00000000 0000000000000002 00 0000
+0 packet 4e4f0303 01 00000000 0000000000000001 00000002 00000000 0000000000000002 00 0000
 0 tick retry
-  3 Sequencers 4e4f030100000000000000000000000100075000016b000176
+  4 Sequencers 4e4f030100000000000000000000000100075000016b000176
+  5 Sequencers 4e4f030100000000000000000000000200075000016b000176
 0 packet 4e4f0303 00 00000000 0000000000000001 00000001 00000000 0000000000000001 01 0004 6e6f6e65
-  4 accepted 1 6e6f6e65
-0 packet 4e4f0303 00 00000000 0000000000000001 00000001 00000000 0000000000000001 01 0004 6e6f6e65
+0 packet 4e4f0303 00 00000000 0000000000000001 00000002 00000000 0000000000000002 01 0004 6e6f6e65
+  6 accepted 2 6e6f6e65
+0 tick retry
+  7 Sequencers 4e4f030100000000000000000000000100075000016b000176
+0 packet 4e4f0303 01 00000000 0000000000000001 00000001 00000000 0000000000000001 00 0000
+  8 accepted 1 6e6f6e65
+0 packet 4e4f0303 01 00000000 0000000000000001 00000001 00000000 0000000000000001 00 0000
 0 tick retry
 0 tick next
 ";
 
+/// A client of three replicas with these ops.
+fn client_with(rt: &impl Abort, alloc: Global, ops: Vec<Op>) -> Client {
+    let config = Config::new(3, 1, 1, 1, 0).expect(rt, "a group");
+    Client::new(alloc, config, 0, ops).expect(rt, "memory")
+}
+
 /// A client of three replicas with one op.
 pub fn client(rt: &impl Abort, alloc: Global) -> Client {
-    let config = Config::new(3, 1, 1, 1, 0).expect(rt, "a group");
     let op = Op::new(alloc, b"P\0\x01k\0\x01v").expect(rt, "memory");
     let mut ops = Vec::new(alloc);
     ops.push(op).expect(rt, "memory");
-    Client::new(alloc, config, 0, ops).expect(rt, "memory")
+    client_with(rt, alloc, ops)
+}
+
+/// The slot of the acceptance of an id.
+fn slot_of(core: &Client, id: u64) -> Option<u32> {
+    match core.accepted(id) {
+        Some(accept) => Some(accept.slot),
+        None => None,
+    }
 }
 
 #[test]
@@ -256,7 +277,58 @@ fn a_client(rt: HostRuntime) {
     let mut core = client(&rt, alloc);
     let mut sent = Outbox::new(alloc);
     play(&rt, alloc, from_mut(&mut core), &mut sent, CLIENT);
-    assert!(rt; core.done() && core.accepted().is_some());
+    assert!(rt; core.done() && slot_of(&core, 1) == Some(1) && slot_of(&core, 2) == Some(2));
+    assert!(rt; slot_of(&core, 0).is_none() && slot_of(&core, 3).is_none());
     let expected = "Some((Next, 0)) Some((Retry, 200)) None None";
     check_text(&rt, &timers(&rt, alloc, &core), expected);
+}
+
+/// Eight requests are open, and the ninth op is busy. So it is where the first one is still open, which the next id would exceed by eight.
+const EIGHT: &str = "\
+0 submit 5000016b000176
+  0 submitted 1
+  1 Sequencers 4e4f030100000000000000000000000100075000016b000176
+0 submit 5000016b000176
+  2 submitted 2
+  3 Sequencers 4e4f030100000000000000000000000200075000016b000176
+0 submit 5000016b000176
+  4 submitted 3
+  5 Sequencers 4e4f030100000000000000000000000300075000016b000176
+0 submit 5000016b000176
+  6 submitted 4
+  7 Sequencers 4e4f030100000000000000000000000400075000016b000176
+0 submit 5000016b000176
+  8 submitted 5
+  9 Sequencers 4e4f030100000000000000000000000500075000016b000176
+0 submit 5000016b000176
+  10 submitted 6
+  11 Sequencers 4e4f030100000000000000000000000600075000016b000176
+0 submit 5000016b000176
+  12 submitted 7
+  13 Sequencers 4e4f030100000000000000000000000700075000016b000176
+0 submit 5000016b000176
+  14 submitted 8
+  15 Sequencers 4e4f030100000000000000000000000800075000016b000176
+0 submit 5000016b000176
+  16 busy
+0 packet 4e4f0303 01 00000000 0000000000000001 00000002 00000000 0000000000000002 00 0000
+0 packet 4e4f0303 00 00000000 0000000000000001 00000002 00000000 0000000000000002 01 0004 6e6f6e65
+  17 accepted 2 6e6f6e65
+0 submit 5000016b000176
+  18 busy
+0 packet 4e4f0303 01 00000000 0000000000000001 00000001 00000000 0000000000000001 00 0000
+0 packet 4e4f0303 00 00000000 0000000000000001 00000001 00000000 0000000000000001 01 0004 6e6f6e65
+  19 accepted 1 6e6f6e65
+0 submit 5000016b000176
+  20 submitted 9
+  21 Sequencers 4e4f030100000000000000000000000900075000016b000176
+";
+
+#[test]
+fn a_client_with_eight_open_requests(rt: HostRuntime) {
+    let alloc = rt.alloc();
+    let mut core = client_with(&rt, alloc, Vec::new(alloc));
+    let mut sent = Outbox::new(alloc);
+    play(&rt, alloc, from_mut(&mut core), &mut sent, EIGHT);
+    assert!(rt; !core.done() && slot_of(&core, 1).is_none() && slot_of(&core, 2) == Some(2));
 }

@@ -1,8 +1,10 @@
 //! Tests alone, by the public calls of the crates below: the cores one by one, and groups of
 //! replicas that are driven by hand-written deliveries, forged ones too, with logs that are trimmed
-//! and full ones; and an observer.
+//! and full ones; an observer; and a client that asks one until an answer is new enough.
 #![tactic(auto)]
 
+#[cfg(test)]
+mod asking;
 #[cfg(test)]
 mod cores;
 #[cfg(test)]

@@ -78,7 +78,7 @@ fn take<C: Core>(
 /// A datagram with its destination and its bytes, or how many they are where they are many.
 fn text_of_send(rt: &impl Abort, alloc: Global, dest: &Dest, bytes: &[u8]) -> String {
     let len = bytes.len();
-    if len > 84 {
+    if len > 92 {
         return format!(in alloc; "{dest:?} {len} bytes").expect(rt, "memory");
     }
     let digits = hex::encode(alloc, bytes).expect(rt, "memory");
@@ -88,6 +88,11 @@ fn text_of_send(rt: &impl Abort, alloc: Global, dest: &Dest, bytes: &[u8]) -> St
 fn text_of_accept(rt: &impl Abort, alloc: Global, id: u64, answer: &[u8]) -> String {
     let digits = hex::encode(alloc, answer).expect(rt, "memory");
     format!(in alloc; "accepted {id} {digits}").expect(rt, "memory")
+}
+
+fn text_of_answer(rt: &impl Abort, alloc: Global, id: u64, position: u32, answer: &[u8]) -> String {
+    let digits = hex::encode(alloc, answer).expect(rt, "memory");
+    format!(in alloc; "answered {id} {position} {digits}").expect(rt, "memory")
 }
 
 /// The slot of the first entry that moved out of a log, and the entries.
@@ -106,8 +111,16 @@ fn text_of(rt: &impl Abort, alloc: Global, out: &Out) -> String {
         }
         Out::Accepted { id, result, .. } => text_of_accept(rt, alloc, *id, result.as_slice()),
         Out::Busy(_) => String::from_str(alloc, "busy").expect(rt, "memory"),
+        Out::Reading { id, observer, .. } => {
+            format!(in alloc; "reading {id} {observer}").expect(rt, "memory")
+        }
+        Out::Answered {
+            id,
+            position,
+            result,
+            ..
+        } => text_of_answer(rt, alloc, *id, *position, result.as_slice()),
         Out::Trimmed { first, entries } => text_of_trimmed(rt, alloc, *first, entries),
-        _ => panic!(rt; "no such output"),
     }
 }
 

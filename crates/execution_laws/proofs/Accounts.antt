@@ -15,8 +15,10 @@ use Rattle.std.proofs.lemmas.Cmp.{nat_cmp_total, eq_by_cmp_equiv}
 use Rattle.std.proofs.lemmas.Map.Keys.{IsStrictlyIncreasing-from_sorted}
 use Rattle.nop_types.specs.Lists.{IsGreatest, is_in}
 use Rattle.nop_types.specs.Windows.{greatest, is_new}
-use Rattle.nop_types.specs.Tables.{Answered, Account, Table, kept_for, kept_ids, result_in, result_kept, is_new_to, with_answered, within}
+use Rattle.nop_types.specs.declared.checkpoint.Answered.{Answered}
+use Rattle.nop_types.specs.Tables.{Account, Table, kept_for, kept_ids, result_in, result_kept, is_new_to, with_answered, within}
 use Rattle.nop_types.specs.Tables.{account_with}
+use Rattle.lemmas.proofs.Kept.{in_with, in_within}
 use Rattle.execution_laws.specs.Execution.{IsAccountOf}
 use Rattle.execution_laws.proofs.Windows.{is_in-push, has-is_in, greatest_is, IsGreatest-one, IsGreatest-more}
 
@@ -29,41 +31,6 @@ pub kept_for-insert : (table : Table) (c : ℕ) (a : Account) (q : ℕ)
     → kept_for (finite.insert table c a) q ≡ cond (eqb c q) (Some a) (kept_for table q)
 kept_for-insert table c a q =
     finite.get-insert nat_cmp_total table c a q ∙ ap (λ (b : Bool). cond b (Some a) (kept_for table q)) (tied c q)
-
--- ---- a result in its place
-
-in_with : (a : Answered) (kept : List Answered) (k : ℕ)
-    → is_in (kept_ids (with_answered a kept)) k ≡ (eqb a.id k || is_in (kept_ids kept) k)
-in_with a [] k = refl
-in_with a (b ∷ kept) k = on (nat_lt a.id b.id) (in_with a kept k)
-  where
-    turn : (x y z : Bool) → (x || (y || z)) ≡ (y || (x || z))
-    turn true true z = refl
-    turn true false z = refl
-    turn false y z = refl
-
-    on : (t : Bool) → is_in (kept_ids (with_answered a kept)) k ≡ (eqb a.id k || is_in (kept_ids kept) k)
-        → is_in (kept_ids (cond t (a ∷ b ∷ kept) (b ∷ with_answered a kept))) k ≡ (eqb a.id k || (eqb b.id k || is_in (kept_ids kept) k))
-    on true rest = refl
-    on false rest = ap (λ (t : Bool). eqb b.id k || t) rest ∙ turn (eqb b.id k) (eqb a.id k) (is_in (kept_ids kept) k)
-
-in_within : (w g : ℕ) (kept : List Answered) (k : ℕ)
-    → is_in (kept_ids (within w g kept)) k ≡ (is_in (kept_ids kept) k && nat_lt g (k + w))
-in_within w g [] k = refl
-in_within w g (a ∷ kept) k = on (nat_lt g (a.id + w)) (eqb a.id k) refl refl (in_within w g kept k)
-  where
-    on : (t u : Bool) → nat_lt g (a.id + w) ≡ t → eqb a.id k ≡ u
-        → is_in (kept_ids (within w g kept)) k ≡ (is_in (kept_ids kept) k && nat_lt g (k + w))
-        → is_in (kept_ids (cond t (a ∷ within w g kept) (within w g kept))) k ≡ ((u || is_in (kept_ids kept) k) && nat_lt g (k + w))
-    on true true p q rest =
-        let same : a.id ≡ k = eqb-true a.id k q in
-        ap (λ (b : Bool). b || is_in (kept_ids (within w g kept)) k) q ∙ sym (ap (λ (n : ℕ). nat_lt g (n + w)) (sym same) ∙ p)
-    on true false p q rest = ap (λ (b : Bool). b || is_in (kept_ids (within w g kept)) k) q ∙ rest
-    on false true p q rest =
-        let same : a.id ≡ k = eqb-true a.id k q in
-        let far : nat_lt g (k + w) ≡ false = ap (λ (n : ℕ). nat_lt g (n + w)) (sym same) ∙ p in
-        rest ∙ and_right (is_in (kept_ids kept) k) (nat_lt g (k + w)) far ∙ sym far
-    on false false p q rest = rest
 
 -- ---- ids that ascend
 

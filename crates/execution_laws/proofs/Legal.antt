@@ -3,7 +3,7 @@ use Rattle.std.proofs.Common.{◌≡◌, ℕ, zero, suc, ◌<◌, ◌≤◌, Lis
 use Rattle.std.proofs.Common.{arith, inl, inr}
 use Rattle.std.specs.Prelude.{slice_get}
 use Rattle.std.proofs.lemmas.Bool.{cases_lt}
-use Rattle.std.proofs.lemmas.List.{append-nil}
+use Rattle.std.proofs.lemmas.List.{append-nil, length-take, length-take-le}
 use Rattle.std.proofs.lemmas.Option.{slice_get_within}
 use Rattle.nop_types.specs.declared.request.Request.{Request}
 use Rattle.nop_types.specs.declared.request.Entry.{Entry}
@@ -14,10 +14,10 @@ use Rattle.nop_types.specs.Lines.{Line, Submit, Accept}
 use Rattle.nop_types.specs.Histories.{history_of}
 use Rattle.nop_types.specs.Legality.{IsOf, IsSubmittedBefore, IsAnswered, Legal}
 use Rattle.lemmas.proofs.Places.{slice_get-append_left, slice_get-append_within, slice_get-push_cases}
-use Rattle.lemmas.proofs.Prefixes.{IsPrefixOf-take}
+use Rattle.lemmas.proofs.Prefixes.{length-prefix, IsPrefixOf-shorter, IsPrefixOf-take}
 use Rattle.lemmas.proofs.Members.{Has-append_left, Has-append_cases, Has-one}
-use Rattle.lemmas.proofs.Slots.{Has-slot_of, Carries-prefix}
-use Rattle.execution_laws.specs.Legality.{IsOtherLine, IsUnsubmitted, IsUnaccepted, IsNoMember, IsGrounded, Grounded}
+use Rattle.lemmas.proofs.Slots.{Has-slot_of, slot_of-within, Carries-prefix}
+use Rattle.execution_laws.specs.Legality.{IsOtherLine, IsUnsubmitted, IsUnaccepted, IsNoMember, IsGrounded, Grounded, StandsFrom}
 use Rattle.execution_laws.proofs.Ids.{IsOf-refl, IsOf-trans, IsOf-both}
 use Rattle.execution_laws.proofs.Members.{members_are_logged, members_are_distinct, history_of_prefix, answered_as, answer_stays}
 use Rattle.execution_laws.proofs.Results.{result_is_answered, result_needs_prefix}
@@ -218,3 +218,21 @@ module _ {S : Type 0} (m : Meaning S) (lines : List Line) (log : List Entry) whe
         let far : length (history_of (take g.slot log)) ≤ j = later_member_is_behind all k l client id result p b j lt g submit at_j is_b in
         omega (arith, one, near, far);
   }
+
+-- a request with grounds in one log stands from their slot on in each log that begins with its entries up to there
+pub grounds_stand : {S : Type 0} (m : Meaning S) (lines : List Line) (log other : List Entry) (k client id : ℕ) (result : List ℕ)
+    (g : IsGrounded m lines log k client id result) → IsPrefixOf (take g.slot log) other → StandsFrom m other client id g.slot result
+grounds_stand m lines log other k client id result g begins =
+    let there = slot_of-within log g.slot (Req g.request) g.entry in
+    let long : length (take g.slot log) ≡ g.slot = length-take-le g.slot log there.1 in
+    let inside : length (take g.slot log) ≤ length other = length-prefix (take g.slot log) other begins in
+    record {
+      within = omega (arith, long, inside);
+      answered = λ position behind.
+          let most = length-take position other in
+          let part : IsPrefixOf (take g.slot log) (take position other) =
+          IsPrefixOf-shorter (take g.slot log) (take position other) other begins (IsPrefixOf-take position other)
+          (omega (arith, long, inside, most, behind)) in
+          answer_stays m (history_of (take g.slot log)) (history_of (take position other)) client id result
+          (history_of_prefix (take g.slot log) (take position other) part) (answered_up_to_slot m lines log k client id result g);
+    }

@@ -1,19 +1,20 @@
 -- The result at a slot.
-use Rattle.std.proofs.Common.{◌≡◌, ℕ, zero, suc, ◌+◌, ◌≤◌, Bool, true, false, not, cond, eqb, List, [], ◌∷◌, ◌++◌, length, take, Option}
+use Rattle.std.proofs.Common.{◌≡◌, ℕ, zero, suc, ◌+◌, ◌≤◌, Bool, true, false, not, cond, eqb, List, [], ◌∷◌, ◌++◌, length, take, drop, Option}
 use Rattle.std.proofs.Common.{Some}
 use Rattle.std.proofs.Common.{None, is_some, refl, sym, ap, subst, ◌∙◌, add-one, arith}
 use Rattle.std.specs.Prelude.{◌&&◌, nat_lt, nat_le, slice_get}
-use Rattle.std.proofs.lemmas.Bool.{and_parts, or_right, eq-eqb}
+use Rattle.std.proofs.lemmas.Bool.{and_parts, and_right, or_right, eq-eqb}
 use Rattle.std.proofs.lemmas.Bool.Decides.{nat_tests}
-use Rattle.std.proofs.lemmas.List.{take-append-le, take_all}
+use Rattle.std.proofs.lemmas.List.{take-append-drop, take-append-le, take_all}
 use Rattle.nop_types.specs.declared.limits.TheConstants.{WINDOW}
 use Rattle.nop_types.specs.declared.request.Request.{Request}
 use Rattle.nop_types.specs.declared.request.Entry.{Entry}
 use Rattle.nop_types.specs.declared.request.Entry.TheVariants.{NoOp, Req}
 use Rattle.nop_types.specs.Meaning.{Meaning}
-use Rattle.nop_types.specs.Lists.{IsPrefixOf, slot_of, is_in}
+use Rattle.nop_types.specs.Lists.{Has, IsPrefixOf, slot_of, is_in}
 use Rattle.nop_types.specs.Windows.{is_stale}
-use Rattle.nop_types.specs.Tables.{Answered, Account, kept_for, result_kept, is_new_to, serves, account_with}
+use Rattle.nop_types.specs.declared.checkpoint.Answered.{Answered}
+use Rattle.nop_types.specs.Tables.{Account, kept_for, result_kept, is_new_to, serves, account_with}
 use Rattle.nop_types.specs.Execution.{Executed, opening, ids_of, clients_of, is_served, execute, exec, takes, enter_kept, result_at}
 use Rattle.nop_types.specs.Histories.{history_of}
 use Rattle.nop_types.specs.Legality.{IsOf, IsAnswered}
@@ -22,12 +23,20 @@ use Rattle.lemmas.proofs.Prefixes.{IsPrefixOf-take}
 use Rattle.lemmas.proofs.Slots.{slot_of-push}
 use Rattle.execution_laws.specs.Execution.{execute_all, IsAccountOf}
 use Rattle.execution_laws.specs.Histories.{IsExecutedAt}
-use Rattle.execution_laws.proofs.Ids.{IsOf-refl, ids_of-push_own}
-use Rattle.execution_laws.proofs.Windows.{is_in-push, greatest_is, stale_with_itself}
+use Rattle.execution_laws.proofs.Ids.{IsOf-refl, ids_of-append, ids_of-push_own, has_id}
+use Rattle.execution_laws.proofs.Windows.{is_in-push, greatest_is, stale_with_itself, far_is_stale, not_stale_before}
 use Rattle.execution_laws.proofs.Accounts.{kept_for-insert, has_result, new_result_is_kept}
 use Rattle.execution_laws.proofs.Members.{member_stands, history_of_prefix, answered_as, answer_stays, answers_are_equal}
 use Rattle.execution_laws.proofs.Steps.{exec_of_next_entry, exec_is_of_history, answer_of_member, kept_is_answered}
 use Rattle.execution_laws.proofs.Tables.{window_is_open, next_entry_by_kept, table_serves_the_first, accounts_are_of_log}
+
+not_stale_here : (served stale : Bool) → stale ≡ false → (served && not stale) ≡ served
+not_stale_here true stale e = ap not e
+not_stale_here false stale e = refl
+
+no_result : (o : Option (List ℕ)) → is_some o ≡ false → o ≡ None
+no_result None e = refl
+no_result (Some x) e = absurd cc
 
 -- an account keeps a result with the last of its ids where that is not stale
 account_has_last : (w : ℕ) (ids : List ℕ) (id : ℕ) (a : Account) → 1 ≤ w → IsAccountOf w (ids ++ id ∷ []) a
@@ -99,6 +108,27 @@ module _ {S : Type 0} (m : Meaning S) where
       ∙ ap (λ (b : Bool). is_served (clients_of (take i log ++ Req r ∷ [])) r.client && not b)
       (sym (ap (λ (ids : List ℕ). is_stale WINDOW ids r.id) (ids_of-push_own (take i log) r)
       ∙ stale_with_itself WINDOW (ids_of r.client (take i log)) r.id window_is_open)))
+
+  -- so it is where the id is not stale in the end
+  pub has_result_unless_stale : (log : List Entry) (s : ℕ) (r : Request) → slot_of log s ≡ Some (Req r)
+      → is_stale WINDOW (ids_of r.client log) r.id ≡ false → is_some (result_at m log s) ≡ is_served (clients_of (take s log)) r.client
+  has_result_unless_stale log s r h fresh =
+      let parts : ids_of r.client log ≡ ids_of r.client (take s log) ++ ids_of r.client (drop s log) =
+      ap (λ (l : List Entry). ids_of r.client l) (sym (take-append-drop s log)) ∙ ids_of-append r.client (take s log) (drop s log) in
+      has_result_where_served log s r h
+      ∙ not_stale_here (is_served (clients_of (take s log)) r.client) (is_stale WINDOW (ids_of r.client (take s log)) r.id)
+      (not_stale_before WINDOW (ids_of r.client (take s log)) (ids_of r.client (drop s log)) r.id
+      (subst (λ (ids : List ℕ). is_stale WINDOW ids r.id ≡ false) parts fresh))
+
+  -- it has none where one of its client a window ahead is before it
+  pub stale_has_no_result : (log : List Entry) (s : ℕ) (q r : Request) → slot_of log s ≡ Some (Req r) → Has (take s log) (Req q)
+      → q.client ≡ r.client → r.id + WINDOW ≤ q.id → result_at m log s ≡ None
+  stale_has_no_result log s q r h has own far =
+      let stale : is_stale WINDOW (ids_of r.client (take s log)) r.id ≡ true =
+      far_is_stale WINDOW (ids_of r.client (take s log)) r.id q.id (has_id (take s log) q r.client own has) far in
+      no_result (result_at m log s)
+      (has_result_where_served log s r h
+      ∙ and_right (is_served (clients_of (take s log)) r.client) (not (is_stale WINDOW (ids_of r.client (take s log)) r.id)) (ap not stale))
 
   -- the answer to a request that is executed is kept
   pub executed_is_kept : (x : Executed S) (r : Request) → takes x.table r ≡ true

@@ -8,7 +8,8 @@ use Rattle.nop_types.specs.declared.limits.TheConstants.{MAX_HOST_BYTES, MAX_RES
 use Rattle.nop_types.specs.declared.request.Entry.{Entry}
 use Rattle.nop_types.specs.Meaning.{Meaning}
 use Rattle.nop_types.specs.Lists.{Has}
-use Rattle.nop_types.specs.Tables.{Answered, Account, Table}
+use Rattle.nop_types.specs.declared.checkpoint.Answered.{Answered}
+use Rattle.nop_types.specs.Tables.{Account, Table}
 use Rattle.nop_types.specs.Execution.{Executed, clients_of, exec}
 use Rattle.nop_types.specs.Checkpoints.{checkpoint_of, loaded_of, KeepsTo}
 use Rattle.execution_laws.proofs.Shortness.{exec_within}

@@ -14,7 +14,8 @@ use Rattle.nop_types.specs.declared.request.Request.{Request}
 use Rattle.nop_types.specs.declared.request.Entry.{Entry}
 use Rattle.nop_types.specs.Meaning.{Meaning}
 use Rattle.nop_types.specs.Lists.{Has}
-use Rattle.nop_types.specs.Tables.{Answered, Account, kept_for, result_in, result_kept, with_answered, account_with}
+use Rattle.nop_types.specs.declared.checkpoint.Answered.{Answered}
+use Rattle.nop_types.specs.Tables.{Account, kept_for, result_in, result_kept, with_answered, account_with}
 use Rattle.nop_types.specs.Execution.{Executed, opening, execute, exec, result_at}
 use Rattle.nop_types.specs.Histories.{history_of}
 use Rattle.lemmas.proofs.Members.{Has-first, Has-rest, Has-none, Has-cases, Has-from_filter}

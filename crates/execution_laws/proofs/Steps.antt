@@ -13,7 +13,8 @@ use Rattle.nop_types.specs.declared.request.Entry.{Entry}
 use Rattle.nop_types.specs.declared.request.Entry.TheVariants.{NoOp, Req}
 use Rattle.nop_types.specs.Meaning.{Meaning}
 use Rattle.nop_types.specs.Lists.{Has}
-use Rattle.nop_types.specs.Tables.{Answered, Account, kept_for, result_kept, account_with}
+use Rattle.nop_types.specs.declared.checkpoint.Answered.{Answered}
+use Rattle.nop_types.specs.Tables.{Account, kept_for, result_kept, account_with}
 use Rattle.nop_types.specs.Execution.{Executed, opening, is_executed, execute, enter, exec_from, exec, enter_kept, exec_kept}
 use Rattle.nop_types.specs.Histories.{new_in, history_from, history_of, answer_from, answer_at}
 use Rattle.nop_types.specs.Legality.{IsOf, IsAnswered}

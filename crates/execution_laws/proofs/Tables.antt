@@ -16,7 +16,8 @@ use Rattle.nop_types.specs.declared.request.Entry.TheVariants.{NoOp, Req}
 use Rattle.nop_types.specs.Meaning.{Meaning}
 use Rattle.nop_types.specs.Lists.{is_in}
 use Rattle.nop_types.specs.Windows.{is_new}
-use Rattle.nop_types.specs.Tables.{Answered, Account, Table, kept_for, is_new_to, account_with, kept_ids}
+use Rattle.nop_types.specs.declared.checkpoint.Answered.{Answered}
+use Rattle.nop_types.specs.Tables.{Account, Table, kept_for, is_new_to, account_with, kept_ids}
 use Rattle.nop_types.specs.Execution.{Executed, opening, ids_of, with_client, clients_of, is_served, is_executed, execute, enter, exec_from}
 use Rattle.nop_types.specs.Execution.{exec, takes, enter_kept, exec_kept}
 use Rattle.execution_laws.specs.Execution.{IsAccountOf}

@@ -1,5 +1,5 @@
 -- Windows of ids: which ids are new, and which are stale.
-use Rattle.std.proofs.Common.{◌≡◌, ℕ, zero, suc, ◌+◌, ◌≤◌, Bool, true, false, not, eqb, List, [], ◌∷◌, ◌++◌, refl, ap, ◌∙◌, arith, inl, inr}
+use Rattle.std.proofs.Common.{◌≡◌, ℕ, zero, suc, ◌+◌, ◌≤◌, ◌<◌, Bool, true, false, not, eqb, List, [], ◌∷◌, ◌++◌, refl, ap, ◌∙◌, arith, inl, inr}
 use Rattle.std.proofs.Common.{max}
 use Rattle.std.specs.Prelude.{◌&&◌, ◌||◌, ◌⊎◌, nat_lt, nat_le}
 use Rattle.std.proofs.Math.Bool.{or-false}
@@ -98,6 +98,26 @@ stale_with_itself w ids id low = ap (nat_le (id + w)) (greatest-push ids id) ∙
   where
     same : (g : ℕ) → nat_le (id + w) (max g id) ≡ nat_le (id + w) g
     same g = grind (arith, nat_tests)
+
+-- nor is it stale where it is less than a window behind each of those before
+pub near_is_not_stale : (w : ℕ) (ids : List ℕ) (id : ℕ) → 1 ≤ w → ((k : ℕ) → Has ids k → k < id + w) → is_stale w ids id ≡ false
+near_is_not_stale zero ids id low near = absurd (omega (arith, low))
+near_is_not_stale (suc v) ids id low near =
+    let most : greatest ids ≤ id + v = greatest_within ids (id + v) (λ k h. (let less : k < id + suc v = near k h in omega (arith, less))) in
+    grind (arith, nat_tests)
+
+-- and it is where one of them is a window ahead, or more
+pub far_is_stale : (w : ℕ) (ids : List ℕ) (id k : ℕ) → Has ids k → id + w ≤ k → is_stale w ids id ≡ true
+far_is_stale w ids id k h far = let high : k ≤ greatest ids = at_most_greatest ids k h in grind (arith, nat_tests)
+
+-- what is not stale in the end was not stale before
+pub not_stale_before : (w : ℕ) (ids more : List ℕ) (id : ℕ) → is_stale w (ids ++ more) id ≡ false → is_stale w ids id ≡ false
+not_stale_before w ids more id fresh =
+    below (greatest ids) (greatest (ids ++ more)) (id + w)
+    (greatest_within ids (greatest (ids ++ more)) (λ k h. at_most_greatest (ids ++ more) k (Has-append_left ids more k h))) fresh
+  where
+    below : (a b n : ℕ) → a ≤ b → nat_le n b ≡ false → nat_le n a ≡ false
+    below a b n less e = grind (arith, nat_tests)
 
 -- ---- with a window of one
 

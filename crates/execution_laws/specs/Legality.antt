@@ -1,5 +1,5 @@
 -- What the laws on legality speak of: lines that are added, and why a line may accept.
-use Rattle.std.specs.Prelude.{◌≡◌, ⊤, ℕ, List, take, Some, slice_get}
+use Rattle.std.specs.Prelude.{◌≡◌, ◌≤◌, ⊤, ℕ, List, length, take, Some, slice_get}
 use Rattle.nop_types.specs.declared.request.Request.{Request}
 use Rattle.nop_types.specs.declared.request.Entry.{Entry}
 use Rattle.nop_types.specs.declared.request.Entry.TheVariants.{Req}
@@ -7,7 +7,8 @@ use Rattle.nop_types.specs.Meaning.{Meaning}
 use Rattle.nop_types.specs.Lists.{Has, slot_of}
 use Rattle.nop_types.specs.Lines.{Line, Submit, Accept}
 use Rattle.nop_types.specs.Execution.{result_at}
-use Rattle.nop_types.specs.Legality.{IsOf, IsSubmittedBefore, AcceptedOnce}
+use Rattle.nop_types.specs.Histories.{history_of}
+use Rattle.nop_types.specs.Legality.{IsOf, IsAnswered, IsSubmittedBefore, AcceptedOnce}
 
 -- a line that neither submits nor accepts
 abbrev pub IsOtherLine : Line → Type 0
@@ -41,6 +42,12 @@ pub record IsGrounded {S : Type 0} (m : Meaning S) (lines : List Line) (log : Li
   pub same : IsOf client id request
   pub gives : result_at m log slot ≡ Some result
   pub known : (r : Request) → Has (take slot log) (Req r) → IsSubmittedBefore lines k r.client r.id
+
+-- from a slot on the history has the client and id: that of the first entries of the log, as many as the slot says or more, answers there
+-- with the result
+pub record StandsFrom {S : Type 0} (m : Meaning S) (log : List Entry) (client id slot : ℕ) (result : List ℕ) : Type 0 where
+  pub within : slot ≤ length log
+  pub answered : (position : ℕ) → slot ≤ position → IsAnswered m (history_of (take position log)) client id result
 
 -- each request of the log is submitted, no client and id is submitted or accepted twice, and each accept line has its grounds in the log
 pub record Grounded {S : Type 0} (m : Meaning S) (lines : List Line) (log : List Entry) : Type 0 where

@@ -5,7 +5,8 @@ use Rattle.nop_types.specs.declared.request.Request.{Request}
 use Rattle.nop_types.specs.declared.request.Entry.{Entry}
 use Rattle.nop_types.specs.declared.request.Entry.TheVariants.{NoOp, Req}
 use Rattle.nop_types.specs.Meaning.{Meaning}
-use Rattle.nop_types.specs.Tables.{Answered, Account}
+use Rattle.nop_types.specs.declared.checkpoint.Answered.{Answered}
+use Rattle.nop_types.specs.Tables.{Account}
 use Rattle.nop_types.specs.Lines.{Line, Submit, Accept, Busy}
 
 -- a host that keeps all bytes that it was given, and answers with them

@@ -7,7 +7,8 @@ ghost use Rattle.nop_types.specs.declared.limits.TheConstants.{
 ghost use Rattle.nop_types.specs.declared.request.Entry.{Entry};
 ghost use Rattle.nop_types.specs.Meaning.{Meaning};
 ghost use Rattle.nop_types.specs.Lists.{Has};
-ghost use Rattle.nop_types.specs.Tables.{Answered, Account};
+ghost use Rattle.nop_types.specs.declared.checkpoint.Answered.{Answered};
+ghost use Rattle.nop_types.specs.Tables.{Account};
 ghost use Rattle.nop_types.specs.Execution.{Executed, exec};
 ghost use Rattle.nop_types.specs.Checkpoints.{checkpoint_of, loaded_of, KeepsTo};
 

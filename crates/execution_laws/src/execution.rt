@@ -5,11 +5,14 @@ ghost use Rattle.std.specs.Prelude.{
   [],
   ◌+◌,
   ◌≤◌,
+  ◌<◌,
   ◌&&◌,
   ℕ,
   List,
   Some,
+  None,
   true,
+  false,
   not,
   is_some,
   length,
@@ -190,6 +193,30 @@ pub fn has_result_where_served<S>()
         → slot_of log slot ≡ Some (Req r) → is_some (result_at m log slot)
         ≡ (is_served (clients_of (take slot log)) r.client
         && not (is_stale WINDOW (ids_of r.client (take slot log)) r.id)) }
+{}
+
+/// An id is not stale where it is less than a window behind each id before it, and so after a log of
+/// whose client's requests this holds; it is stale where one is a window ahead, or more.
+pub fn open_is_not_stale()
+    ensures near { (window : ℕ) (ids : List ℕ) (id : ℕ) → 1 ≤ window
+        → ((k : ℕ) → Has ids k → k < id + window) → is_stale window ids id ≡ false }
+    ensures in_log { (log : List Entry) (client id : ℕ)
+        → ((r : Request) → Has log (Req r) → r.client ≡ client → r.id < id + WINDOW)
+        → is_stale WINDOW (ids_of client log) id ≡ false }
+    ensures far { (window : ℕ) (ids : List ℕ) (id k : ℕ) → Has ids k → id + window ≤ k
+        → is_stale window ids id ≡ true }
+{}
+
+/// A request whose id is not stale after the whole log has a result at each of its slots up to which
+/// its client is served. It has none where one of its client a window ahead stands before it.
+pub fn has_result_unless_stale<S>()
+    ensures open { (m : Meaning S) (log : List Entry) (slot : ℕ) (r : Request)
+        → slot_of log slot ≡ Some (Req r)
+        → is_stale WINDOW (ids_of r.client log) r.id ≡ false
+        → is_some (result_at m log slot) ≡ is_served (clients_of (take slot log)) r.client }
+    ensures stale { (m : Meaning S) (log : List Entry) (slot : ℕ) (q r : Request)
+        → slot_of log slot ≡ Some (Req r) → Has (take slot log) (Req q) → q.client ≡ r.client
+        → r.id + WINDOW ≤ q.id → result_at m log slot ≡ None }
 {}
 
 /// The result at a slot rests on the entries up to it alone.

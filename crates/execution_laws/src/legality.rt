@@ -19,6 +19,7 @@ ghost use Rattle.execution_laws.specs.Legality.{
   SubmittedOnce,
   IsGrounded,
   Grounded,
+  StandsFrom,
 };
 
 /// What a line submits is submitted before each line that comes.
@@ -106,4 +107,12 @@ pub fn grounds_carry<S>()
         (k client id : ℕ) (result : List ℕ) (g : IsGrounded m lines log k client id result)
         → IsPrefixOf lines more → IsPrefixOf (take g.slot log) other
         → IsGrounded m more other k client id result }
+{}
+
+/// Where a request has its grounds in a log, the history of each log that begins with the entries up to their slot has it from there on.
+pub fn grounds_stand<S>()
+    ensures { (m : Meaning S) (lines : List Line) (log other : List Entry)
+        (k client id : ℕ) (result : List ℕ) (g : IsGrounded m lines log k client id result)
+        → IsPrefixOf (take g.slot log) other
+        → StandsFrom m other client id g.slot result }
 {}

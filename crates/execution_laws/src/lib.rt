@@ -15,13 +15,16 @@
 //! - Results: a request at a slot has a result exactly where its client is served and its id is
 //!   not stale (`has_result_where_served`). That is the answer to a member of the history
 //!   (`result_is_answered`), and rests on the entries up to the slot alone
-//!   (`result_needs_prefix`).
+//!   (`result_needs_prefix`). An id less than a window behind each of its client's is not stale
+//!   (`open_is_not_stale`), so each of its slots has a result; one that its client left a window
+//!   behind has none (`has_result_unless_stale`).
 //! - Histories: no client and id is in one twice (`members_are_distinct`), and the history of a
 //!   prefix begins that of the log (`history_of_prefix`).
 //! - Legality: where each accept line has its grounds in a log (`Grounded`), the history of that
 //!   log is legal (`legal_from_grounds`); grounds last in longer runs, and in each log with the
-//!   same entries up to the slot (`grounds_carry`). `legal_with_submit`, `legal_with_accept` and
-//!   others are on one more line or member.
+//!   same entries up to the slot (`grounds_carry`), whose history has the request from that slot on
+//!   (`grounds_stand`). `legal_with_submit`, `legal_with_accept` and others are on one more line or
+//!   member.
 //!
 //! No law rests on how wide the window is, or on how many clients are served; with a window of one
 //! an id is new where it exceeds all before it (`one_is_greatest`).
@@ -44,9 +47,10 @@ pub use examples::{
 pub use execution::{
     accounts_are_of_log, exec_goes_on, exec_is_by_kept, exec_is_of_history, exec_kept_of_append,
     exec_kept_of_rest, exec_of_append, exec_of_next_entry, exec_of_next_slot, executed_is_kept,
-    has_result_where_served, kept_is_answered, last_result_is_kept, one_is_greatest,
-    repeat_is_not_executed, result_is_answered, result_is_kept, result_is_of_request,
-    result_needs_prefix, results_are_equal, table_serves_the_first, table_tells_executed,
+    has_result_unless_stale, has_result_where_served, kept_is_answered, last_result_is_kept,
+    one_is_greatest, open_is_not_stale, repeat_is_not_executed, result_is_answered, result_is_kept,
+    result_is_of_request, result_needs_prefix, results_are_equal, table_serves_the_first,
+    table_tells_executed,
 };
 pub use histories::{
     answer_needs_prefix, answer_of_member, answer_stays, history_of_append, history_of_next_entry,
@@ -54,7 +58,7 @@ pub use histories::{
     members_are_new, members_keep_order, repeat_is_no_member,
 };
 pub use legality::{
-    accepted_once_stays, grounds_carry, legal_at_first, legal_from_grounds, legal_with_accept,
-    legal_with_member, legal_with_other_line, legal_with_submit, submitted_once_stays,
-    submitted_so_far, submitted_stays,
+    accepted_once_stays, grounds_carry, grounds_stand, legal_at_first, legal_from_grounds,
+    legal_with_accept, legal_with_member, legal_with_other_line, legal_with_submit,
+    submitted_once_stays, submitted_so_far, submitted_stays,
 };

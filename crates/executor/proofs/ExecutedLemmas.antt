@@ -1,19 +1,19 @@
 -- One more executed slot, and one less.
 use Rattle.std.proofs.Common.{◌≡◌, ℕ, ◌+◌, ◌<◌, ◌≤◌, List, [], ◌∷◌, ◌++◌, length, take, Option, Some, None, refl, sym, ap, subst}
 use Rattle.std.proofs.Common.{suc, add-one, ◌∙◌, inl, inr, arith}
-use Rattle.std.specs.Prelude.{◌⊎◌, slice_get, IfSome, IsSome}
+use Rattle.std.specs.Prelude.{◌⊎◌, slice_get}
 use Rattle.std.proofs.lemmas.Option.{slice_get_within}
 use Rattle.std.proofs.lemmas.Bool.Decides.{eqb_tells}
 use Rattle.std.proofs.lemmas.List.{length_push}
 use Rattle.nop_types.specs.declared.request.Entry.{Entry}
 use Rattle.nop_types.specs.Meaning.{Meaning}
-use Rattle.nop_types.specs.Tables.{kept_for}
 use Rattle.nop_types.specs.Execution.{Executed, exec_kept, enter_kept}
 use Rattle.lemmas.proofs.Places.{Splits-at, slice_get-some, slice_get-append_within, slice_get-append_at}
 use Rattle.execution_laws.proofs.Steps.{exec_kept_of_append}
 use Rattle.executor.specs.declared.slot_undo.SlotUndo.{SlotUndo}
-use Rattle.executor.specs.Undoing.{slot_undo_of, undone_by, IsExecuted, UndoFits, UndosFit}
-use Rattle.executor.proofs.UndoLemmas.{goes_back, has_kept}
+use Rattle.client_table.specs.Table.{AllKept}
+use Rattle.executor.specs.Undoing.{slot_undo_of, undone_by, IsExecuted, UndoFits, UndosFit, MayUnkeep}
+use Rattle.executor.proofs.UndoLemmas.{goes_back, exec_all_kept, may_unkeep}
 
 module _ {S U : Type 0} (m : Meaning S) (undo_of : S → List ℕ → U) (begun : Executed S) (entries : List Entry) where
   -- what the first entries leave
@@ -27,8 +27,13 @@ module _ {S U : Type 0} (m : Meaning S) (undo_of : S → List ℕ → U) (begun 
       rw (add-one, s) (exec_kept_of_append m begun (take i entries) (e ∷ []))
 
   -- before the first slot
-  pub executed_nothing : (x : Executed S) → x ≡ begun → IsExecuted m undo_of begun entries x []
-  executed_nothing x e = record { within = omega arith; execution = e; undoing = λ i e less. absurd (omega (arith, less)) }
+  pub executed_nothing : (x : Executed S) → AllKept begun.table → x ≡ begun → IsExecuted m undo_of begun entries x []
+  executed_nothing x kept e = record {
+    kept = kept;
+    within = omega arith;
+    execution = e;
+    undoing = λ i e less. absurd (omega (arith, less));
+  }
 
   -- one more slot
   pub executed_next : (x x' : Executed S) (undos : List (Option (SlotUndo U))) (e : Entry) (s : Option (SlotUndo U))
@@ -37,6 +42,7 @@ module _ {S U : Type 0} (m : Meaning S) (undo_of : S → List ℕ → U) (begun 
   executed_next x x' undos e s h at next slot_undo =
       let more : length (undos ++ s ∷ []) ≡ length undos + 1 = length_push undos s in
       record {
+        kept = h.kept;
         within = let less = slice_get_within entries (length undos) e at in omega arith;
         execution = rw (next, h.execution, more) (sym (next_entry (length undos) e at));
         undoing = λ i d less is. elim (split i (rw more at less)) [
@@ -70,22 +76,26 @@ module _ {S U : Type 0} (m : Meaning S) (undo_of : S → List ℕ → U) (begun 
         slot_undo = let a = slice_get-append_at undos s [] in let b = h.undoing (length undos) e.0 (omega arith) e.1 in cc;
         here = h.execution ∙ ap after more ∙ next_entry (length undos) e.0 e.1;
         before = record {
+          kept = h.kept;
           within = omega arith;
           execution = refl;
           undoing = λ i d less is. sym (slice_get-append_within undos (s ∷ []) i less) ∙ h.undoing i d (omega arith) is;
         };
       }
 
-  -- the client of the last slot has an answer
-  pub last_is_kept : (x : Executed S) (undos : List (Option (SlotUndo U))) (s : Option (SlotUndo U))
-      → IsExecuted m undo_of begun entries x (undos ++ s ∷ []) → IfSome s (λ t. IsSome (kept_for x.table t.kept.client))
-  last_is_kept x undos s h =
+  -- each client has what may be kept, on the way
+  kept_after : AllKept begun.table → (n : ℕ) → AllKept (after n).table
+  kept_after all n = exec_all_kept m begun (take n entries) all
+
+  -- the result of the last slot may be taken out
+  pub last_may_unkeep : (x : Executed S) (undos : List (Option (SlotUndo U))) (s : Option (SlotUndo U))
+      → IsExecuted m undo_of begun entries x (undos ++ s ∷ []) → MayUnkeep x.table s
+  last_may_unkeep x undos s h =
       let l = last x undos s h in
-      kept_along x _ s _ l.here l.slot_undo (has_kept m undo_of (after (length undos)) l.entry)
+      along x _ s _ l.here l.slot_undo (may_unkeep m undo_of (after (length undos)) (kept_after h.kept (length undos)) l.entry)
     where
-      kept_along : (x y : Executed S) (s t : Option (SlotUndo U)) → x ≡ y → s ≡ t → IfSome t (λ u. IsSome (kept_for y.table u.kept.client))
-          → IfSome s (λ u. IsSome (kept_for x.table u.kept.client))
-      kept_along x y s t e f h = rw (e, f) h
+      along : (x y : Executed S) (s t : Option (SlotUndo U)) → x ≡ y → s ≡ t → MayUnkeep y.table t → MayUnkeep x.table s
+      along x y s t e f h = rw (e, f) h
 
   -- one slot back
   pub executed_before : (undone : S → U → S) → ((s : S) (op : List ℕ) → undone (m.after s op) (undo_of s op) ≡ s)
@@ -96,7 +106,7 @@ module _ {S U : Type 0} (m : Meaning S) (undo_of : S → List ℕ → U) (begun 
       let before : Executed S = after (length undos) in
       let along : undone_by undone x s ≡ undone_by undone (enter_kept m before l.entry) (slot_undo_of undo_of before l.entry) =
       λ i. undone_by undone (l.here i) (l.slot_undo i) in
-      let same : x' ≡ before = e ∙ along ∙ goes_back m undo_of before undone undoes l.entry in
+      let same : x' ≡ before = e ∙ along ∙ goes_back m undo_of undone undoes before l.entry (kept_after h.kept (length undos)) in
       subst (λ (y : Executed S). IsExecuted m undo_of begun entries y undos) (sym same) l.before
 
 -- ---- what the host has the room to undo

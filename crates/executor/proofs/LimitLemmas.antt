@@ -1,10 +1,10 @@
 -- Every execution of a log in its ranges is within the limits: its host is in a state that ops lead to, it has no more clients than are
--- served, and each kept result is short.
-use Rattle.std.proofs.Common.{◌≡◌, ℕ, ◌+◌, ◌<◌, ◌≤◌, Bool, true, false, cond, eqb, List, [], ◌∷◌, length, max, Option, Some, None, is_some}
+-- served, and of each it keeps what may be saved.
+use Rattle.std.proofs.Common.{◌≡◌, ℕ, ◌+◌, ◌<◌, ◌≤◌, Bool, true, false, cond, List, [], ◌∷◌, length, Option, Some, None, is_some}
 use Rattle.std.proofs.Common.{refl, sym, subst, ◌∙◌, inl, inr, arith}
 use Rattle.std.proofs.Math.Dec.{T}
 use Rattle.std.specs.Prelude.{◌&&◌, ◌||◌, nat_le, nat_lt, option_map, IfSome, IsTrue}
-use Rattle.std.specs.List.{AllByRecursion, filter}
+use Rattle.std.specs.List.{AllByRecursion}
 use Rattle.std.specs.Option.{unwrap_or}
 use Rattle.std.specs.Cmp.{nat_cmp_is}
 use Rattle.std.specs.declared.cmp.Ordering.{Ordering}
@@ -17,86 +17,41 @@ use Rattle.std.proofs.lemmas.Cmp.{nat_cmp_total}
 use Rattle.nop_types.specs.declared.limits.TheConstants.{MAX_RESULT_BYTES, MAX_HOST_BYTES, MAX_SERVED, WINDOW}
 use Rattle.nop_types.specs.declared.request.Entry.{Entry}
 use Rattle.nop_types.specs.declared.request.Entry.TheVariants.{NoOp, Req}
+use Rattle.nop_types.specs.declared.checkpoint.Answered.{Answered}
 use Rattle.nop_types.specs.Meaning.{Meaning}
-use Rattle.nop_types.specs.Tables.{Answered, Account, Table, kept_for, result_in, result_kept, is_new_to, serves, with_answered}
-use Rattle.nop_types.specs.Tables.{account_with}
+use Rattle.nop_types.specs.Tables.{Account, Table, kept_for, result_kept, is_new_to, serves, account_with}
 use Rattle.nop_types.specs.Execution.{Executed, opening, execute, takes, enter_kept, exec_kept}
-use Rattle.nop_types.specs.Checkpoints.{Checkpoint, CheckpointFits, checkpoint_of, is_checkpoint, are_saved, are_short, KeepsTo}
+use Rattle.nop_types.specs.Checkpoints.{Checkpoint, CheckpointFits, checkpoint_of, is_checkpoint, is_kept, are_answers, is_account}
+use Rattle.nop_types.specs.Checkpoints.{are_saved, KeepsTo}
 use Rattle.nop_types.specs.CheckpointedLogs.{beginning}
+use Rattle.nop_types.specs.Ranges.{EntryFits}
+use Rattle.lemmas.proofs.Kept.{answer_is, account_is, result_is_short}
 
--- ---- short results
+-- ---- what may be saved of each client
 
-abbrev IsShort : Answered → Type 0
-IsShort a = length a.result ≤ MAX_RESULT_BYTES
+abbrev MayBeSaved : Account → Type 0
+MayBeSaved a = IsTrue (is_account a)
 
-abbrev AreShort : List Answered → Type 0
-AreShort kept = IsTrue (are_short kept)
+abbrev EachMayBeSaved : List (ℕ × Account) → Type 0
+EachMayBeSaved es = AllByRecursion (λ e. MayBeSaved e.1) es
 
-abbrev EachIsShort : List (ℕ × Account) → Type 0
-EachIsShort es = AllByRecursion (λ e. AreShort e.1.kept) es
-
-first_short : (a : Answered) (kept : List Answered) → AreShort (a ∷ kept) → IsShort a
-first_short a kept h =
-    leb-true (length a.result) MAX_RESULT_BYTES (and_parts (nat_le (length a.result) MAX_RESULT_BYTES) (are_short kept) h).0
-
-rest_short : (a : Answered) (kept : List Answered) → AreShort (a ∷ kept) → AreShort kept
-rest_short a kept h = (and_parts (nat_le (length a.result) MAX_RESULT_BYTES) (are_short kept) h).1
-
-more_short : (a : Answered) (kept : List Answered) → IsShort a → AreShort kept → AreShort (a ∷ kept)
-more_short a kept one all =
-    and_from (nat_le (length a.result) MAX_RESULT_BYTES) (are_short kept) (le-leb (length a.result) MAX_RESULT_BYTES one) all
-
--- one more result in its place
-short_with : (a : Answered) (kept : List Answered) → IsShort a → AreShort kept → AreShort (with_answered a kept)
-short_with a [] one all = more_short a [] one refl
-short_with a (k ∷ kept) one all =
-    on (nat_lt a.id k.id) (more_short k (with_answered a kept) (first_short k kept all) (short_with a kept one (rest_short k kept all)))
+saved_put : (client : ℕ) (a : Account) (es : List (ℕ × Account)) → MayBeSaved a → EachMayBeSaved es
+    → EachMayBeSaved (put nat_cmp client a es)
+saved_put client a [] one all = (one, tt)
+saved_put client a (e ∷ es) one all = on (nat_cmp client e.0) (saved_put client a es one all.1)
   where
-    on : (t : Bool) → AreShort (k ∷ with_answered a kept) → AreShort (cond t (a ∷ k ∷ kept) (k ∷ with_answered a kept))
-    on true later = more_short a (k ∷ kept) one all
-    on false later = later
-
-short_filtered : (test : Answered → Bool) (kept : List Answered) → AreShort kept → AreShort (filter test kept)
-short_filtered test [] all = refl
-short_filtered test (k ∷ kept) all = on (test k) (short_filtered test kept (rest_short k kept all))
-  where
-    on : (t : Bool) → AreShort (filter test kept) → AreShort (cond t (k ∷ filter test kept) (filter test kept))
-    on true rest = more_short k (filter test kept) (first_short k kept all) rest
-    on false rest = rest
-
-short_account : (o : Option Account) (a : Answered) → IsShort a → IfSome o (λ old. AreShort old.kept)
-    → AreShort (account_with WINDOW o a).kept
-short_account None a one all = more_short a [] one refl
-short_account (Some old) a one all =
-    short_filtered (λ k. nat_lt (max old.greatest a.id) (k.id + WINDOW)) (with_answered a old.kept) (short_with a old.kept one all)
-
-short_result : (kept : List Answered) (id : ℕ) → AreShort kept → IfSome (result_in kept id) (λ bytes. length bytes ≤ MAX_RESULT_BYTES)
-short_result [] id all = tt
-short_result (a ∷ kept) id all = on (eqb a.id id) (short_result kept id (rest_short a kept all))
-  where
-    on : (t : Bool) → IfSome (result_in kept id) (λ bytes. length bytes ≤ MAX_RESULT_BYTES)
-        → IfSome (cond t (Some a.result) (result_in kept id)) (λ bytes. length bytes ≤ MAX_RESULT_BYTES)
-    on true rest = first_short a kept all
-    on false rest = rest
-
--- ---- short results of each client
-
-short_put : (client : ℕ) (a : Account) (es : List (ℕ × Account)) → AreShort a.kept → EachIsShort es → EachIsShort (put nat_cmp client a es)
-short_put client a [] one all = (one, tt)
-short_put client a (e ∷ es) one all = on (nat_cmp client e.0) (short_put client a es one all.1)
-  where
-    on : (o : Ordering) → EachIsShort (put nat_cmp client a es)
-        → EachIsShort (by_order o ((client, a) ∷ e ∷ es) ((e.0, a) ∷ es) (e ∷ put nat_cmp client a es))
+    on : (o : Ordering) → EachMayBeSaved (put nat_cmp client a es)
+        → EachMayBeSaved (by_order o ((client, a) ∷ e ∷ es) ((e.0, a) ∷ es) (e ∷ put nat_cmp client a es))
     on Less later = (one, all)
     on Equal later = (one, all.1)
     on Greater later = (all.0, later)
 
-short_found : (client : ℕ) (es : List (ℕ × Account)) → EachIsShort es → IfSome (find nat_cmp client es) (λ a. AreShort a.kept)
-short_found client [] all = tt
-short_found client (e ∷ es) all = on (eq_by_cmp nat_cmp client e.0) (short_found client es all.1)
+saved_found : (client : ℕ) (es : List (ℕ × Account)) → EachMayBeSaved es → IfSome (find nat_cmp client es) (λ a. MayBeSaved a)
+saved_found client [] all = tt
+saved_found client (e ∷ es) all = on (eq_by_cmp nat_cmp client e.0) (saved_found client es all.1)
   where
-    on : (t : Bool) → IfSome (find nat_cmp client es) (λ a. AreShort a.kept)
-        → IfSome (cond t (Some e.1) (find nat_cmp client es)) (λ a. AreShort a.kept)
+    on : (t : Bool) → IfSome (find nat_cmp client es) (λ a. MayBeSaved a)
+        → IfSome (cond t (Some e.1) (find nat_cmp client es)) (λ a. MayBeSaved a)
     on true rest = all.0
     on false rest = rest
 
@@ -104,17 +59,17 @@ short_found client (e ∷ es) all = on (eq_by_cmp nat_cmp client e.0) (short_fou
 
 pub record TableFits (t : Table) : Type 0 where
   pub served : finite.len t ≤ MAX_SERVED
-  pub short : EachIsShort (finite.entries t)
+  pub each : EachMayBeSaved (finite.entries t)
 
-short_kept : (t : Table) (client : ℕ) → EachIsShort (finite.entries t) → IfSome (kept_for t client) (λ a. AreShort a.kept)
-short_kept t client all =
-    subst (λ (o : Option Account). IfSome o (λ a. AreShort a.kept)) (sym (finite.get-entries t client))
-    (short_found client (finite.entries t) all)
+saved_kept : (t : Table) (client : ℕ) → EachMayBeSaved (finite.entries t) → IfSome (kept_for t client) (λ a. MayBeSaved a)
+saved_kept t client all =
+    subst (λ (o : Option Account). IfSome o (λ a. MayBeSaved a)) (sym (finite.get-entries t client))
+    (saved_found client (finite.entries t) all)
 
-short_insert : (t : Table) (client : ℕ) (a : Account) → AreShort a.kept → EachIsShort (finite.entries t)
-    → EachIsShort (finite.entries (finite.insert t client a))
-short_insert t client a one all =
-    subst EachIsShort (sym (finite.entries-insert nat_cmp_total t client a)) (short_put client a (finite.entries t) one all)
+saved_insert : (t : Table) (client : ℕ) (a : Account) → MayBeSaved a → EachMayBeSaved (finite.entries t)
+    → EachMayBeSaved (finite.entries (finite.insert t client a))
+saved_insert t client a one all =
+    subst EachMayBeSaved (sym (finite.entries-insert nat_cmp_total t client a)) (saved_put client a (finite.entries t) one all)
 
 abbrev empty : Table
 empty = finite.empty
@@ -125,7 +80,7 @@ empty_len = finite.len-empty nat_cmp Account
 empty_fits : TableFits empty
 empty_fits = record {
   served = let none = empty_len in omega arith;
-  short = subst EachIsShort (sym (nothing (finite.entries empty) (sym (finite.len-entries empty) ∙ empty_len))) tt;
+  each = subst EachMayBeSaved (sym (nothing (finite.entries empty) (sym (finite.len-entries empty) ∙ empty_len))) tt;
 }
   where
     nothing : (es : List (ℕ × Account)) → length es ≡ 0 → es ≡ []
@@ -133,12 +88,12 @@ empty_fits = record {
     nothing (e ∷ es) h = absurd (omega (arith, h))
 
 -- a client more, where it is served
-insert_fits : (t : Table) (client : ℕ) (a : Account) → serves t client ≡ true → AreShort a.kept → TableFits t
+insert_fits : (t : Table) (client : ℕ) (a : Account) → serves t client ≡ true → MayBeSaved a → TableFits t
     → TableFits (finite.insert t client a)
 insert_fits t client a serves one h = record {
   served =
       on (is_some (kept_for t client)) (nat_lt (finite.len t) MAX_SERVED) refl serves (finite.len-insert nat_cmp_total t client a);
-  short = short_insert t client a one h.short;
+  each = saved_insert t client a one h.each;
 }
   where
     on : (there room : Bool) → nat_lt (finite.len t) MAX_SERVED ≡ room → (there || room) ≡ true
@@ -149,11 +104,11 @@ insert_fits t client a serves one h = record {
     on false false e f len = absurd cc
 
 -- the clients of a checkpoint
-saved_short : (least : ℕ) (es : List (ℕ × Account)) → are_saved least es ≡ true → EachIsShort es
-saved_short least [] h = tt
-saved_short least (e ∷ es) h =
-    let rest = and_parts (are_short e.1.kept) (are_saved (e.0 + 1) es) (and_parts (nat_le least e.0) _ h).1 in
-    (rest.0, saved_short (e.0 + 1) es rest.1)
+saved_each : (least : ℕ) (es : List (ℕ × Account)) → are_saved least es ≡ true → EachMayBeSaved es
+saved_each least [] h = tt
+saved_each least (e ∷ es) h =
+    let rest = and_parts (is_account e.1) (are_saved (e.0 + 1) es) (and_parts (nat_le least e.0) _ h).1 in
+    (rest.0, saved_each (e.0 + 1) es rest.1)
 
 loaded_len : (es : List (ℕ × Account)) → finite.len (finite.from_entries {R = nat_cmp} es) ≤ length es
 loaded_len [] = let none = empty_len in omega arith
@@ -167,9 +122,9 @@ loaded_len (e ∷ es) =
     on true len less = omega arith
     on false len less = omega arith
 
-loaded_short : (es : List (ℕ × Account)) → EachIsShort es → EachIsShort (finite.entries (finite.from_entries {R = nat_cmp} es))
-loaded_short [] all = empty_fits.short
-loaded_short (e ∷ es) all = short_insert (finite.from_entries es) e.0 e.1 all.0 (loaded_short es all.1)
+loaded_each : (es : List (ℕ × Account)) → EachMayBeSaved es → EachMayBeSaved (finite.entries (finite.from_entries {R = nat_cmp} es))
+loaded_each [] all = empty_fits.each
+loaded_each (e ∷ es) all = saved_insert (finite.from_entries es) e.0 e.1 all.0 (loaded_each es all.1)
 
 loaded_fits : (c : Checkpoint) → CheckpointFits c → TableFits (finite.from_entries c.clients)
 loaded_fits c h =
@@ -180,7 +135,7 @@ loaded_fits c h =
           let most = leb-true (length c.clients) MAX_SERVED rest.0 in
           let less = loaded_len c.clients in
           omega arith;
-      short = loaded_short c.clients (saved_short 0 c.clients rest.1);
+      each = loaded_each c.clients (saved_each 0 c.clients rest.1);
     }
 
 -- ---- clients ascend, in the table's order
@@ -216,14 +171,14 @@ above k (e ∷ es) h = (
   above k es (second_of (is_lt (nat_cmp k e.0)) (below_all nat_cmp k es) h),
 )
 
-ascending : (least : ℕ) (es : List (ℕ × Account)) → T (is_sorted nat_cmp es) → EachFrom least es → EachIsShort es
+ascending : (least : ℕ) (es : List (ℕ × Account)) → T (is_sorted nat_cmp es) → EachFrom least es → EachMayBeSaved es
     → are_saved least es ≡ true
-ascending least [] sorted from short = refl
-ascending least (e ∷ es) sorted from short =
-    and_from (nat_le least e.0) (are_short e.1.kept && are_saved (e.0 + 1) es) (le-leb least e.0 from.0)
-    (and_from (are_short e.1.kept) (are_saved (e.0 + 1) es) short.0
+ascending least [] sorted from each = refl
+ascending least (e ∷ es) sorted from each =
+    and_from (nat_le least e.0) (is_account e.1 && are_saved (e.0 + 1) es) (le-leb least e.0 from.0)
+    (and_from (is_account e.1) (are_saved (e.0 + 1) es) each.0
     (ascending (e.0 + 1) es (second_of (below_all nat_cmp e.0 es) (is_sorted nat_cmp es) sorted)
-    (above e.0 es (first_of (below_all nat_cmp e.0 es) (is_sorted nat_cmp es) sorted)) short.1))
+    (above e.0 es (first_of (below_all nat_cmp e.0 es) (is_sorted nat_cmp es) sorted)) each.1))
 
 -- ---- executions
 
@@ -262,27 +217,29 @@ module _ {S : Type 0} (m : Meaning S) (IsSound : S → Type 0) (keeps : KeepsTo 
       on None = empty_fits
       on (Some s) = loaded_fits c h
 
-  table_entered : (x : Executed S) (e : Entry) → IsSound x.host → TableFits x.table → TableFits (enter_kept m x e).table
-  table_entered x NoOp sound h = h
-  table_entered x (Req r) sound h = on (takes x.table r) refl
+  table_entered : (x : Executed S) (e : Entry) → EntryFits e → IsSound x.host → TableFits x.table → TableFits (enter_kept m x e).table
+  table_entered x NoOp fits sound h = h
+  table_entered x (Req r) fits sound h = on (takes x.table r) refl
     where
       on : (b : Bool) → takes x.table r ≡ b → TableFits (cond b (execute m x r) x).table
       on false e = h
       on true e =
           let a : Answered = record { id = r.id; result = m.answer x.host r.op } in
-          insert_fits x.table r.client (account_with WINDOW (kept_for x.table r.client) a)
-          (and_parts (serves x.table r.client) (is_new_to WINDOW (kept_for x.table r.client) r.id) e).0
-          (short_account (kept_for x.table r.client) a (keeps.short x.host r.op sound) (short_kept x.table r.client h.short)) h
+          let parts = and_parts (serves x.table r.client) (is_new_to WINDOW (kept_for x.table r.client) r.id) e in
+          insert_fits x.table r.client (account_with WINDOW (kept_for x.table r.client) a) parts.0
+          (account_is (kept_for x.table r.client) a (saved_kept x.table r.client h.each) parts.1
+          (answer_is a fits.id_low (keeps.short x.host r.op sound))) h
 
-  table_after : (x : Executed S) (entries : List Entry) → IsSound x.host → TableFits x.table → TableFits (exec_kept m x entries).table
-  table_after x [] sound h = h
-  table_after x (e ∷ entries) sound h =
-      table_after (enter_kept m x e) entries (sound_entered x e sound) (table_entered x e sound h)
+  table_after : (x : Executed S) (entries : List Entry) → AllByRecursion EntryFits entries → IsSound x.host → TableFits x.table
+      → TableFits (exec_kept m x entries).table
+  table_after x [] fits sound h = h
+  table_after x (e ∷ entries) fits sound h =
+      table_after (enter_kept m x e) entries fits.1 (sound_entered x e sound) (table_entered x e fits.0 sound h)
 
-  -- of a log whose checkpoint, if it has one, is within the limits
-  pub table_of_log : (o : Option Checkpoint) (entries : List Entry) → IfSome o CheckpointFits
+  -- of entries in their ranges, after a checkpoint, if there is one, within the limits
+  pub table_of_log : (o : Option Checkpoint) (entries : List Entry) → AllByRecursion EntryFits entries → IfSome o CheckpointFits
       → TableFits (exec_kept m (beginning m o) entries).table
-  table_of_log o entries h = table_after (beginning m o) entries (beginning_is_sound o) (beginning_fits o h)
+  table_of_log o entries fits h = table_after (beginning m o) entries fits (beginning_is_sound o) (beginning_fits o h)
 
   pub checkpoint_fits : (x : Executed S) → IsSound x.host → TableFits x.table → IsTrue (is_checkpoint (checkpoint_of m x))
   checkpoint_fits x sound h =
@@ -292,13 +249,13 @@ module _ {S : Type 0} (m : Meaning S) (IsSound : S → Type 0) (keeps : KeepsTo 
       (and_from (nat_le (length es) MAX_SERVED) (are_saved 0 es)
       (le-leb (length es) MAX_SERVED
       (let most = h.served in let len : finite.len x.table ≡ length es = finite.len-entries x.table in omega arith))
-      (ascending 0 es (finite.entries_sorted x.table) (from_zero es) h.short))
+      (ascending 0 es (finite.entries_sorted x.table) (from_zero es) h.each))
 
 -- a kept result is short
 pub kept_result_fits : (t : Table) (client id : ℕ) → TableFits t
     → IfSome (result_kept (kept_for t client) id) (λ bytes. length bytes ≤ MAX_RESULT_BYTES)
-kept_result_fits t client id h = on (kept_for t client) (short_kept t client h.short)
+kept_result_fits t client id h = on (kept_for t client) (saved_kept t client h.each)
   where
-    on : (o : Option Account) → IfSome o (λ a. AreShort a.kept) → IfSome (result_kept o id) (λ bytes. length bytes ≤ MAX_RESULT_BYTES)
-    on None short = tt
-    on (Some a) short = short_result a.kept id short
+    on : (o : Option Account) → IfSome o (λ a. MayBeSaved a) → IfSome (result_kept o id) (λ bytes. length bytes ≤ MAX_RESULT_BYTES)
+    on None saved = tt
+    on (Some a) saved = result_is_short a.kept id (and_parts (is_kept a) (are_answers a.kept) saved).1

@@ -20,6 +20,7 @@ module _ {S U : Type 0} (m : Meaning S) (undo_of : S → List ℕ → U) (begun 
   pub on_prefix : (other : List Entry) (x : Executed S) (undos : List (Option (SlotUndo U))) → IsExecuted m undo_of begun entries x undos
       → take (length undos) other ≡ take (length undos) entries → IsExecuted m undo_of begun other x undos
   on_prefix other x undos h e = record {
+    kept = h.kept;
     within =
         let w = h.within in
         let a = length-take (length undos) other in

@@ -9,11 +9,14 @@ use Rattle.nop_types.specs.Execution.{Executed, opening, exec_kept}
 use Rattle.nop_types.specs.Checkpoints.{checkpoint_of, loaded_of, is_checkpoint, KeepsTo}
 use Rattle.nop_types.specs.CheckpointedLogs.{beginning, executed, kept_result, raised}
 use Rattle.nop_types.specs.Logs.{Log, Trimmed, above}
-use Rattle.nop_types.specs.Ranges.{LogFits}
+use Rattle.nop_types.specs.Ranges.{EntryFits, LogFits}
+use Rattle.lemmas.proofs.Prefixes.{all-take}
 use Rattle.execution_laws.proofs.Saving.{checkpoint_loads}
+use Rattle.client_table.specs.Table.{AllKept}
 use Rattle.executor.specs.Running.{Running, reached, execution}
 use Rattle.executor.specs.Undoing.{IsExecuted, HasExecuted}
 use Rattle.executor.specs.Results.{IsResult}
+use Rattle.executor.proofs.UndoLemmas.{exec_all_kept}
 use Rattle.executor.proofs.ExecutedLemmas.{executed_nothing}
 use Rattle.executor.proofs.LimitLemmas.{TableFits, sound_of_log, table_of_log, checkpoint_fits, kept_result_fits}
 
@@ -27,6 +30,12 @@ module _ {H S U : Type 0} (state : H → S) (m : Meaning S) (undo_of : S → Lis
   has_executed =
       let count : length r.undos ≡ reached r - log.sync_point = let b = h.base in omega arith in
       h.run.execution ∙ ap (λ (n : ℕ). exec_kept m (beginning m log.checkpoint) (take n log.entries)) count
+
+  -- each client has what may be kept
+  now_kept : AllKept now.table
+  now_kept =
+      subst (λ (x : Executed S). AllKept x.table) (sym h.run.execution)
+      (exec_all_kept m (beginning m log.checkpoint) (take (length r.undos) log.entries) h.run.kept)
 
   -- the kept answer to the request of the last slot is its result
   pub result_of_executed : (client id : ℕ) (o : Option (List ℕ)) → o ≡ result_kept (kept_for r.table client) id
@@ -45,7 +54,8 @@ module _ {H S U : Type 0} (state : H → S) (m : Meaning S) (undo_of : S → Lis
     table_fits : LogFits log → TableFits now.table
     table_fits fits =
         subst (λ (x : Executed S). TableFits x.table) (sym h.run.execution)
-        (table_of_log m IsSound keeps log.checkpoint (take (length r.undos) log.entries) fits.checkpoint.1)
+        (table_of_log m IsSound keeps log.checkpoint (take (length r.undos) log.entries)
+        (all-take EntryFits (length r.undos) log.entries fits.entries) fits.checkpoint.1)
 
     pub short_of_executed : LogFits log → (client id : ℕ) (o : Option (List ℕ)) → o ≡ result_kept (kept_for r.table client) id
         → IfSome o (λ bytes. length bytes ≤ MAX_RESULT_BYTES)
@@ -72,5 +82,5 @@ module _ {H S U : Type 0} (state : H → S) (m : Meaning S) (undo_of : S → Lis
           run =
               subst (IsExecuted m undo_of begun (above Trimmed log (reached r)) (execution (state next.host) next.table)) (sym undos)
               (executed_nothing m undo_of begun (above Trimmed log (reached r)) (execution (state next.host) next.table)
-              ((λ i. execution (host i) (table i)) ∙ sym loads));
+              (subst (λ (x : Executed S). AllKept x.table) (sym loads) now_kept) ((λ i. execution (host i) (table i)) ∙ sym loads));
         }

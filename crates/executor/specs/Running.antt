@@ -2,9 +2,10 @@
 use Rattle.std.specs.Prelude.{ℕ, ◌+◌, List, length, Option, Bool, refl}
 use Rattle.std.specs.Coded.{Coded, code_by, coded×, coded_ℕ, coded_list, coded_option, coded_bool}
 use Rattle.std.specs.FinMap as finite
-use Rattle.nop_types.specs.Tables.{Account, Table, account_code}
+use Rattle.nop_types.specs.declared.checkpoint.Answered.{Answered}
+use Rattle.nop_types.specs.Tables.{Table, answered_code, account_code}
 use Rattle.nop_types.specs.Execution.{Executed}
-use Rattle.client_table.specs.Table.{Former}
+use Rattle.client_table.specs.Table.{Former, Removed}
 use Rattle.executor.specs.declared.slot_undo.SlotUndo.{SlotUndo}
 
 -- the slots up to the base are executed and not undone; a slot above it whose entry did nothing keeps nothing
@@ -15,12 +16,19 @@ pub record Running (H U : Type 0) : Type 0 where
   pub undos : List (Option (SlotUndo U))
   pub failed : Bool
 
+abbrev pub removed_code : Coded Removed
+removed_code =
+    code_by (ℕ × List Answered) (coded× coded_ℕ (coded_list answered_code)) (λ r. (r.greatest, r.dropped)) (λ p. record {
+      greatest = p.0;
+      dropped = p.1;
+    }) (λ _. refl)
+
 abbrev pub former_code : Coded Former
 former_code =
-    code_by (ℕ × Option Account) (coded× coded_ℕ (coded_option account_code)) (λ f. (f.client, f.account)) (λ p. record {
-      client = p.0;
-      account = p.1;
-    }) (λ _. refl)
+    code_by (ℕ × (ℕ × Option Removed)) (coded× coded_ℕ (coded× coded_ℕ (coded_option removed_code)))
+    (λ f. (f.client, (f.id, f.removed)))
+    (λ p. record { client = p.0; id = p.1.0; removed = p.1.1 })
+    (λ _. refl)
 
 abbrev pub slot_undo_code : {U : Type 0} → Coded U → Coded (SlotUndo U)
 slot_undo_code {U} u =

@@ -5,6 +5,7 @@ ghost use Rattle.nop_types.specs.Ranges.{LogFits};
 ghost use Rattle.nop_types.specs.Tables.{kept_for, result_kept};
 ghost use Rattle.nop_types.specs.Checkpoints.{checkpoint_of};
 ghost use Rattle.nop_types.specs.CheckpointedLogs.{loads, loads_by, beginning, executed, raised};
+ghost use Rattle.client_table.specs.Table.{AllKept};
 ghost use Rattle.executor.specs.Running.{execution, reached};
 ghost use Rattle.executor.specs.Undoing.{HasExecuted};
 ghost use Rattle.executor.specs.Results.{IsResult};
@@ -68,8 +69,9 @@ pub fn checkpoint_loads<H: Host>(
 /// The execution that a checkpoint has, which loads.
 fn loaded<H: Host>(alloc: Global, checkpoint: &Checkpoint) -> Result<(H, ClientTable), NoMemory>
     requires { loads_by H.meaning (Some checkpoint.now) ≡ true }
-    ensures { IfOk result (λ r. beginning H.meaning (Some checkpoint.now)
+    ensures execution { IfOk result (λ r. beginning H.meaning (Some checkpoint.now)
         ≡ execution (H.state r.0) r.1) }
+    ensures kept { IfOk result (λ r. AllKept (beginning H.meaning (Some checkpoint.now)).table) }
 {
     let host = H::load(alloc, checkpoint.host().as_slice())?.unwrap();
     let clients = checkpoint.try_clone_clients()?;
@@ -198,7 +200,7 @@ impl<H: Host> Executor<H> {
         self.undos.clear();
     }
 
-    /// The result of a request, where it is the last executed one of its client. At most `MAX_RESULT_BYTES` bytes.
+    /// The result of a request, where it is kept. At most `MAX_RESULT_BYTES` bytes.
     pub fn result(&self, client: u32, id: u64) -> Option<&Bytes>
         ensures kept { option_copied result ≡ result_kept (kept_for self.now.table client) id }
         ensures slot { (log : Log) → HasExecuted H.state H.meaning H.undo_of log self.now

@@ -4,17 +4,19 @@ ghost use Rattle.nop_types.specs.Meaning.{Meaning};
 ghost use Rattle.nop_types.specs.Execution.{Executed, enter_kept};
 ghost use Rattle.nop_types.specs.Logs.{Log, Trimmed, length_of, appended, with_noop};
 ghost use Rattle.nop_types.specs.Slots.{set_slot};
+ghost use Rattle.client_table.specs.Table.{AllKept};
 ghost use Rattle.executor.specs.declared.slot_undo.SlotUndo.{SlotUndo};
 ghost use Rattle.executor.specs.Running.{Running, reached};
 ghost use Rattle.executor.specs.Undoing.{IsExecuted, HasExecuted, slot_undo_of, undone_by};
 
 use nop_types::Host;
 
-/// What a slot keeps undoes its entry.
-#[tactic(auto, using(crate::proofs::UndoLemmas::goes_back))]
+/// What a slot keeps undoes its entry, where each client has what may be kept; and so it stays.
 pub fn entry_is_undone<H: Host>()
-    ensures { (x : Executed H.State) (e : Entry)
+    ensures undone { (x : Executed H.State) (e : Entry) → AllKept x.table
         → undone_by H.undone (enter_kept H.meaning x e) (slot_undo_of H.undo_of x e) ≡ x }
+    ensures stays { (x : Executed H.State) (e : Entry) → AllKept x.table
+        → AllKept (enter_kept H.meaning x e).table }
 {}
 
 /// What was executed rests on the executed entries alone: it stays so where the log changes above them.

@@ -2,7 +2,7 @@ ghost use Rattle.std.specs.Prelude.{◌≡◌, ◌≤◌, length, OnOk, OnErr, I
 ghost use Rattle.nop_types.specs.Execution.{enter_kept};
 ghost use Rattle.nop_types.specs.CheckpointedLogs.{beginning};
 ghost use Rattle.executor.specs.Running.{execution};
-ghost use Rattle.executor.specs.Undoing.{slot_undo_of, undone_by, IsExecuted, UndoFits, UndosFit, ClientIsKept};
+ghost use Rattle.executor.specs.Undoing.{slot_undo_of, undone_by, IsExecuted, UndoFits, UndosFit, MayUnkeep};
 
 use crate::slot_undo::SlotUndo;
 use client_table::ClientTable;
@@ -44,7 +44,7 @@ fn enter<H: Host>(
 /// Undoes the last slot, where its entry did something.
 fn leave<H: Host>(host: &mut H, table: &mut ClientTable, slot_undo: Option<SlotUndo<H::Undo>>)
     requires fits { UndoFits (H.fits host.old) slot_undo }
-    requires kept { ClientIsKept table.old slot_undo }
+    requires kept { MayUnkeep table.old slot_undo }
     ensures execution { execution (H.state host.new) table.new
         ≡ undone_by H.undone (execution (H.state host.old) table.old) slot_undo }
     ensures still_fits { (u : H.Undo) → H.fits host.old u → H.fits host.new u }

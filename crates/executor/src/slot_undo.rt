@@ -1,6 +1,6 @@
 use client_table::Kept;
 
-/// What undoes an executed request: the op at the host, and the answer in the table.
+/// What undoes an executed request: the op at the host, and the result in the table.
 #[derive(Drop)]
 pub struct SlotUndo<U> {
     pub undo: U,

@@ -1,8 +1,8 @@
 -- The call that arguments name.
-use Rattle.std.specs.Prelude.{ℕ, ◌-◌, ◌^◌, List, ◌∷◌, Option, Some, None, nat_le, ◌&&◌, if◌then◌else◌}
+use Rattle.std.specs.Prelude.{ℕ, ◌-◌, ◌^◌, List, [], ◌∷◌, Bool, true, false, Option, Some, None, codes, nat_le, ◌&&◌, if◌then◌else◌}
 use Rattle.nop_types.specs.Configuration.{Configuration, is_configuration}
 use Rattle.nop_types.specs.declared.limits.TheConstants.{MAX_CONTROLLERS}
-use Rattle.line_fields.specs.Fields.{number_of, number_below}
+use Rattle.line_fields.specs.Fields.{is_text, number_of, number_below}
 use Rattle.client_call.specs.declared.call.Service.{Service}
 use Rattle.kv_text.specs.Text.{◌>>=◌, op_of}
 use Rattle.kv_call.specs.declared.caller.Caller.{Caller}
@@ -34,15 +34,24 @@ caller_of port replicas sequencers client turns = do
   most ← number_in 1 (2 ^ 64 - 1) turns
   Some (record { service = service; number = number; turns = most })
 
--- an op, and who submits it
+-- an op, who submits it, and whether its slot is told too
 pub record Call : Type 0 where
   pub caller : Caller
   pub op : List ℕ
+  pub with_slot : Bool
 
 -- five numbers and the words of an op
-abbrev pub call_of : List (List ℕ) → Option Call
-call_of (port ∷ replicas ∷ sequencers ∷ client ∷ turns ∷ words) = do
+abbrev pub call_by : Bool → List (List ℕ) → Option Call
+call_by with_slot (port ∷ replicas ∷ sequencers ∷ client ∷ turns ∷ words) = do
   caller ← caller_of port replicas sequencers client turns
   op ← op_of words
-  Some (record { caller = caller; op = op })
-call_of words = None
+  Some (record { caller = caller; op = op; with_slot = with_slot })
+call_by with_slot words = None
+
+abbrev pub asks_slot : List ℕ → Bool
+asks_slot word = is_text (codes "--slot") word
+
+-- the first argument may ask for the slot
+abbrev pub call_of : List (List ℕ) → Option Call
+call_of [] = None
+call_of (first ∷ words) = if asks_slot first then call_by true words else call_by false (first ∷ words)

@@ -1,5 +1,6 @@
 -- What a call gives.
-use Rattle.std.specs.Prelude.{◌≡◌, ℕ, List, [], ◌∷◌, ◌++◌, Option, Some, None, option_map, Result, Ok, Err, ⊤}
+use Rattle.std.specs.Prelude.{◌≡◌, ℕ, List, [], ◌∷◌, ◌++◌, Bool, true, false, Option, Some, None, codes, decimal, option_map, Result, Ok, Err, ⊤}
+use Rattle.nop_types.specs.declared.output.Accept.{Accept}
 use Rattle.outside.specs.Ports.{next_link}
 use Rattle.outside.specs.declared.link.Link as link_trait
 use Rattle.outside.specs.declared.link.PollAnswer.{PollAnswer}
@@ -10,14 +11,23 @@ use Rattle.kv_text.specs.Text.{result_words}
 use Rattle.op_text.specs.Words.{text_of}
 use Rattle.kv_call.specs.Arguments.{Call}
 
--- the words of a result, and the line's end
-abbrev pub line_of : List ℕ → List ℕ
-line_of result = text_of (result_words result) ++ 10 ∷ []
+-- words, and the line's end
+abbrev pub line_of : List (List ℕ) → List ℕ
+line_of words = text_of words ++ 10 ∷ []
 
--- the line of a result, or why there is none
-abbrev pub reported : Result (List ℕ) CallError → Result (Option (List ℕ)) CallError
-reported (Ok result) = Ok (Some (line_of result))
-reported (Err e) = Err e
+-- the line of a slot, where it is asked for
+abbrev pub slot_line : Bool → ℕ → List ℕ
+slot_line true slot = line_of (codes "slot" ∷ decimal slot ∷ [])
+slot_line false slot = []
+
+-- and the line of the result behind it
+abbrev pub lines_of : Bool → Accept → List ℕ
+lines_of with_slot accept = slot_line with_slot accept.slot ++ line_of (result_words accept.result)
+
+-- the lines of an acceptance, or why there are none
+abbrev pub reported : Bool → Result Accept CallError → Result (Option (List ℕ)) CallError
+reported with_slot (Ok accept) = Ok (Some (lines_of with_slot accept))
+reported with_slot (Err e) = Err e
 
 -- the ports before and after: the polls to come, and the links that were given back; and the values of the clock
 pub record Over (L : Type 0) : Type 0 where
@@ -34,7 +44,7 @@ used l link = record { port = l.own_port link; faults = l.fault_count link; trac
 
 module _ {L : Type 0} (seen : L → Used) (o : Over L) where
   -- the call ended so: its client ran over the next link, for as many turns as it was given, or had none
-  pub record Ended (c : Call) (result : Result (List ℕ) CallError) : Type 0 where
+  pub record Ended (c : Call) (result : Result Accept CallError) : Type 0 where
     pub answers : Answers c.caller.service.config c.caller.number c.op result
     pub over : EndsOver seen o.before o.after result
         (RanOver (address_of c.caller.service c.caller.number) c.caller.number c.op c.caller.turns (option_map next_link o.to_come)
@@ -42,14 +52,14 @@ module _ {L : Type 0} (seen : L → Used) (o : Over L) where
 
   -- and this is told of it
   pub record Reports (c : Call) (given : Result (Option (List ℕ)) CallError) : Type 0 where
-    pub result : Result (List ℕ) CallError
+    pub result : Result Accept CallError
     pub ended : Ended c result
-    pub is : given ≡ reported result
+    pub is : given ≡ reported c.with_slot result
 
   -- by the call that the arguments name: where memory ran out, it may have been made or not
   abbrev pub Gives : Option Call → Result (Option (List ℕ)) CallError → Type 0
   Gives (Some c) (Err NoMemory) = ⊤
   Gives (Some c) given = Reports c given
-  Gives None (Ok line) = line ≡ None
+  Gives None (Ok lines) = lines ≡ None
   Gives None (Err NoMemory) = ⊤
   Gives None _ = ⊥

@@ -12,9 +12,9 @@ use Rattle.kv_call.specs.declared.status.Status.{Status}
 use Rattle.kv_call.specs.declared.status.Status.TheVariants.{Done, Usage}
 
 unfoldable pub usage_line : List ℕ
-usage_line = codes "usage: kv_call PORT REPLICAS SEQUENCERS CLIENT TURNS OP" ++ 10 ∷ []
+usage_line = codes "usage: kv_call [--slot] PORT REPLICAS SEQUENCERS CLIENT TURNS OP" ++ 10 ∷ []
 
--- the line was written whole, and this is the status then; or a write failed in it
+-- the lines were written whole, and this is the status then; or a write failed in them
 abbrev pub EndsInLine : List ℕ → Status → Option (List ℕ) → Option (List ℕ) → Result Status DeviceError → Type 0
 EndsInLine line status before now (Ok s) = (s ≡ status) × Appends before now line
 EndsInLine line status before now (Err e) = AppendsPrefix before now line

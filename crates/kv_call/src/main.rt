@@ -3,15 +3,18 @@
 //!
 //!     kv_call 47000 3 2 9 5000 put k v             none
 //!     kv_call 47000 3 2 10 5000 get k              =v
+//!     kv_call --slot 47000 3 2 11 5000 put k w     slot 3
+//!                                                  =v
 //!
 //! The arguments are the port of replica 0, how many replicas and how many sequencers there are, the
 //! client's number, which was never used before, the most turns to wait, and an op in the words of
-//! `kv_text`.
+//! `kv_text`. With `--slot` before them a line of the slot from which on the op is executed comes
+//! before that of the result: an answer to a read whose position is not below it sees the op.
 //!
 //! Proved of `run`: where the arguments name a call, that call is made, by the clauses of
-//! `client_call::submit_and_wait`, and the line of its result is written; where they name none, the
-//! usage line, and the ports stay as they were; where there is no result, nothing. A write that
-//! failed left a proper prefix of the line. Which status stands for which end is `specs/Ending`.
+//! `client_call::submit_and_wait`, and the lines of its result are written; where they name none,
+//! the usage line, and the ports stay as they were; where there is no result, nothing. A write that
+//! failed left a proper prefix of the lines. Which status stands for which end is `specs/Ending`.
 //! What the call does over sockets is seen on running clusters by `checks/calls.sh`. Proved of `main`
 //! is that it is safe and ends.
 //!

@@ -15,7 +15,7 @@ use op_text::Words;
 use outside::{Clock, Ports, Sink, WriteError, write_all};
 use std::alloc::Global;
 
-const USAGE_LINE: &str = "usage: kv_call PORT REPLICAS SEQUENCERS CLIENT TURNS OP\n";
+const USAGE_LINE: &str = "usage: kv_call [--slot] PORT REPLICAS SEQUENCERS CLIENT TURNS OP\n";
 
 #[tactic(auto, unfolding(crate::specs::Ending::usage_line))]
 fn write_usage<K: Sink>(sink: &mut K) -> Result<(), WriteError>
@@ -43,8 +43,8 @@ pub fn run<K: Sink, P: Ports, C: Clock>(
         devices.Failed result }
 {
     match call(alloc, arguments.as_slice(), ports, clock) {
-        Ok(Some(line)) => {
-            write_all(sink, line.as_slice())?;
+        Ok(Some(lines)) => {
+            write_all(sink, lines.as_slice())?;
             Ok(Status::Done)
         }
         Ok(None) => {

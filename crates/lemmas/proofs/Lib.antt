@@ -1,6 +1,7 @@
 pub mod Bools
 pub mod Bytes
 pub mod Functions
+pub mod Kept
 pub mod Limits
 pub mod Members
 pub mod Numbers

@@ -1,7 +1,8 @@
--- Lists that begin another one.
+-- Lists that begin another one, or are the rest of one.
 use Rattle.std.proofs.Common.{◌≡◌, ℕ, zero, suc, ◌≤◌, List, [], ◌∷◌, ◌++◌, length, take, drop, Some, refl, sym, ap, ◌∙◌, arith}
 use Rattle.std.proofs.Common.{length-append, take-append-drop, append_assoc}
 use Rattle.std.specs.Prelude.{slice_get}
+use Rattle.std.specs.List.{AllByRecursion}
 use Rattle.std.proofs.lemmas.List.{append-nil}
 use Rattle.std.proofs.lemmas.Option.{slice_get_within}
 use Rattle.nop_types.specs.Lists.{Has, IsPrefixOf}
@@ -48,3 +49,15 @@ IsPrefixOf-shorter xs ys zs h g le = IsPrefixOf-from_places xs ys (λ i x e.
     let there = slice_get-prefix ys zs i other.0 g other.1 in
     let same : other.0 ≡ x = cc in
     other.1 ∙ ap (λ y. Some y) same)
+
+-- ---- what holds of each element
+
+pub all-take : {A : Type 0} (P : A → Type 0) (n : ℕ) (xs : List A) → AllByRecursion P xs → AllByRecursion P (take n xs)
+all-take P zero xs h = tt
+all-take P (suc n) [] h = tt
+all-take P (suc n) (x ∷ xs) h = (h.0, all-take P n xs h.1)
+
+pub all-drop : {A : Type 0} (P : A → Type 0) (n : ℕ) (xs : List A) → AllByRecursion P xs → AllByRecursion P (drop n xs)
+all-drop P zero xs h = h
+all-drop P (suc n) [] h = tt
+all-drop P (suc n) (x ∷ xs) h = all-drop P n xs h.1

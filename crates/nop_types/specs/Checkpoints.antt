@@ -1,12 +1,13 @@
 -- An execution as a checkpoint, from which it goes on without the entries before.
-use Rattle.std.specs.Prelude.{◌≡◌, ◌≤◌, ◌<◌, ◌+◌, ◌^◌, ◌&&◌, ℕ, List, [], ◌∷◌, length, Option, Some, Bool, true, nat_le, IsTrue}
+use Rattle.std.specs.Prelude.{◌≡◌, ◌≤◌, ◌<◌, ◌+◌, ◌-◌, ◌^◌, ◌&&◌, ◌==◌, ℕ, List, [], ◌∷◌, length, Option, Some, Bool, true, nat_le, IsTrue}
 use Rattle.std.specs.List.{list_all, AllByRecursion}
 use Rattle.std.specs.Option.{option_map}
 use Rattle.std.specs.FinMap as finite
-use Rattle.nop_types.specs.declared.limits.TheConstants.{MAX_RESULT_BYTES, MAX_HOST_BYTES, MAX_SERVED}
+use Rattle.nop_types.specs.declared.limits.TheConstants.{MAX_RESULT_BYTES, MAX_HOST_BYTES, MAX_SERVED, WINDOW}
 use Rattle.nop_types.specs.declared.checkpoint.SavedClient.{SavedClient}
 use Rattle.nop_types.specs.Meaning.{Meaning}
-use Rattle.nop_types.specs.Tables.{Answered, Account}
+use Rattle.nop_types.specs.declared.checkpoint.Answered.{Answered}
+use Rattle.nop_types.specs.Tables.{Account}
 use Rattle.nop_types.specs.Execution.{Executed}
 
 -- the host's state as bytes, and each client with what is kept for it, clients ascending
@@ -23,27 +24,44 @@ loaded_of m c = option_map (λ host. record { host = host; table = finite.from_e
 
 -- ---- as a value in memory
 
--- a client as it is saved: its greatest id alone has a result
 abbrev pub saved_account : SavedClient → ℕ × Account
-saved_account c = (c.client, record { greatest = c.id; kept = record { id = c.id; result = c.result } ∷ [] })
+saved_account c = (c.client, record { greatest = c.greatest; kept = c.kept.items })
 
-abbrev pub are_short : List Answered → Bool
-are_short kept = list_all (λ a. nat_le (length a.result) MAX_RESULT_BYTES) kept
+-- the ids ascend from this one on, and the greatest one is the last
+abbrev pub runs_to : ℕ → ℕ → List Answered → Bool
+runs_to greatest least [] = least == greatest + 1
+runs_to greatest least (a ∷ kept) = nat_le least a.id && runs_to greatest (a.id + 1) kept
 
--- the clients ascend from this one on, each with short results
+-- the least id that is less than a window behind
+abbrev pub least_kept : ℕ → ℕ
+least_kept greatest = greatest + 1 - WINDOW
+
+-- ids ascend, each less than a window behind the greatest one, which is the last
+abbrev pub is_kept : Account → Bool
+is_kept a = runs_to a.greatest (least_kept a.greatest) a.kept
+
+-- ids are from 1, and results short
+abbrev pub is_answer : Answered → Bool
+is_answer a = nat_le 1 a.id && nat_le (length a.result) MAX_RESULT_BYTES
+
+abbrev pub are_answers : List Answered → Bool
+are_answers kept = list_all is_answer kept
+
+abbrev pub is_account : Account → Bool
+is_account a = is_kept a && are_answers a.kept
+
+-- the clients ascend from this one on, each with the results that may be kept
 abbrev pub are_saved : ℕ → List (ℕ × Account) → Bool
 are_saved least [] = true
-are_saved least (e ∷ es) = nat_le least e.0 && (are_short e.1.kept && are_saved (e.0 + 1) es)
+are_saved least (e ∷ es) = nat_le least e.0 && (is_account e.1 && are_saved (e.0 + 1) es)
 
 abbrev pub is_checkpoint : Checkpoint → Bool
 is_checkpoint c = nat_le (length c.host) MAX_HOST_BYTES && (nat_le (length c.clients) MAX_SERVED && are_saved 0 c.clients)
 
--- a client as it is saved, its number and id in their ranges
+-- a client's number and its greatest id are in their ranges
 pub record IsSavedAccount (e : ℕ × Account) : Type 0 where
-  pub saved : SavedClient
-  pub is : e ≡ saved_account saved
-  pub client : saved.client < 2 ^ 32
-  pub id : saved.id < 2 ^ 64
+  pub client : e.0 < 2 ^ 32
+  pub greatest : e.1.greatest < 2 ^ 64
 
 -- within the limits, and each client is as it is saved
 pub record CheckpointFits (c : Checkpoint) : Type 0 where

@@ -5,12 +5,8 @@ use Rattle.std.specs.Ordering.{nat_cmp}
 use Rattle.std.specs.Coded.{Coded, code_by, coded×, coded_ℕ, coded_list}
 use Rattle.std.specs.FinMap as finite
 use Rattle.nop_types.specs.declared.limits.TheConstants.{MAX_SERVED}
+use Rattle.nop_types.specs.declared.checkpoint.Answered.{Answered}
 use Rattle.nop_types.specs.Lists.{is_in}
-
--- an executed id, with its result
-pub record Answered : Type 0 where
-  pub id : ℕ
-  pub result : List ℕ
 
 -- a client's greatest executed id, and the results of its executed ids less than a window behind that one, ids ascending
 pub record Account : Type 0 where
@@ -57,6 +53,14 @@ with_answered a (k ∷ kept) = cond (nat_lt a.id k.id) (a ∷ k ∷ kept) (k ∷
 -- those less than a window behind the greatest id
 abbrev pub within : ℕ → ℕ → List Answered → List Answered
 within window greatest kept = filter (λ a. nat_lt greatest (a.id + window)) kept
+
+-- those that a greatest id leaves behind
+abbrev pub beyond : ℕ → ℕ → List Answered → List Answered
+beyond window greatest kept = filter (λ a. not (nat_lt greatest (a.id + window))) kept
+
+-- all but that of this id
+abbrev pub without : ℕ → List Answered → List Answered
+without id kept = filter (λ a. not (a.id == id)) kept
 
 abbrev pub account_with : ℕ → Option Account → Answered → Account
 account_with window None a = record { greatest = a.id; kept = a ∷ [] }

@@ -57,7 +57,7 @@ mod slots;
 mod view;
 
 pub use bytes::Bytes;
-pub use checkpoint::{Checkpoint, SavedClient, try_clone_checkpoint};
+pub use checkpoint::{Answered, Checkpoint, SavedClient, try_clone_answers, try_clone_checkpoint};
 pub use config::Config;
 pub use core_trait::Core;
 pub use datagram::{Answer, Datagram, Fragment, Read, Reply, Stamped};

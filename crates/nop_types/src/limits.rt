@@ -19,7 +19,7 @@ pub const MAX_HOST_BYTES: usize = 1_400_000;
 pub const MAX_SERVED: usize = 256;
 
 /// How far a client's requests may be apart: one is executed where its id plus the window exceeds the greatest id of its client.
-pub const WINDOW: u64 = 1;
+pub const WINDOW: u64 = 8;
 
 /// The most entries of a log above its sync point.
 pub const MAX_SLOTS: usize = 4096;
@@ -77,7 +77,7 @@ const _: () = prove!(
         && MAX_RESULT_BYTES == 257
         && MAX_HOST_BYTES == 1_400_000
         && MAX_SERVED == 256
-        && WINDOW == 1
+        && WINDOW == 8
         && MAX_SLOTS == 4096
         && MAX_LENGTH == 4_294_967_295
         && EPOCH_STEP == 4

@@ -22,10 +22,11 @@ pub enum Dest {
     One(Actor),
 }
 
-/// A request that a client had accepted: its id and the result.
+/// A request that a client had accepted: its id, the slot of its leader's reply, and the result.
 #[derive(Debug, Drop)]
 pub struct Accept {
     pub id: u64,
+    pub slot: u32,
     pub result: Bytes,
 }
 

@@ -10,7 +10,7 @@ use Rattle.std.proofs.lemmas.Bool.{and_parts, leb-true}
 use Rattle.std.proofs.lemmas.Bool.Decides.{nat_tests}
 use Rattle.std.proofs.lemmas.Cmp.{nat_cmp_total}
 use Rattle.nop_types.specs.Tables.{Account}
-use Rattle.nop_types.specs.Checkpoints.{are_saved, are_short}
+use Rattle.nop_types.specs.Checkpoints.{are_saved, is_account}
 
 less : (k q : ℕ) → k + 1 ≤ q → nat_cmp k q ≡ Less
 less k q h = let is : nat_lt k q ≡ true = grind (arith, nat_tests, h) in rw is refl
@@ -31,7 +31,7 @@ pub entries_of_saved : (least : ℕ) (es : List (ℕ × Account)) → are_saved 
 entries_of_saved least [] h =
     nothing (finite.entries finite.empty) (sym (finite.len-entries finite.empty) ∙ finite.len-empty nat_cmp Account)
 entries_of_saved least (e ∷ es) h =
-    let rest : are_saved (e.0 + 1) es ≡ true = (and_parts (are_short e.1.kept) _ (and_parts (nat_le least e.0) _ h).1).1 in
+    let rest : are_saved (e.0 + 1) es ≡ true = (and_parts (is_account e.1) _ (and_parts (nat_le least e.0) _ h).1).1 in
     finite.entries-insert nat_cmp_total (finite.from_entries es) e.0 e.1
     ∙ ap (put nat_cmp e.0 e.1) (entries_of_saved (e.0 + 1) es rest)
     ∙ put_first e.0 e.1 es rest

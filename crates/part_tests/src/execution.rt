@@ -7,7 +7,7 @@ use crate::logs::full_log;
 use crate::requests::{is_expected, request};
 use executor::{Executor, checkpoint_loads};
 use kv_host::KvHost;
-use nop_types::{Bytes, Checkpoint, Entry, Host, MAX_SLOTS};
+use nop_types::{Answered, Bytes, Checkpoint, Entry, Host, MAX_SLOTS};
 use replica_log::ReplicaLog;
 use std::alloc::Global;
 use std::process::Abort;
@@ -15,21 +15,22 @@ use std::process::Abort;
 /// The entries of a log: a client, an id and an op, or a NO-OP for the id 0.
 const SLOTS: [(u32, u64, &[u8]); 9] = [
     (0, 0, b""),
-    (1, 2, b"P\0\x01k\0\x01v"),
-    (0, 0, b""),
-    (1, 2, b"P\0\x01k\0\x01v"),
-    (1, 1, b"D\0\x01k"),
+    (1, 10, b"P\0\x01k\0\x01v"),
+    (1, 3, b"G\0\x01k"),
+    (1, 10, b"P\0\x01k\0\x01v"),
+    (1, 2, b"D\0\x01k"),
     (2, 1, b"G\0\x01k"),
     (3, 1, b"D\0\x01k"),
     (4, 1, b"G\0\x01k"),
     (u32::MAX, u64::MAX, b""),
 ];
 
-/// The last answers: an id that is not the last one of its client has none.
-const RESULTS: [(u32, u64, Option<&[u8]>); 8] = [
-    (1, 2, Some(b"none")),
-    (1, 1, None),
-    (1, 3, None),
+/// The answers that are kept: an id eight behind the greatest one of its client has none, and one that did not come.
+const RESULTS: [(u32, u64, Option<&[u8]>); 9] = [
+    (1, 10, Some(b"none")),
+    (1, 3, Some(b"=v")),
+    (1, 2, None),
+    (1, 11, None),
     (2, 1, Some(b"=v")),
     (3, 1, Some(b"=v")),
     (4, 1, Some(b"none")),
@@ -117,6 +118,44 @@ fn trim<H: Host>(rt: &impl Abort, log: &mut ReplicaLog, executor: &mut Executor<
     executor.rebase();
 }
 
+/// A client's ids in the order in which they come, each a get of a key that is not there. The last one leaves all others behind.
+const IN_ONE_WINDOW: [u64; 9] = [3, 1, 8, 2, 7, 4, 6, 5, 16];
+
+/// Whether the first of these ids have a result, and no others.
+fn have_results<H: Host>(executor: &Executor<H>, count: usize) -> bool {
+    for (place, id) in IN_ONE_WINDOW.iter().enumerate() {
+        let expected: Option<&[u8]> = if place < count { Some(b"none") } else { None };
+        if !is_expected(executor.result(7, *id), expected) {
+            return false;
+        }
+    }
+    true
+}
+
+/// Results that left the window come back where what drove them out is undone.
+fn check_one_window<H: Host>(rt: &impl Abort, alloc: Global) {
+    let mut log = ReplicaLog::new(alloc);
+    for id in &IN_ONE_WINDOW {
+        assert!(rt; log.has_room());
+        log.append(entry(rt, alloc, 7, *id, b"G\0\x01k"))
+            .expect(rt, "memory");
+    }
+    assert!(rt; log.sync_point() == 0 && log.checkpoint().is_none() && log.len() == 9);
+    let mut executor: Executor<H> = Executor::new(alloc).expect(rt, "memory");
+    executor.run_to(&log, 9).expect(rt, "memory");
+    assert!(rt; executor.result(7, 8).is_none());
+    assert!(rt; is_expected(executor.result(7, 16), Some(b"none")));
+    executor.rewind(&log, 8);
+    assert!(rt; have_results(&executor, 8));
+    executor.rewind(&log, 3);
+    assert!(rt; have_results(&executor, 3));
+}
+
+#[test]
+fn results_come_back(rt: HostRuntime) {
+    check_one_window::<KvHost>(&rt, rt.alloc());
+}
+
 /// After a get of each of the clients 0 to 255: a client, an id and an op, and the answer to it in the end.
 const AFTER_THE_FIRST: [(u32, u64, &[u8], Option<&[u8]>); 9] = [
     (256, 1, b"P\0\x01k\0\x01v", None),
@@ -178,14 +217,28 @@ fn the_first_clients_are_served(rt: HostRuntime) {
     check_many_clients::<KvHost>(&rt, rt.alloc());
 }
 
-/// A client, the id and the result with which the checkpoint of the log above has it.
-const IN_THE_CHECKPOINT: [(u32, u64, &[u8]); 5] = [
-    (1, 2, b"none"),
-    (2, 1, b"=v"),
-    (3, 1, b"=v"),
-    (4, 1, b"none"),
-    (u32::MAX, u64::MAX, b"bad"),
+/// A client as the checkpoint of the log above has it: its greatest id, and its results with their ids.
+type InCheckpoint = (u32, u64, &'static [(u64, &'static [u8])]);
+
+const IN_THE_CHECKPOINT: [InCheckpoint; 5] = [
+    (1, 10, &[(3, b"=v"), (10, b"none")]),
+    (2, 1, &[(1, b"=v")]),
+    (3, 1, &[(1, b"=v")]),
+    (4, 1, &[(1, b"none")]),
+    (u32::MAX, u64::MAX, &[(u64::MAX, b"bad")]),
 ];
+
+fn are_kept(kept: &[Answered], expected: &[(u64, &[u8])]) -> bool {
+    if kept.len() != expected.len() {
+        return false;
+    }
+    for (answered, (id, result)) in kept.iter().zip(expected) {
+        if answered.id != *id || answered.result.as_slice() != *result {
+            return false;
+        }
+    }
+    true
+}
 
 fn check_checkpoint<H: Host>(rt: &impl Abort, alloc: Global) {
     let log = log_of_slots(rt, alloc);
@@ -193,9 +246,9 @@ fn check_checkpoint<H: Host>(rt: &impl Abort, alloc: Global) {
     let checkpoint = executor.checkpoint().expect(rt, "memory");
     assert!(rt; checkpoint.clients().len() == IN_THE_CHECKPOINT.len());
     for (saved, expected) in checkpoint.clients().iter().zip(&IN_THE_CHECKPOINT) {
-        assert!(rt; saved.client == expected.0 && saved.id == expected.1);
+        assert!(rt; saved.client == expected.0 && saved.greatest == expected.1);
         assert!(rt;
-            saved.result.as_slice() == expected.2,
+            are_kept(&saved.kept, expected.2),
             "client {}",
             saved.client
         );
@@ -222,7 +275,8 @@ fn check_trimmed<H: Host>(rt: &impl Abort, alloc: Global) -> (ReplicaLog, Execut
     check_answers(rt, &executor);
     executor.rewind(&log, 5);
     assert!(rt; executor.reached() == 5 && executor.result(2, 1).is_none());
-    assert!(rt; is_expected(executor.result(1, 2), Some(b"none")));
+    assert!(rt; is_expected(executor.result(1, 10), Some(b"none")));
+    assert!(rt; is_expected(executor.result(1, 3), Some(b"=v")));
     executor.run_to(&log, 9).expect(rt, "memory");
     check_answers(rt, &executor);
     (log, executor)
@@ -235,7 +289,7 @@ fn check_restarted<H: Host>(rt: &impl Abort, alloc: Global) {
     assert!(rt; loads && log.checkpoint().is_some() && log.len() == 9);
     executor.restart(&log).expect(rt, "memory");
     assert!(rt; executor.reached() == 5 && executor.result(2, 1).is_none());
-    assert!(rt; is_expected(executor.result(1, 2), Some(b"none")));
+    assert!(rt; is_expected(executor.result(1, 10), Some(b"none")));
     executor.run_to(&log, 9).expect(rt, "memory");
     check_answers(rt, &executor);
     executor.rewind(&log, 5);

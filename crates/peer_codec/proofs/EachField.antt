@@ -6,7 +6,7 @@ use Rattle.std.specs.Int.{Width, w16, w32, w64}
 use Rattle.std.proofs.lemmas.Bool.Decides.{nat_tests}
 use Rattle.nop_types.specs.Ranges.{ViewFits, SlotFits, NextFits, RequestFits}
 use Rattle.nop_types.specs.declared.limits.TheConstants.{MAX_HOST_BYTES, MAX_LENGTH, MAX_OP_BYTES, MAX_REPLICAS, MAX_RESULT_BYTES, MAX_SERVED}
-use Rattle.nop_types.specs.declared.limits.TheConstants.{MAX_SLOTS, NUMBER_END}
+use Rattle.nop_types.specs.declared.limits.TheConstants.{MAX_SLOTS, NUMBER_END, WINDOW}
 use Rattle.nop_types.specs.declared.view.View.{View}
 use Rattle.nop_types.specs.declared.request.Request.{Request}
 use Rattle.oum_codec.specs.Numbers.{IsBytes, be_bytes, number_at, byte_at, bytes_at}
@@ -18,7 +18,7 @@ use Rattle.oum_codec.proofs.Numbers.{byte_takes, bytes_take, bytes_again, view_t
 use Rattle.peer_codec.specs.declared.bad_peer.BadPeer.{BadPeer}
 use Rattle.peer_codec.specs.declared.bad_peer.BadPeer.TheVariants.{Short, Field}
 use Rattle.peer_codec.specs.Fields.{there, in_range, sender_at, view_at, slot_at, next_at, length_at, count_at, id_at, op_at}
-use Rattle.peer_codec.specs.Fields.{counted_at, request_at, host_at, served_at, client_at, greatest_at, result_at}
+use Rattle.peer_codec.specs.Fields.{counted_at, request_at, host_at, served_at, client_at, kept_count_at, kept_id_at, result_at}
 
 abbrev done : {A : Type 0} → A → Result A BadPeer
 done x = Ok x
@@ -141,27 +141,56 @@ client_again least n rest low high =
     let passes : nat_le least n ≡ true = grind (arith, nat_tests, low) in
     number_in_range_again w32 (2 ^ 32) wide32 (λ n. nat_le least n) n rest high passes
 
-pub greatest_takes : (bytes : List ℕ) (x : ℕ × List ℕ) → IsBytes bytes → greatest_at bytes ≡ Ok x
-    → Takes bytes (be_bytes w64 x.0) x.1 × (x.0 < 2 ^ 64)
-unfolding greatest_at
-greatest_takes bytes x fits e = number_takes w64 (2 ^ 64) wide64 bytes x fits (ok_or_ok (number_at w64 bytes) Short x e)
+pub record KeptCountFits (n : ℕ) : Type 0 where
+  pub low : 1 ≤ n
+  pub high : n ≤ WINDOW
 
-pub greatest_again : (n : ℕ) (rest : List ℕ) → n < 2 ^ 64 → greatest_at (be_bytes w64 n ++ rest) ≡ Ok (n, rest)
-unfolding greatest_at
-greatest_again n rest high = rw (number_again w64 (2 ^ 64) wide64 n rest high) refl
+pub kept_count_takes : (bytes : List ℕ) (x : ℕ × List ℕ) → IsBytes bytes → kept_count_at bytes ≡ Ok x
+    → Takes bytes (x.0 ∷ []) x.1 × KeptCountFits x.0
+unfolding kept_count_at
+kept_count_takes bytes x fits e =
+    let g = in_range_ok (λ n. nat_lt 0 n && nat_le n WINDOW) (byte_at bytes) x e in
+    let low : 1 ≤ x.0 = grind (arith, nat_tests, g.1) in
+    let high : x.0 ≤ WINDOW = grind (arith, nat_tests, g.1) in
+    (byte_takes bytes x fits g.0, record { low = low; high = high })
 
-record IdFits (id : ℕ) : Type 0 where
+pub kept_count_again : (n : ℕ) (rest : List ℕ) → 1 ≤ n → n ≤ WINDOW → kept_count_at (n ∷ rest) ≡ Ok (n, rest)
+unfolding kept_count_at
+kept_count_again n rest low high =
+    let passes : (nat_lt 0 n && nat_le n WINDOW) ≡ true = grind (arith, nat_tests, low, high) in rw passes refl
+
+pub record KeptIdFits (least greatest id : ℕ) : Type 0 where
+  pub low : least ≤ id
+  pub high : id ≤ greatest
+
+pub kept_id_takes : (least greatest : ℕ) (bytes : List ℕ) (x : ℕ × List ℕ) → IsBytes bytes → kept_id_at least greatest bytes ≡ Ok x
+    → Takes bytes (be_bytes w64 x.0) x.1 × KeptIdFits least greatest x.0
+unfolding kept_id_at
+kept_id_takes least greatest bytes x fits e =
+    let t = number_in_range w64 (2 ^ 64) wide64 (λ n. nat_le least n && nat_le n greatest) bytes x fits e in
+    let low : least ≤ x.0 = grind (arith, nat_tests, t.passes) in
+    let high : x.0 ≤ greatest = grind (arith, nat_tests, t.passes) in
+    (t.takes, record { low = low; high = high })
+
+pub kept_id_again : (least greatest n : ℕ) (rest : List ℕ) → least ≤ n → n ≤ greatest → n < 2 ^ 64
+    → kept_id_at least greatest (be_bytes w64 n ++ rest) ≡ Ok (n, rest)
+unfolding kept_id_at
+kept_id_again least greatest n rest low high wide =
+    let passes : (nat_le least n && nat_le n greatest) ≡ true = grind (arith, nat_tests, low, high) in
+    number_in_range_again w64 (2 ^ 64) wide64 (λ n. nat_le least n && nat_le n greatest) n rest wide passes
+
+pub record IdFits (id : ℕ) : Type 0 where
   pub low : 1 ≤ id
   pub high : id < 2 ^ 64
 
-id_takes : (bytes : List ℕ) (x : ℕ × List ℕ) → IsBytes bytes → id_at bytes ≡ Ok x → Takes bytes (be_bytes w64 x.0) x.1 × IdFits x.0
+pub id_takes : (bytes : List ℕ) (x : ℕ × List ℕ) → IsBytes bytes → id_at bytes ≡ Ok x → Takes bytes (be_bytes w64 x.0) x.1 × IdFits x.0
 unfolding id_at
 id_takes bytes x fits e =
     let t = number_in_range w64 (2 ^ 64) wide64 (λ n. nat_lt 0 n) bytes x fits e in
     let low : 1 ≤ x.0 = grind (arith, nat_tests, t.passes) in
     (t.takes, record { low = low; high = t.below })
 
-id_again : (n : ℕ) (rest : List ℕ) → 1 ≤ n → n < 2 ^ 64 → id_at (be_bytes w64 n ++ rest) ≡ Ok (n, rest)
+pub id_again : (n : ℕ) (rest : List ℕ) → 1 ≤ n → n < 2 ^ 64 → id_at (be_bytes w64 n ++ rest) ≡ Ok (n, rest)
 unfolding id_at
 id_again n rest low high =
     let passes : nat_lt 0 n ≡ true = grind (arith, nat_tests, low) in

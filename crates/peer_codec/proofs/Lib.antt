@@ -3,6 +3,7 @@ pub mod EachField
 pub mod EachKind
 pub mod EachLog
 pub mod Entries
+pub mod KeptResults
 pub mod Longest
 pub mod Loop
 pub mod Peers

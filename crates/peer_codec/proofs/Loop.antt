@@ -1,17 +1,18 @@
 -- Reading values one after the other, as a loop does.
-use Rattle.std.proofs.Common.{◌≡◌, ℕ, suc, ◌-◌, ◌+◌, ◌≤◌, ◌<◌, List, [], ◌∷◌, ◌++◌, Result, Ok, Err, refl, sym, ap, ◌∙◌, append_assoc}
+use Rattle.std.proofs.Common.{◌≡◌, ℕ, suc, ◌-◌, ◌+◌, ◌≤◌, ◌<◌, List, [], ◌∷◌, ◌++◌, Result, Ok, Err, refl, sym, ap, subst, ◌∙◌, append_assoc}
 use Rattle.std.proofs.Common.{arith}
 use Rattle.std.specs.Prelude.{map}
 use Rattle.std.proofs.lemmas.List.{append-nil, map-append}
 use Rattle.nop_types.specs.Checkpoints.{saved_account}
 use Rattle.nop_types.specs.Tables.{Account}
 use Rattle.nop_types.specs.declared.checkpoint.SavedClient.{SavedClient}
+use Rattle.nop_types.specs.declared.checkpoint.Answered.{Answered}
 use Rattle.nop_types.specs.declared.request.Entry.{Entry}
 use Rattle.oum_codec.specs.Reading.{◌>>=◌}
 use Rattle.peer_codec.specs.declared.bad_peer.BadPeer.{BadPeer}
 use Rattle.peer_codec.specs.declared.bad_peer.BadPeer.TheVariants.{Short, Kind, Field, Trailing, NoMemory}
 use Rattle.peer_codec.specs.Answers.{Fails}
-use Rattle.peer_codec.specs.Logs.{entry_at, entries_at, account_at, accounts_at}
+use Rattle.peer_codec.specs.Logs.{entry_at, entries_at, answered_at, least_before, kept_at, account_at, accounts_at}
 
 abbrev pub Read : Type 0 → Type 0
 Read A = Result (A × List ℕ) BadPeer
@@ -80,6 +81,48 @@ entries_done prefix count i bytes total le so_far =
     let k : count - i ≡ 0 = omega arith in
     let here : with_prefix prefix (entries_at (count - i) bytes) ≡ Ok (prefix, bytes) =
     rw k (ap (λ (xs : List Entry). Ok (xs, bytes)) (append-nil prefix)) in
+    sym so_far ∙ here
+
+-- ---- kept results
+
+kept_more : (count i least greatest : ℕ) (bytes : List ℕ) → i < count
+    → kept_at (count - i) least greatest bytes
+    ≡ one_more (answered_at (least_before (count - (i + 1)) least greatest) greatest bytes)
+    (λ x. kept_at (count - (i + 1)) (x.0.id + 1) greatest x.1)
+unfolding kept_at
+kept_more count i least greatest bytes lt = let k : count - i ≡ suc (count - (i + 1)) = omega arith in rw k refl
+
+pub kept_go_on : (prefix : List Answered) (count i least greatest from number : ℕ) (bytes : List ℕ) (x : Answered) (after : List ℕ)
+    (total : Read (List Answered)) → i < count → from ≡ least_before (count - (i + 1)) least greatest
+    → answered_at from greatest bytes ≡ Ok (x, after) → number ≡ x.id
+    → with_prefix prefix (kept_at (count - i) least greatest bytes) ≡ total
+    → with_prefix (prefix ++ x ∷ []) (kept_at (count - (i + 1)) (number + 1) greatest after) ≡ total
+kept_go_on prefix count i least greatest from number bytes x after total lt low h is so_far =
+    let here : answered_at (least_before (count - (i + 1)) least greatest) greatest bytes ≡ Ok (x, after) =
+    ap (λ (n : ℕ). answered_at n greatest bytes) (sym low) ∙ h in
+    let step : with_prefix (prefix ++ x ∷ []) (kept_at (count - (i + 1)) (x.id + 1) greatest after) ≡ total =
+    goes_on prefix (answered_at (least_before (count - (i + 1)) least greatest) greatest bytes)
+    (λ x. kept_at (count - (i + 1)) (x.0.id + 1) greatest x.1) x after total here
+    (ap (with_prefix prefix) (sym (kept_more count i least greatest bytes lt)) ∙ so_far) in
+    rw is step
+
+pub kept_end : (e : BadPeer) (prefix : List Answered) (count i least greatest from : ℕ) (bytes : List ℕ) (total : Read (List Answered))
+    → i < count → from ≡ least_before (count - (i + 1)) least greatest → Fails e (answered_at from greatest bytes)
+    → with_prefix prefix (kept_at (count - i) least greatest bytes) ≡ total → Fails e total
+kept_end e prefix count i least greatest from bytes total lt low h so_far =
+    let here : Fails e (answered_at (least_before (count - (i + 1)) least greatest) greatest bytes) =
+    subst (λ (n : ℕ). Fails e (answered_at n greatest bytes)) low h in
+    ends e prefix (answered_at (least_before (count - (i + 1)) least greatest) greatest bytes)
+    (λ x. kept_at (count - (i + 1)) (x.0.id + 1) greatest x.1) total here
+    (ap (with_prefix prefix) (sym (kept_more count i least greatest bytes lt)) ∙ so_far)
+
+pub kept_done : (prefix : List Answered) (count i least greatest : ℕ) (bytes : List ℕ) (total : Read (List Answered)) → count ≤ i
+    → with_prefix prefix (kept_at (count - i) least greatest bytes) ≡ total → total ≡ Ok (prefix, bytes)
+unfolding kept_at
+kept_done prefix count i least greatest bytes total le so_far =
+    let k : count - i ≡ 0 = omega arith in
+    let here : with_prefix prefix (kept_at (count - i) least greatest bytes) ≡ Ok (prefix, bytes) =
+    rw k (ap (λ (xs : List Answered). Ok (xs, bytes)) (append-nil prefix)) in
     sym so_far ∙ here
 
 -- ---- clients

@@ -1,12 +1,14 @@
 -- How many bytes spellings have.
-use Rattle.std.proofs.Common.{◌≡◌, ℕ, ◌+◌, List, ◌++◌, length, length-append, arith, ap, ◌∙◌}
+use Rattle.std.proofs.Common.{◌≡◌, ℕ, ◌+◌, List, [], ◌∷◌, ◌++◌, length, length-append, arith, ap}
 use Rattle.std.specs.Prelude.{map}
 use Rattle.std.specs.Int.{w16, w32, w64}
 use Rattle.std.specs.List.{flat_map, sum_by}
 use Rattle.std.proofs.lemmas.List.Concat.{length-flat_map}
 use Rattle.nop_types.specs.Checkpoints.{Checkpoint, saved_account}
 use Rattle.nop_types.specs.Logs.{Log}
+use Rattle.nop_types.specs.declared.checkpoint.Answered.{Answered}
 use Rattle.nop_types.specs.declared.checkpoint.SavedClient.{SavedClient}
+use Rattle.nop_types.specs.Tables.{Account}
 use Rattle.nop_types.specs.declared.view.View.{View}
 use Rattle.nop_types.specs.declared.request.Request.{Request}
 use Rattle.nop_types.specs.declared.request.Entry.{Entry}
@@ -15,9 +17,9 @@ use Rattle.nop_types.specs.declared.peer.Body.TheVariants.{Found, ViewChange, St
 use Rattle.oum_codec.specs.Numbers.{be_bytes}
 use Rattle.oum_codec.specs.Spelling.{view_bytes, counted_bytes, request_bytes}
 use Rattle.oum_codec.proofs.Numbers.{wide16, wide32, wide64}
-use Rattle.peer_codec.specs.Spelling.{entry_bytes, entries_bytes, account_bytes, accounts_bytes, checkpoint_bytes, optional_bytes, log_bytes}
-use Rattle.peer_codec.specs.Spelling.{body_bytes, head_bytes, kind_of, spelling}
-use Rattle.peer_codec.proofs.Accounts.{saved_bytes, accounts_saved}
+use Rattle.peer_codec.specs.Spelling.{entry_bytes, entries_bytes, answered_bytes, account_bytes, accounts_bytes, checkpoint_bytes}
+use Rattle.peer_codec.specs.Spelling.{optional_bytes, log_bytes, body_bytes, head_bytes, kind_of, spelling}
+use Rattle.peer_codec.proofs.Accounts.{accounts_saved}
 
 view_len : (v : View) → length (view_bytes v) ≡ 12
 view_len v = omega (arith, length-append (be_bytes w32 v.leader) (be_bytes w64 v.session), wide32.len v.leader, wide64.len v.session)
@@ -44,13 +46,26 @@ entries_len entries =
 
 -- ---- checkpoints
 
-pub account_len : (c : SavedClient) → length (account_bytes (saved_account c)) ≡ 14 + length c.result
-account_len c =
-    let prefix : length (be_bytes w32 c.client ++ be_bytes w64 c.id) ≡ 12 =
-    omega (arith, length-append (be_bytes w32 c.client) (be_bytes w64 c.id), wide32.len c.client, wide64.len c.id) in
-    let parts : length (be_bytes w32 c.client ++ be_bytes w64 c.id ++ counted_bytes c.result) ≡ 14 + length c.result =
-    omega (arith, length-append (be_bytes w32 c.client ++ be_bytes w64 c.id) (counted_bytes c.result), counted_len c.result, prefix) in
-    ap length (saved_bytes c) ∙ parts
+pub answered_len : (a : Answered) → length (answered_bytes a) ≡ 10 + length a.result
+answered_len a = omega (arith, length-append (be_bytes w64 a.id) (counted_bytes a.result), wide64.len a.id, counted_len a.result)
+
+pub kept_len : (kept : List Answered) → length (flat_map answered_bytes kept) ≡ sum_by (λ a. length (answered_bytes a)) kept
+kept_len kept = length-flat_map answered_bytes kept
+
+pub entry_len : (e : ℕ × Account) → length (account_bytes e) ≡ 13 + length (flat_map answered_bytes e.1.kept)
+entry_len e =
+    let head : List ℕ = be_bytes w32 e.0 ++ be_bytes w64 e.1.greatest in
+    let prefix : length head ≡ 12 =
+    omega (arith, length-append (be_bytes w32 e.0) (be_bytes w64 e.1.greatest), wide32.len e.0, wide64.len e.1.greatest) in
+    omega (
+      arith,
+      length-append (head ++ length e.1.kept ∷ []) (flat_map answered_bytes e.1.kept),
+      length-append head (length e.1.kept ∷ []),
+      prefix,
+    )
+
+pub account_len : (c : SavedClient) → length (account_bytes (saved_account c)) ≡ 13 + length (flat_map answered_bytes c.kept.items)
+account_len c = entry_len (saved_account c)
 
 pub accounts_len : (clients : List SavedClient)
     → length (accounts_bytes (map saved_account clients)) ≡ 4 + sum_by (λ c. length (account_bytes (saved_account c))) clients

@@ -2,7 +2,7 @@
 use Rattle.std.specs.Prelude.{ℕ, ◌+◌, Bool, List, Option, ok_or, Result, Ok, Err, nat_lt, nat_le, ◌&&◌, if◌then◌else◌}
 use Rattle.std.specs.Int.{Width, w16, w32, w64}
 use Rattle.nop_types.specs.declared.limits.TheConstants.{MAX_HOST_BYTES, MAX_LENGTH, MAX_OP_BYTES, MAX_REPLICAS, MAX_RESULT_BYTES, MAX_SERVED}
-use Rattle.nop_types.specs.declared.limits.TheConstants.{MAX_SLOTS, NUMBER_END}
+use Rattle.nop_types.specs.declared.limits.TheConstants.{MAX_SLOTS, NUMBER_END, WINDOW}
 use Rattle.nop_types.specs.declared.view.View.{View}
 use Rattle.nop_types.specs.declared.request.Request.{Request}
 use Rattle.oum_codec.specs.Numbers.{number_at, byte_at, bytes_at}
@@ -76,9 +76,13 @@ served_at bytes = in_range (λ n. nat_le n MAX_SERVED) (number_at w32 bytes)
 unfoldable pub client_at : ℕ → List ℕ → Result (ℕ × List ℕ) BadPeer
 client_at least bytes = in_range (λ n. nat_le least n) (number_at w32 bytes)
 
--- the greatest id that a client has executed
-unfoldable pub greatest_at : List ℕ → Result (ℕ × List ℕ) BadPeer
-greatest_at bytes = there (number_at w64 bytes)
+-- how many results are kept for it
+unfoldable pub kept_count_at : List ℕ → Result (ℕ × List ℕ) BadPeer
+kept_count_at bytes = in_range (λ n. nat_lt 0 n && nat_le n WINDOW) (byte_at bytes)
+
+-- the id of one, from this one on up to the greatest
+unfoldable pub kept_id_at : ℕ → ℕ → List ℕ → Result (ℕ × List ℕ) BadPeer
+kept_id_at least greatest bytes = in_range (λ n. nat_le least n && nat_le n greatest) (number_at w64 bytes)
 
 abbrev pub result_at : List ℕ → Result (List ℕ × List ℕ) BadPeer
 result_at bytes = counted_at w16 MAX_RESULT_BYTES bytes

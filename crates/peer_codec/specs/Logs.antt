@@ -1,14 +1,15 @@
 -- Entries, checkpoints and logs at the front of the bytes.
-use Rattle.std.specs.Prelude.{ℕ, zero, suc, ◌+◌, List, [], ◌∷◌, Option, Some, None, Result, Ok, Err, nat_lt, if◌then◌else◌}
+use Rattle.std.specs.Prelude.{ℕ, zero, suc, ◌+◌, ◌==◌, List, [], ◌∷◌, max, Option, Some, None, Result, Ok, Err, nat_lt, if◌then◌else◌}
 use Rattle.nop_types.specs.declared.request.Entry.{Entry}
 use Rattle.nop_types.specs.declared.request.Entry.TheVariants.{NoOp, Req}
-use Rattle.nop_types.specs.Checkpoints.{Checkpoint, saved_account}
+use Rattle.nop_types.specs.declared.checkpoint.Answered.{Answered}
+use Rattle.nop_types.specs.Checkpoints.{Checkpoint, least_kept}
 use Rattle.nop_types.specs.Logs.{Log}
 use Rattle.nop_types.specs.Tables.{Account}
 use Rattle.oum_codec.specs.Reading.{◌>>=◌}
 use Rattle.peer_codec.specs.declared.bad_peer.BadPeer.{BadPeer}
 use Rattle.peer_codec.specs.declared.bad_peer.BadPeer.TheVariants.{Short, Field}
-use Rattle.peer_codec.specs.Fields.{length_at, count_at, request_at, host_at, served_at, client_at, greatest_at, result_at}
+use Rattle.peer_codec.specs.Fields.{length_at, count_at, id_at, request_at, host_at, served_at, client_at, kept_count_at, kept_id_at, result_at}
 
 -- the tag is 0 for a NO-OP, and 1 for a request
 unfoldable pub entry_at : List ℕ → Result (Entry × List ℕ) BadPeer
@@ -25,13 +26,37 @@ entries_at (suc n) bytes = do
   others ← entries_at n first.1
   Ok (first.0 ∷ others.0, others.1)
 
--- a client, from this number on, its greatest id, and that id's result
+-- a kept result: its id, from this one on up to the greatest, and its bytes
+unfoldable pub answered_at : ℕ → ℕ → List ℕ → Result (Answered × List ℕ) BadPeer
+answered_at least greatest bytes = do
+  id ← kept_id_at least greatest bytes
+  result ← result_at id.1
+  Ok (record { id = id.0; result = result.0 }, result.1)
+
+-- the last one, after which none are left, has the greatest id
+abbrev pub least_before : ℕ → ℕ → ℕ → ℕ
+least_before left least greatest = if left == 0 then max least greatest else least
+
+-- a given number of kept results, ids ascending from a number on, up to the greatest
+unfoldable pub kept_at : ℕ → ℕ → ℕ → List ℕ → Result (List Answered × List ℕ) BadPeer
+kept_at zero least greatest bytes = Ok ([], bytes)
+kept_at (suc n) least greatest bytes = do
+  first ← answered_at (least_before n least greatest) greatest bytes
+  others ← kept_at n (first.0.id + 1) greatest first.1
+  Ok (first.0 ∷ others.0, others.1)
+
+-- the least id that is kept: ids count from 1, and are less than a window behind the greatest
+abbrev pub least_id : ℕ → ℕ
+least_id greatest = max 1 (least_kept greatest)
+
+-- a client, from this number on, its greatest id, the number of its results, and these
 unfoldable pub account_at : ℕ → List ℕ → Result ((ℕ × Account) × List ℕ) BadPeer
 account_at least bytes = do
   client ← client_at least bytes
-  id ← greatest_at client.1
-  result ← result_at id.1
-  Ok (saved_account (record { client = client.0; id = id.0; result = result.0 }), result.1)
+  greatest ← id_at client.1
+  count ← kept_count_at greatest.1
+  kept ← kept_at count.0 (least_id greatest.0) greatest.0 count.1
+  Ok ((client.0, record { greatest = greatest.0; kept = kept.0 }), kept.1)
 
 -- a given number of clients, from a number on, ascending
 unfoldable pub accounts_at : ℕ → ℕ → List ℕ → Result (List (ℕ × Account) × List ℕ) BadPeer

@@ -2,11 +2,11 @@
 use Rattle.std.specs.Prelude.{◌≡◌, ℕ, List, [], ◌∷◌, ◌++◌, length, Option, Some, None}
 use Rattle.std.specs.Int.{w32, w64}
 use Rattle.std.specs.List.{flat_map}
-use Rattle.std.specs.Option.{unwrap_or}
 use Rattle.nop_types.specs.Checkpoints.{Checkpoint}
 use Rattle.nop_types.specs.Logs.{Log}
 use Rattle.nop_types.specs.Ranges.{PeerFits}
-use Rattle.nop_types.specs.Tables.{Account, result_in}
+use Rattle.nop_types.specs.Tables.{Account}
+use Rattle.nop_types.specs.declared.checkpoint.Answered.{Answered}
 use Rattle.nop_types.specs.declared.view.View.{View}
 use Rattle.nop_types.specs.declared.request.Entry.{Entry}
 use Rattle.nop_types.specs.declared.request.Entry.TheVariants.{NoOp, Req}
@@ -26,9 +26,13 @@ entry_bytes (Req r) = 1 ∷ [] ++ request_bytes r
 abbrev pub entries_bytes : List Entry → List ℕ
 entries_bytes entries = be_bytes w32 (length entries) ++ flat_map entry_bytes entries
 
--- a client, its greatest id, and the result that is kept with that id
+-- an id, and its result
+abbrev pub answered_bytes : Answered → List ℕ
+answered_bytes a = be_bytes w64 a.id ++ counted_bytes a.result
+
+-- a client, its greatest id, one byte of number, and the results that are kept
 abbrev pub account_bytes : ℕ × Account → List ℕ
-account_bytes e = be_bytes w32 e.0 ++ be_bytes w64 e.1.greatest ++ counted_bytes (unwrap_or (result_in e.1.kept e.1.greatest) [])
+account_bytes e = be_bytes w32 e.0 ++ be_bytes w64 e.1.greatest ++ length e.1.kept ∷ [] ++ flat_map answered_bytes e.1.kept
 
 -- four bytes of number, and the clients
 abbrev pub accounts_bytes : List (ℕ × Account) → List ℕ

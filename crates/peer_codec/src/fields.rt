@@ -6,12 +6,12 @@ ghost use Rattle.nop_types.specs.declared.limits.TheConstants.{MAX_HOST_BYTES, M
 ghost use Rattle.nop_types.specs.declared.limits.TheConstants.{MAX_SERVED, MAX_SLOTS};
 ghost use Rattle.peer_codec.specs.Answers.{GivesBy};
 ghost use Rattle.peer_codec.specs.Fields.{sender_at, view_at, slot_at, next_at, length_at, count_at, id_at, counted_at, op_at};
-ghost use Rattle.peer_codec.specs.Fields.{request_at, host_at, served_at, client_at, greatest_at, result_at};
+ghost use Rattle.peer_codec.specs.Fields.{request_at, host_at, served_at, client_at, kept_count_at, kept_id_at, result_at};
 
 use crate::BadPeer;
 use nop_types::{
     Bytes, MAX_HOST_BYTES, MAX_LENGTH, MAX_OP_BYTES, MAX_REPLICAS, MAX_RESULT_BYTES, MAX_SERVED,
-    MAX_SLOTS, NUMBER_END, Op, Request, View,
+    MAX_SLOTS, NUMBER_END, Op, Request, View, WINDOW,
 };
 use oum_codec::{split_bytes, split_u8, split_u16, split_u32, split_u64, split_view};
 use std::alloc::Global;
@@ -94,8 +94,9 @@ pub fn split_count(sync_point: u32, bytes: &[u8]) -> Result<(u32, &[u8]), BadPee
     Ok((count, rest))
 }
 
+/// An id, which counts from 1.
 #[tactic(auto, unfolding(crate::specs::Fields::id_at))]
-fn split_id(bytes: &[u8]) -> Result<(u64, &[u8]), BadPeer>
+pub fn split_id(bytes: &[u8]) -> Result<(u64, &[u8]), BadPeer>
     ensures { GivesBy (λ x. (x.0, x.1.now)) result (id_at bytes.now) }
 {
     let Some((id, rest)) = split_u64(bytes) else {
@@ -190,12 +191,32 @@ pub fn split_client(least: u64, bytes: &[u8]) -> Result<(u32, &[u8]), BadPeer>
     Ok((client, rest))
 }
 
-/// The greatest id that a client has executed.
-#[tactic(auto, unfolding(crate::specs::Fields::greatest_at))]
-pub fn split_greatest(bytes: &[u8]) -> Result<(u64, &[u8]), BadPeer>
-    ensures { GivesBy (λ x. (x.0, x.1.now)) result (greatest_at bytes.now) }
+/// The number of results that are kept for a client.
+#[tactic(auto, unfolding(crate::specs::Fields::kept_count_at))]
+pub fn split_kept_count(bytes: &[u8]) -> Result<(u8, &[u8]), BadPeer>
+    ensures { GivesBy (λ x. (x.0, x.1.now)) result (kept_count_at bytes.now) }
 {
-    split_u64(bytes).ok_or(BadPeer::Short)
+    let Some((count, rest)) = split_u8(bytes) else {
+        return Err(BadPeer::Short);
+    };
+    if count == 0 || WINDOW < u64::from(count) {
+        return Err(BadPeer::Field);
+    }
+    Ok((count, rest))
+}
+
+/// The id of a kept result, which is not below `least` and not above the greatest.
+#[tactic(auto, unfolding(crate::specs::Fields::kept_id_at))]
+pub fn split_kept_id(least: u128, greatest: u64, bytes: &[u8]) -> Result<(u64, &[u8]), BadPeer>
+    ensures { GivesBy (λ x. (x.0, x.1.now)) result (kept_id_at least greatest bytes.now) }
+{
+    let Some((id, rest)) = split_u64(bytes) else {
+        return Err(BadPeer::Short);
+    };
+    if u128::from(id) < least || greatest < id {
+        return Err(BadPeer::Field);
+    }
+    Ok((id, rest))
 }
 
 pub fn split_result(alloc: Global, bytes: &[u8]) -> Result<(Bytes, &[u8]), BadPeer>

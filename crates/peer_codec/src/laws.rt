@@ -28,5 +28,5 @@ pub fn spelling_is_injective()
 /// No message has more bytes.
 #[tactic(auto, using(crate::proofs::Longest::spelling_most))]
 pub fn spelling_is_limited()
-    ensures { (p : Peer) → PeerFits p → length (spelling p) ≤ 4152306 }
+    ensures { (p : Peer) → PeerFits p → length (spelling p) ≤ 4633074 }
 {}

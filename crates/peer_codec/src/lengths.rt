@@ -1,18 +1,19 @@
 //! How many bytes spellings have.
 
 ghost use Rattle.std.specs.Prelude.{◌≡◌, ◌≤◌, ◌+◌, ◌*◌, length, map, All};
+ghost use Rattle.std.specs.List.{flat_map};
 ghost use Rattle.std.specs.Option.{option_copied};
 ghost use Rattle.nop_types.specs.declared.limits.TheConstants.{MAX_HOST_BYTES, MAX_OP_BYTES, MAX_RESULT_BYTES, MAX_SERVED};
-ghost use Rattle.nop_types.specs.declared.limits.TheConstants.{MAX_SLOTS};
+ghost use Rattle.nop_types.specs.declared.limits.TheConstants.{MAX_SLOTS, WINDOW};
 ghost use Rattle.nop_types.specs.BorrowedLogs.{log_of};
 ghost use Rattle.nop_types.specs.Checkpoints.{saved_account};
 ghost use Rattle.oum_codec.specs.Spelling.{request_bytes};
 ghost use Rattle.peer_codec.specs.LogBodies.{log_in, with_log};
-ghost use Rattle.peer_codec.specs.Spelling.{entry_bytes, entries_bytes, account_bytes, accounts_bytes, checkpoint_bytes};
-ghost use Rattle.peer_codec.specs.Spelling.{optional_bytes, log_bytes, body_bytes, spelling};
+ghost use Rattle.peer_codec.specs.Spelling.{entry_bytes, entries_bytes, answered_bytes, account_bytes, accounts_bytes};
+ghost use Rattle.peer_codec.specs.Spelling.{checkpoint_bytes, optional_bytes, log_bytes, body_bytes, spelling};
 
 use crate::LogBody;
-use nop_types::{Body, Checkpoint, Entry, LogRef, Peer, Request, SavedClient};
+use nop_types::{Answered, Body, Checkpoint, Entry, LogRef, Peer, Request, SavedClient};
 
 /// The bytes of a spelling before the fields of its kind: kind, sender and view.
 pub const HEAD_BYTES: usize = 14;
@@ -47,20 +48,45 @@ fn entries_len(entries: &[Entry]) -> usize
     len
 }
 
+#[tactic(auto, using(crate::proofs::SpelledLengths::answered_len))]
+fn answered_len(answered: &Answered) -> usize
+    requires { length answered.now.result ≤ MAX_RESULT_BYTES }
+    ensures exact { result ≡ length (answered_bytes answered.now) }
+    ensures small { result ≤ 10 + MAX_RESULT_BYTES }
+{
+    10 + answered.result.as_slice().len()
+}
+
+fn kept_len(kept: &[Answered]) -> usize
+    requires few { length kept.now ≤ WINDOW }
+    requires short { All (λ a. length a.result ≤ MAX_RESULT_BYTES) kept.now }
+    ensures exact { result ≡ length (flat_map answered_bytes kept.now) }
+    ensures small { result ≤ WINDOW * (10 + MAX_RESULT_BYTES) }
+{
+    let mut len: usize = 0;
+    for answered in kept {
+        len += answered_len(answered);
+    }
+    len
+}
+
 #[tactic(auto, using(crate::proofs::SpelledLengths::account_len))]
 fn account_len(saved: &SavedClient) -> usize
-    requires { length saved.now.result ≤ MAX_RESULT_BYTES }
+    requires few { length saved.now.kept.items ≤ WINDOW }
+    requires short { All (λ a. length a.result ≤ MAX_RESULT_BYTES) saved.now.kept.items }
     ensures exact { result ≡ length (account_bytes (saved_account saved.now)) }
-    ensures small { result ≤ 14 + MAX_RESULT_BYTES }
+    ensures small { result ≤ 13 + WINDOW * (10 + MAX_RESULT_BYTES) }
 {
-    14 + saved.result.as_slice().len()
+    13 + kept_len(&saved.kept)
 }
 
 fn accounts_len(clients: &[SavedClient]) -> usize
     requires few { length clients.now ≤ MAX_SERVED }
-    requires short { All (λ c. length c.result ≤ MAX_RESULT_BYTES) clients.now }
+    requires few_kept { All (λ c. length c.kept.items ≤ WINDOW) clients.now }
+    requires short { All (λ c. All (λ a. length a.result ≤ MAX_RESULT_BYTES) c.kept.items)
+        clients.now }
     ensures exact { result ≡ length (accounts_bytes (map saved_account clients.now)) }
-    ensures small { result ≤ 4 + MAX_SERVED * (14 + MAX_RESULT_BYTES) }
+    ensures small { result ≤ 4 + MAX_SERVED * (13 + WINDOW * (10 + MAX_RESULT_BYTES)) }
 {
     let mut len: usize = 4;
     for saved in clients {
@@ -71,14 +97,14 @@ fn accounts_len(clients: &[SavedClient]) -> usize
 
 fn checkpoint_len(checkpoint: &Checkpoint) -> usize
     ensures exact { result ≡ length (checkpoint_bytes checkpoint.now) }
-    ensures small { result ≤ 8 + MAX_HOST_BYTES + MAX_SERVED * (14 + MAX_RESULT_BYTES) }
+    ensures small { result ≤ 8 + MAX_HOST_BYTES + MAX_SERVED * (13 + WINDOW * (10 + MAX_RESULT_BYTES)) }
 {
     4 + checkpoint.host().as_slice().len() + accounts_len(checkpoint.clients())
 }
 
 fn optional_len(checkpoint: Option<&Checkpoint>) -> usize
     ensures exact { result ≡ length (optional_bytes (option_copied checkpoint.entry)) }
-    ensures small { result ≤ 8 + MAX_HOST_BYTES + MAX_SERVED * (14 + MAX_RESULT_BYTES) }
+    ensures small { result ≤ 8 + MAX_HOST_BYTES + MAX_SERVED * (13 + WINDOW * (10 + MAX_RESULT_BYTES)) }
 {
     match checkpoint {
         Some(checkpoint) => checkpoint_len(checkpoint),
@@ -90,7 +116,7 @@ fn optional_len(checkpoint: Option<&Checkpoint>) -> usize
 fn log_len(log: LogRef<'_>) -> usize
     requires { length log.entries.now ≤ MAX_SLOTS }
     ensures exact { result ≡ length (log_bytes (log_of log.entry)) }
-    ensures small { result ≤ 16 + MAX_HOST_BYTES + MAX_SERVED * (14 + MAX_RESULT_BYTES)
+    ensures small { result ≤ 16 + MAX_HOST_BYTES + MAX_SERVED * (13 + WINDOW * (10 + MAX_RESULT_BYTES))
         + MAX_SLOTS * (15 + MAX_OP_BYTES) }
 {
     4 + optional_len(log.checkpoint) + entries_len(log.entries)
@@ -99,7 +125,7 @@ fn log_len(log: LogRef<'_>) -> usize
 #[tactic(auto, using(crate::proofs::SpelledLengths::body_lens))]
 fn body_len(body: &Body) -> usize
     ensures exact { result ≡ length (body_bytes body.now) }
-    ensures small { result ≤ 36 + MAX_HOST_BYTES + MAX_SERVED * (14 + MAX_RESULT_BYTES)
+    ensures small { result ≤ 36 + MAX_HOST_BYTES + MAX_SERVED * (13 + WINDOW * (10 + MAX_RESULT_BYTES))
         + MAX_SLOTS * (15 + MAX_OP_BYTES) }
 {
     match body {
@@ -127,7 +153,7 @@ pub fn spelled_len(message: &Peer) -> usize
 pub fn log_body_len(body: LogBody<'_>) -> usize
     requires { length (log_in body).entries ≤ MAX_SLOTS }
     ensures exact { result ≡ length (body_bytes (with_log body.entry)) }
-    ensures small { result ≤ 36 + MAX_HOST_BYTES + MAX_SERVED * (14 + MAX_RESULT_BYTES)
+    ensures small { result ≤ 36 + MAX_HOST_BYTES + MAX_SERVED * (13 + WINDOW * (10 + MAX_RESULT_BYTES))
         + MAX_SLOTS * (15 + MAX_OP_BYTES) }
 {
     match body {

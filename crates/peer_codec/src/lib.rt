@@ -7,7 +7,7 @@
 //! for these. `encode_peer` appends the one spelling of a message that is in its ranges, and
 //! nothing on an error; `encode_with_log` does so for a log that is borrowed. The first three laws
 //! are those of `oum_codec`, said of messages: `spelled_is_read`, `read_is_spelled`,
-//! `spelling_is_injective`. No message has more than 4,152,306 bytes (`spelling_is_limited`).
+//! `spelling_is_injective`. No message has more than 4,633,074 bytes (`spelling_is_limited`).
 //!
 //! Calls: `decode_peer`; `EncodedPeer`, a message that is kept by its spelling, with `new`,
 //! `with_log`, `sender`, `as_slice`; `LogBody`.

@@ -4,14 +4,15 @@ ghost use Rattle.std.specs.Prelude.{◌≡◌, ◌≤◌, length, map, IsTrue, I
 ghost use Rattle.nop_types.specs.declared.limits.TheConstants.{MAX_SERVED, MAX_SLOTS};
 ghost use Rattle.nop_types.specs.Checkpoints.{saved_account, are_saved};
 ghost use Rattle.peer_codec.specs.Answers.{GivesBy};
-ghost use Rattle.peer_codec.specs.Logs.{entry_at, entries_at, account_at, accounts_at, checkpoint_at, optional_at, log_at};
+ghost use Rattle.peer_codec.specs.Logs.{entry_at, entries_at, answered_at, least_before, kept_at, least_id, account_at};
+ghost use Rattle.peer_codec.specs.Logs.{accounts_at, checkpoint_at, optional_at, log_at};
 
 use crate::BadPeer;
 use crate::fields::{
-    split_client, split_count, split_greatest, split_host, split_length, split_request,
-    split_result, split_served,
+    split_client, split_count, split_host, split_id, split_kept_count, split_kept_id, split_length,
+    split_request, split_result, split_served,
 };
-use nop_types::{Checkpoint, Entry, Log, SavedClient};
+use nop_types::{Answered, Checkpoint, Entry, Log, SavedClient, WINDOW};
 use std::alloc::Global;
 
 /// With tag 0 a NO-OP, with tag 1 a request.
@@ -46,17 +47,81 @@ fn split_entries(alloc: Global, count: u32, bytes: &[u8]) -> Result<(Vec<Entry>,
     Ok((entries, rest))
 }
 
-/// The fewest bytes of a client: its number, its greatest id, and the length of the result.
-const LEAST_CLIENT: usize = 14;
+/// A kept result, whose id is not below `least` and not above the greatest.
+#[tactic(auto, unfolding(crate::specs::Logs::answered_at))]
+fn split_answered(
+    alloc: Global,
+    least: u128,
+    greatest: u64,
+    bytes: &[u8],
+) -> Result<(Answered, &[u8]), BadPeer>
+    ensures { GivesBy (λ x. (x.0, x.1.now)) result (answered_at least greatest bytes.now) }
+{
+    let (id, rest) = split_kept_id(least, greatest, bytes)?;
+    let (result, rest) = split_result(alloc, rest)?;
+    Ok((Answered { id, result }, rest))
+}
+
+/// The least id that is kept.
+fn least_id(greatest: u64) -> u128
+    ensures { result ≡ least_id greatest }
+{
+    u128::from(greatest.saturating_sub(WINDOW - 1).max(1))
+}
+
+/// The least id of a result after which so many are left: the last one has the greatest.
+fn least_before(left: u8, least: u128, greatest: u64) -> u128
+    ensures { result ≡ least_before left least greatest }
+{
+    if left == 0 {
+        least.max(u128::from(greatest))
+    } else {
+        least
+    }
+}
+
+/// `count` kept results, ids ascending up to the greatest.
+fn split_kept(
+    alloc: Global,
+    count: u8,
+    greatest: u64,
+    bytes: &[u8],
+) -> Result<(Vec<Answered>, &[u8]), BadPeer>
+    ensures { GivesBy (λ x. (x.0.items, x.1.now)) result
+        (kept_at count (least_id greatest) greatest bytes.now) }
+{
+    let mut kept = Vec::with_capacity(alloc, count as usize)?;
+    let mut least = least_id(greatest);
+    let mut left = count;
+    let mut rest = bytes;
+    for _ in 0..count {
+        left -= 1;
+        let from = least_before(left, least, greatest);
+        let (answered, after) = split_answered(alloc, from, greatest, rest)?;
+        least = u128::from(answered.id) + 1;
+        kept.push(answered)?;
+        rest = after;
+    }
+    Ok((kept, rest))
+}
+
+/// The fewest bytes of a client: its number, its greatest id, the number of its results, and one of these, with its id and no bytes.
+const LEAST_CLIENT: usize = 23;
 
 #[tactic(auto, unfolding(crate::specs::Logs::account_at))]
 fn split_account(alloc: Global, least: u64, bytes: &[u8]) -> Result<(SavedClient, &[u8]), BadPeer>
     ensures { GivesBy (λ x. (saved_account x.0, x.1.now)) result (account_at least bytes.now) }
 {
     let (client, rest) = split_client(least, bytes)?;
-    let (id, rest) = split_greatest(rest)?;
-    let (result, rest) = split_result(alloc, rest)?;
-    Ok((SavedClient { client, id, result }, rest))
+    let (greatest, rest) = split_id(rest)?;
+    let (count, rest) = split_kept_count(rest)?;
+    let (kept, rest) = split_kept(alloc, count, greatest, rest)?;
+    let saved = SavedClient {
+        client,
+        greatest,
+        kept,
+    };
+    Ok((saved, rest))
 }
 
 /// `count` clients, ascending. There is room for no more than have bytes.

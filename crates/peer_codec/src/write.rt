@@ -1,19 +1,23 @@
 ghost use Rattle.std.specs.Prelude.{◌≡◌, ◌≤◌, ◌++◌, ◌∷◌, [], length, map, All, OnOk, OnErr};
 ghost use Rattle.std.specs.Int.{w16, w32, w64};
+ghost use Rattle.std.specs.List.{flat_map};
 ghost use Rattle.std.specs.Option.{option_copied};
-ghost use Rattle.nop_types.specs.declared.limits.TheConstants.{MAX_RESULT_BYTES, MAX_SERVED, MAX_SLOTS};
+ghost use Rattle.nop_types.specs.declared.limits.TheConstants.{MAX_RESULT_BYTES, MAX_SERVED, MAX_SLOTS, WINDOW};
 ghost use Rattle.nop_types.specs.BorrowedLogs.{log_of};
 ghost use Rattle.nop_types.specs.Checkpoints.{saved_account};
 ghost use Rattle.nop_types.specs.Ranges.{PeerFits};
 ghost use Rattle.oum_codec.specs.Numbers.{be_bytes};
 ghost use Rattle.oum_codec.specs.Spelling.{view_bytes};
 ghost use Rattle.peer_codec.specs.LogBodies.{log_in, with_log, log_message};
-ghost use Rattle.peer_codec.specs.Spelling.{entry_bytes, entries_bytes, account_bytes, accounts_bytes, checkpoint_bytes};
-ghost use Rattle.peer_codec.specs.Spelling.{optional_bytes, log_bytes, kind_of, head_bytes, body_bytes, spelling};
+ghost use Rattle.peer_codec.specs.Spelling.{entry_bytes, entries_bytes, answered_bytes, account_bytes, accounts_bytes};
+ghost use Rattle.peer_codec.specs.Spelling.{checkpoint_bytes, optional_bytes, log_bytes, kind_of, head_bytes, body_bytes};
+ghost use Rattle.peer_codec.specs.Spelling.{spelling};
 
 use crate::LogBody;
 use crate::lengths::{HEAD_BYTES, log_body_len, spelled_len};
-use nop_types::{Body, Checkpoint, Entry, LogRef, NoMemory, Peer, SavedClient, View, kinds};
+use nop_types::{
+    Answered, Body, Checkpoint, Entry, LogRef, NoMemory, Peer, SavedClient, View, kinds,
+};
 use oum_codec::{put_request, put_u32, put_u64, put_view};
 use std::alloc::Global;
 
@@ -55,32 +59,63 @@ fn put_entries(to: &mut Vec<u8>, entries: &[Entry]) -> Result<(), NoMemory>
     Ok(())
 }
 
-/// The fields of a client before its result: its number, its greatest id and the length of the result.
+/// The fields of a kept result before its bytes: its id and their number.
 #[tactic(auto, unfolding(oum_codec::specs::Numbers::be_bytes))]
-fn account_header(client: u32, id: u64, result_len: u16) -> [u8; 14]
-    ensures { result ≡ be_bytes w32 client ++ be_bytes w64 id ++ be_bytes w16 result_len }
+fn answered_header(id: u64, result_len: u16) -> [u8; 10]
+    ensures { result ≡ be_bytes w64 id ++ be_bytes w16 result_len }
 {
-    let [c0, c1, c2, c3] = client.to_be_bytes();
     let [i0, i1, i2, i3, i4, i5, i6, i7] = id.to_be_bytes();
     let [n0, n1] = result_len.to_be_bytes();
-    [c0, c1, c2, c3, i0, i1, i2, i3, i4, i5, i6, i7, n0, n1]
+    [i0, i1, i2, i3, i4, i5, i6, i7, n0, n1]
 }
 
-fn put_account(to: &mut Vec<u8>, saved: &SavedClient) -> Result<(), NoMemory>
-    requires { length saved.now.result ≤ MAX_RESULT_BYTES }
-    ensures { OnOk result (to.new.items
-        ≡ to.old.items ++ account_bytes (saved_account saved.now)) }
+fn put_answered(to: &mut Vec<u8>, answered: &Answered) -> Result<(), NoMemory>
+    requires { length answered.now.result ≤ MAX_RESULT_BYTES }
+    ensures { OnOk result (to.new.items ≡ to.old.items ++ answered_bytes answered.now) }
 {
-    let result = saved.result.as_slice();
-    let prefix = account_header(saved.client, saved.id, result.len() as u16);
+    let result = answered.result.as_slice();
+    let prefix = answered_header(answered.id, result.len() as u16);
     to.extend_from_slice(&prefix)?;
     to.extend_from_slice(result)?;
     Ok(())
 }
 
+fn put_kept(to: &mut Vec<u8>, kept: &[Answered]) -> Result<(), NoMemory>
+    requires { All (λ a. length a.result ≤ MAX_RESULT_BYTES) kept.now }
+    ensures { OnOk result (to.new.items ≡ to.old.items ++ flat_map answered_bytes kept.now) }
+{
+    for answered in kept {
+        put_answered(to, answered)?;
+    }
+    Ok(())
+}
+
+/// The fields of a client before its results: its number, its greatest id and how many they are.
+#[tactic(auto, unfolding(oum_codec::specs::Numbers::be_bytes))]
+fn account_header(client: u32, greatest: u64, count: u8) -> [u8; 13]
+    ensures { result ≡ be_bytes w32 client ++ be_bytes w64 greatest ++ count ∷ [] }
+{
+    let [c0, c1, c2, c3] = client.to_be_bytes();
+    let [i0, i1, i2, i3, i4, i5, i6, i7] = greatest.to_be_bytes();
+    [c0, c1, c2, c3, i0, i1, i2, i3, i4, i5, i6, i7, count]
+}
+
+fn put_account(to: &mut Vec<u8>, saved: &SavedClient) -> Result<(), NoMemory>
+    requires few { length saved.now.kept.items ≤ WINDOW }
+    requires short { All (λ a. length a.result ≤ MAX_RESULT_BYTES) saved.now.kept.items }
+    ensures { OnOk result (to.new.items
+        ≡ to.old.items ++ account_bytes (saved_account saved.now)) }
+{
+    let prefix = account_header(saved.client, saved.greatest, saved.kept.len() as u8);
+    to.extend_from_slice(&prefix)?;
+    put_kept(to, &saved.kept)
+}
+
 fn put_accounts(to: &mut Vec<u8>, clients: &[SavedClient]) -> Result<(), NoMemory>
     requires few { length clients.now ≤ MAX_SERVED }
-    requires short { All (λ c. length c.result ≤ MAX_RESULT_BYTES) clients.now }
+    requires few_kept { All (λ c. length c.kept.items ≤ WINDOW) clients.now }
+    requires short { All (λ c. All (λ a. length a.result ≤ MAX_RESULT_BYTES) c.kept.items)
+        clients.now }
     ensures { OnOk result (to.new.items
         ≡ to.old.items ++ accounts_bytes (map saved_account clients.now)) }
 {

@@ -7,7 +7,7 @@ pub enum Mark {
     Submitted,
     /// A client took a result.
     Accepted,
-    /// A client had an open request, or an actor had crashed.
+    /// A client had eight open requests, or an actor had crashed.
     Refused,
     /// A sequencer stamped a request.
     Stamped,

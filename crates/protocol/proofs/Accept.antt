@@ -9,13 +9,14 @@ use Rattle.nop_types.specs.declared.view.View.{View}
 use Rattle.nop_types.specs.declared.request.Request.{Request}
 use Rattle.nop_types.specs.declared.request.Entry.TheVariants.{Req}
 use Rattle.nop_types.specs.declared.datagram.Reply.{Reply}
+use Rattle.nop_types.specs.declared.output.Accept.{Accept as Acceptance}
 use Rattle.nop_types.specs.Lines.{Line, Submit, Accept}
 use Rattle.nop_types.specs.Lists.{Has}
 use Rattle.nop_types.specs.Meaning.{Meaning}
 use Rattle.nop_types.specs.Views.{is_view, leader_of}
 use Rattle.execution_laws.proofs.Lines.{submitted_so_far, submitted_once_stays, accepted_once_stays}
-use Rattle.lemmas.proofs.Places.{slice_get-push_cases}
-use Rattle.lemmas.proofs.Members.{Has-append_cases, Has-one, Has-none, Has-from_filter, Has-from_find}
+use Rattle.lemmas.proofs.Places.{slice_get-append_at, slice_get-push_cases}
+use Rattle.lemmas.proofs.Members.{Has-append_cases, Has-push_cases, Has-one, Has-none, Has-from_filter, Has-from_find}
 use Rattle.lemmas.proofs.Prefixes.{Has-prefix, IsPrefixOf-take}
 use Rattle.started_views.specs.Past.{HadLog, LeaderHad}
 use Rattle.started_views.specs.Quorums.{counts, Quorum}
@@ -30,12 +31,12 @@ use Rattle.client_quorum.proofs.OpenRequests.{closes, kept_is_open, open_has}
 use Rattle.protocol.specs.Conf.{Conf}
 use Rattle.protocol.specs.Evolves.{Evolves}
 use Rattle.protocol.specs.Moves.{accept, MayAccept}
-use Rattle.protocol.specs.Invariant.{IsUsed, Replied, Accepted, GoodLines, GoodClient, Inv}
+use Rattle.protocol.specs.Invariant.{IsUsed, Replied, Accepted, GoodLines, GoodAccept, GoodClient, Inv}
 use Rattle.protocol.proofs.Facts.{counts_filter, counts_member}
 use Rattle.protocol.proofs.Growing.{Kept}
 use Rattle.protocol.proofs.Outside.{outside_keeps}
 use Rattle.lemmas.proofs.Functions.{put-all}
-use Rattle.protocol.proofs.Stays.{onward_refl, accepted_lasts, client_lasts}
+use Rattle.protocol.proofs.Stays.{onward_refl, accepted_lasts, client_lasts, ground_lasts}
 
 at_least : (a b : ℕ) → nat_le a b ≡ true → a ≤ b
 at_least a b e = grind (arith, nat_tests, e)
@@ -136,14 +137,15 @@ module _ {S : Type 0} (m : Meaning S) (f : ℕ) (c : Conf) (inv : Inv m f c) (k 
   leads : leaders.replica ≡ leader_of p.view (2 * f + 1)
   leads = chosen.leads ∙ ap (λ (v : View). leader_of v s.config.replicas) chosen.at_view ∙ ap (leader_of p.view) good.replicas
 
-  accepted_now : Accepted f c (length c.lines) s.number p.id leaders.result
+  -- the ground of the line, at the slot of the replies
+  accepted_now : (a : Accepted f c (length c.lines) s.number p.id leaders.result) × (a.slot ≡ p.slot)
   unfolding replied
   accepted_now =
       let t = inv.replies leaders (good.kept p.id leaders chosen.member).sent in
       let led : LeaderHad f c.past p.view t.log = subst (λ (i : ℕ). HadLog c.past i p.view t.log) leads
       (subst (λ (v : View). HadLog c.past leaders.replica v t.log) chosen.at_view t.had) in
       let log = inv.logs (leader_of p.view (2 * f + 1)) p.view t.log led in
-      record {
+      let a : Accepted f c (length c.lines) s.number p.id leaders.result = record {
         view = p.view;
         slot = p.slot;
         log = t.log;
@@ -155,10 +157,25 @@ module _ {S : Type 0} (m : Meaning S) (f : ℕ) (c : Conf) (inv : Inv m f c) (k 
         gives = refl;
         known = λ q i. submitted_so_far c.lines q
             (log.submitted q (Has-prefix (take p.slot t.log) t.log (Req q) (IsPrefixOf-take p.slot t.log) i));
-      }
+      } in
+      (a, refl)
 
-  accepted : Evolves f c d → Accepted f d (length c.lines) s.number p.id leaders.result
-  accepted ev = accepted_lasts m f c d ev (length c.lines) s.number p.id leaders.result accepted_now
+  accepted : Evolves f c d → (b : Accepted f d (length c.lines) s.number p.id leaders.result) × (b.slot ≡ accepted_now.0.slot)
+  accepted ev = ground_lasts m f c d ev (length c.lines) s.number p.id leaders.result accepted_now.0
+
+  -- what is kept of it
+  abbrev the_accept : Acceptance
+  the_accept = record { id = p.id; slot = leaders.slot; result = leaders.result }
+
+  good_accept : Evolves f c d → GoodAccept f d s.number the_accept
+  good_accept ev =
+      let b = accepted ev in
+      record {
+        place = length c.lines;
+        line = slice_get-append_at c.lines the_line [];
+        ground = b.0;
+        at_slot = b.1 ∙ accepted_now.1 ∙ sym chosen.at_slot;
+      }
 
   old_submit : (q : Request) → Has d.lines (Submit q) → Has c.lines (Submit q)
   old_submit q i = elim (Has-append_cases c.lines (the_line ∷ []) (Submit q) i) [
@@ -203,8 +220,8 @@ module _ {S : Type 0} (m : Meaning S) (f : ℕ) (c : Conf) (inv : Inv m f c) (k 
         inr (same_client ∙ good.number, same_id)
   ]
 
-  after : IsClosed s (accepts s p.id leaders) p.id leaders.result
-  after = closes s p.id leaders id_open
+  after : IsClosed s (accepts s p.id leaders) p.id leaders
+  after = closes s p.id leaders
 
   -- what is open still was open, and has another id
   open_from : (q : Request) → IsOpen (accepts s p.id leaders) q → IsOpen s q × (not (q.id == p.id) ≡ true)
@@ -249,7 +266,7 @@ module _ {S : Type 0} (m : Meaning S) (f : ℕ) (c : Conf) (inv : Inv m f c) (k 
           subst (λ (n : ℕ). Accepted f d n client id result) (sym place)
           (subst (λ (n : ℕ). Accepted f d (length c.lines) n id result) same_client
           (subst (λ (n : ℕ). Accepted f d (length c.lines) s.number n result) same_id
-          (subst (λ (n : List ℕ). Accepted f d (length c.lines) s.number p.id n) same_result (accepted ev))))
+          (subst (λ (n : List ℕ). Accepted f d (length c.lines) s.number p.id n) same_result (accepted ev).0)))
     ];
   }
 
@@ -280,6 +297,10 @@ module _ {S : Type 0} (m : Meaning S) (f : ℕ) (c : Conf) (inv : Inv m f c) (k 
         opened = λ q i. g.opened q (open_from q i).0;
         kept = λ id y i. g.kept id y (kept_from id y i);
         once = once;
+        recent = λ a i. elim (Has-push_cases s.recent the_accept a (subst (λ (l : List Acceptance). Has l a) after.recent i)) [
+          | inl old ↦ g.recent a old
+          | inr new ↦ subst (GoodAccept f d s.number) new (good_accept ev)
+        ];
       }
 
   pub accept_keeps : Kept m f c d

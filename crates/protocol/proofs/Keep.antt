@@ -108,6 +108,7 @@ module _ {S : Type 0} (m : Meaning S) (f : ℕ) (c : Conf) (inv : Inv m f c) (k 
         kept = λ id y i. let t = all_kept id y i in
             record { sent = ev.sent.replies y t.sent; replica = t.replica; client = t.client; id = t.id };
         once = once;
+        recent = g.recent;
       }
 
   pub keep_keeps : Kept m f c d

@@ -127,6 +127,7 @@ module _ {S : Type 0} (m : Meaning S) (f : ℕ) (config : Configuration) (count 
       opened = λ q i. absurd (Has-none q (subst (λ (l : List Request). Has l q) (opening_opens_none config k []) i));
       kept = λ id p i. absurd (Has-none p (subst (λ (l : List Reply). Has l p) (opening_keeps_none config k [] id) i));
       once = λ id r. subst (λ (l : List Reply). counts r (map (λ p. p.replica) l) ≤ 1) (sym (opening_keeps_none config k [] id)) (omega arith);
+      recent = λ a i. absurd (Has-none a i);
     };
   }
 

@@ -9,6 +9,7 @@ use Rattle.nop_types.specs.declared.request.Entry.{Entry}
 use Rattle.nop_types.specs.declared.request.Entry.TheVariants.{NoOp, Req}
 use Rattle.nop_types.specs.declared.datagram.Stamped.{Stamped}
 use Rattle.nop_types.specs.declared.datagram.Reply.{Reply}
+use Rattle.nop_types.specs.declared.output.Accept.{Accept as Acceptance}
 use Rattle.nop_types.specs.PlainChanges as plain
 use Rattle.nop_types.specs.Execution.{result_at}
 use Rattle.nop_types.specs.Legality.{IsOf, IsSubmittedBefore, AcceptedOnce}
@@ -246,6 +247,13 @@ pub record KeptReply (f : ℕ) (replies : List Reply) (number asked : ℕ) (p : 
   pub client : p.client ≡ number
   pub id : p.id ≡ asked
 
+-- an acceptance that a client keeps: a line says it, and the ground of that line is at its slot
+pub record GoodAccept (f : ℕ) (c : Conf) (number : ℕ) (a : Acceptance) : Type 0 where
+  pub place : ℕ
+  pub line : slice_get c.lines place ≡ Some (Accept number a.id a.result)
+  pub ground : Accepted f c place number a.id a.result
+  pub at_slot : ground.slot ≡ a.slot
+
 pub record GoodClient (f : ℕ) (c : Conf) (k : ℕ) (s : ClientState) : Type 0 where
   pub number : s.number ≡ k
   pub replicas : s.config.replicas ≡ 2 * f + 1
@@ -253,6 +261,7 @@ pub record GoodClient (f : ℕ) (c : Conf) (k : ℕ) (s : ClientState) : Type 0 
   pub kept : (id : ℕ) (p : Reply) → Has (kept_for s id) p → KeptReply f c.replies s.number id p
   -- at most one of a replica
   pub once : (id r : ℕ) → counts r (map (λ p. p.replica) (kept_for s id)) ≤ 1
+  pub recent : (a : Acceptance) → Has s.recent a → GoodAccept f c s.number a
 
 -- ---- all of it
 

@@ -1,5 +1,6 @@
--- What was accepted is of the log from which the history is read.
-use Rattle.std.proofs.Common.{◌≡◌, ℕ, ◌+◌, ◌*◌, ◌<◌, Some, refl, sym, ap, subst, ◌∙◌, arith, List, take, length}
+-- What was accepted is of the log from which the history is read, and what is open is stale in no log.
+use Rattle.std.proofs.Common.{◌≡◌, ℕ, ◌+◌, ◌*◌, ◌<◌, ◌≤◌, Some, refl, sym, ap, subst, ◌∙◌, arith, List, take, length}
+use Rattle.nop_types.specs.declared.limits.TheConstants.{WINDOW}
 use Rattle.nop_types.specs.declared.view.View.{View}
 use Rattle.nop_types.specs.declared.request.Request.{Request}
 use Rattle.nop_types.specs.declared.request.Entry.{Entry}
@@ -9,8 +10,9 @@ use Rattle.nop_types.specs.Legality.{IsOf}
 use Rattle.nop_types.specs.Lists.{IsPrefixOf, slot_of}
 use Rattle.nop_types.specs.Meaning.{Meaning}
 use Rattle.nop_types.specs.Views.{Below, leader_of}
-use Rattle.execution_laws.specs.Legality.{IsGrounded, Grounded}
-use Rattle.execution_laws.proofs.Legal.{grounds_carry, legal_from_grounds}
+use Rattle.execution_laws.specs.Legality.{IsGrounded, Grounded, StandsFrom}
+use Rattle.execution_laws.proofs.Ids.{near_in_log}
+use Rattle.execution_laws.proofs.Legal.{grounds_carry, grounds_stand, legal_from_grounds}
 use Rattle.log_merge.specs.Starting.{Start}
 use Rattle.started_views.specs.Past.{HadLog, LeaderHad, IsStart}
 use Rattle.started_views.specs.Quorums.{Others}
@@ -19,13 +21,13 @@ use Rattle.started_views.proofs.Fixing.{accept_fixes}
 use Rattle.started_views.proofs.Keeping.{fixed_prefixes_are_kept, main_log_has_fixed}
 use Rattle.started_views.proofs.Quorums.{quorum_weaker}
 use Rattle.lemmas.proofs.Prefixes.{IsPrefixOf-refl}
-use Rattle.protocol.specs.Conf.{Conf, DidSay, last_normals}
+use Rattle.protocol.specs.Conf.{Conf, DidSay, WasSubmitted, last_normals}
 use Rattle.protocol.specs.Invariant.{Replied, Accepted, Inv}
 use Rattle.protocol.specs.Said.{GapRep, says}
 use Rattle.protocol.proofs.Grounding.{grounds_of}
 use Rattle.lemmas.proofs.Options.{same_Some-at}
 use Rattle.protocol.proofs.Stays.{others_weaker}
-use Rattle.protocol_sync.specs.Laws.{LinesAreLegal}
+use Rattle.protocol_sync.specs.Laws.{AcceptedStandFromTheirSlots, LinesAreLegal, OpenIsNeverStale}
 
 module _ {S : Type 0} (m : Meaning S) (f : ℕ) (c : Conf) (inv : Inv m f c) where
   -- what the leader replied, in the log that it had then
@@ -94,19 +96,27 @@ module _ {S : Type 0} (m : Meaning S) (f : ℕ) (c : Conf) (inv : Inv m f c) whe
     accepted_kept v x below is =
         fixed_prefixes_are_kept f c.stamps (last_normals c) c.past (grounds_of m f c inv) a.view v a.log a.slot x accepted_fixed below is
 
+    abbrev here : IsGrounded m c.lines a.log k client id result
+    here = record {
+      slot = a.slot;
+      request = was_replied.request;
+      entry = was_replied.entry;
+      same = was_replied.same;
+      gives = was_replied.gives;
+      known = a.known;
+    }
+
+    -- what is under it begins the main log
+    accepted_begins : (v : View) (main : List Entry) → MainLog f (last_normals c) c.past v main → IsPrefixOf (take a.slot a.log) main
+    accepted_begins v main is =
+        main_log_has_fixed f c.stamps (last_normals c) c.past (grounds_of m f c inv) v a.view main a.log a.slot is accepted_fixed
+
     grounded_at : (v : View) (main : List Entry) → MainLog f (last_normals c) c.past v main → IsGrounded m c.lines main k client id result
     grounded_at v main is =
-        let begins = main_log_has_fixed f c.stamps (last_normals c) c.past (grounds_of m f c inv) v a.view main a.log a.slot is
-        accepted_fixed in
-        let here : IsGrounded m c.lines a.log k client id result = record {
-          slot = a.slot;
-          request = was_replied.request;
-          entry = was_replied.entry;
-          same = was_replied.same;
-          gives = was_replied.gives;
-          known = a.known;
-        } in
-        grounds_carry m c.lines c.lines a.log main k client id result here (IsPrefixOf-refl c.lines) begins
+        grounds_carry m c.lines c.lines a.log main k client id result here (IsPrefixOf-refl c.lines) (accepted_begins v main is)
+
+    stands_at : (v : View) (main : List Entry) → MainLog f (last_normals c) c.past v main → StandsFrom m main client id a.slot result
+    stands_at v main is = grounds_stand m c.lines a.log main k client id result here (accepted_begins v main is)
 
   grounded : (v : View) (main : List Entry) → MainLog f (last_normals c) c.past v main → Grounded m c.lines main
   grounded v main is = record {
@@ -118,3 +128,25 @@ module _ {S : Type 0} (m : Meaning S) (f : ℕ) (c : Conf) (inv : Inv m f c) whe
 
 pub lines_are_legal : {S : Type 0} (m : Meaning S) → LinesAreLegal m
 lines_are_legal m f c inv v main is = legal_from_grounds m c.lines main (grounded m f c inv v main is)
+
+-- the ground of what a client keeps is at its slot
+pub accepted_stand : {S : Type 0} (m : Meaning S) → AcceptedStandFromTheirSlots m
+accepted_stand m f c inv v main is k a has =
+    let n : ℕ = (c.clients k).number in
+    let good = inv.clients k in
+    let g = good.recent a has in
+    let there : StandsFrom m main n a.id g.ground.slot a.result = stands_at m f c inv g.place n a.id a.result g.ground v main is in
+    subst (λ (i : ℕ). StandsFrom m main i a.id a.slot a.result) good.number
+    (subst (λ (slot : ℕ). StandsFrom m main n a.id slot a.result) g.at_slot there)
+
+-- each id that a client has in a log was submitted, so it is at most the last one, which is near each open one
+pub open_is_never_stale : {S : Type 0} (m : Meaning S) → OpenIsNeverStale m
+open_is_never_stale m f c inv r k within q is =
+    let log : List Entry = (c.replicas r).log in
+    let good = inv.logs r (c.replicas r).last_normal log (inv.current r within) in
+    let near : (c.clients k).last_id < q.id + WINDOW = ((inv.clients k).opened q is).near in
+    near_in_log log k q.id (λ x has own.
+    let known : WasSubmitted c.lines x = good.submitted x has in
+    let high : x.id ≤ (c.clients k).last_id =
+    subst (λ (i : ℕ). x.id ≤ (c.clients i).last_id) own (inv.lines.submitted_ids x known).high in
+    omega (arith, high, near))

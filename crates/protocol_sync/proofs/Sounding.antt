@@ -18,7 +18,7 @@ use Rattle.protocol_sync.specs.Laws.{Safe, RunsAreSound, RunsAreSafe, RunsGoOn}
 use Rattle.protocol_sync.specs.Sound.{Sound, GoesOn}
 use Rattle.protocol_sync.specs.Synced.{Sync}
 use Rattle.protocol_sync.proofs.Agreeing.{synchronised_begin, synchronised_prefixes_agree}
-use Rattle.protocol_sync.proofs.Concluding.{lines_are_legal}
+use Rattle.protocol_sync.proofs.Concluding.{accepted_stand, lines_are_legal, open_is_never_stale}
 use Rattle.protocol_sync.proofs.Opening.{opening_is_synced}
 use Rattle.protocol_sync.proofs.Rising.{sync_points_never_fall}
 use Rattle.protocol_sync.proofs.Runs.{run_syncs}
@@ -71,6 +71,8 @@ module _ {S : Type 0} (m : Meaning S) (f : ℕ) (config : Configuration) (count 
         agreed = synchronised_prefixes_agree m f c kept.0 synced;
         begins = λ r l. synchronised_begin m f c kept.0 synced r l main.0 main.1 main.2;
         legal = lines_are_legal m f c kept.0 main.0 main.1 main.2;
+        accepted = accepted_stand m f c kept.0 main.0 main.1 main.2;
+        not_stale = open_is_never_stale m f c kept.0;
       }
 
   goes_on : (ys : List Move) → MayAll m f c ys → GoesOn f c (run m f c ys)

@@ -8,6 +8,8 @@ ghost use Rattle.protocol_sync.specs.Laws.{
   SynchronisedBegin,
   SynchronisedAgree,
   LinesAreLegal,
+  AcceptedStandFromTheirSlots,
+  OpenIsNeverStale,
   RunsAreSafe,
   RunsAreSound,
   RunsGoOn,
@@ -58,8 +60,20 @@ pub fn lines_are_legal<S>()
     ensures { (m : Meaning S) → LinesAreLegal m }
 {}
 
-/// Whatever moves are made from the opening, replicas agree as far as they are synchronised, and what
-/// was accepted is of one history.
+/// What a client keeps as accepted stands in the main log from its slot on, with its result: the history
+/// of each first part of the log that reaches the slot has it.
+pub fn accepted_stand_from_their_slots<S>()
+    ensures { (m : Meaning S) → AcceptedStandFromTheirSlots m }
+{}
+
+/// What a client has open is stale in no replica's log: no id of the client there is a window ahead of
+/// it. So each of its slots has a result, in a log that serves the client.
+pub fn open_is_never_stale<S>()
+    ensures { (m : Meaning S) → OpenIsNeverStale m }
+{}
+
+/// Whatever moves are made from the opening, replicas agree as far as they are synchronised, what was
+/// accepted is of one history, and what is open is stale in no log.
 pub fn runs_are_safe<S>()
     ensures { (m : Meaning S) → RunsAreSafe m }
 {}

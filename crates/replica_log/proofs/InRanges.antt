@@ -10,6 +10,7 @@ use Rattle.nop_types.specs.declared.request.Entry.TheVariants.{NoOp}
 use Rattle.nop_types.specs.Logs.{Log, Keeping, Whole, Trimmed, place_of, length_of, unsynced, has_room, above, upto, further, first, appended, with_noop, adopted, overlaid}
 use Rattle.nop_types.specs.Ranges.{EntryFits, CheckpointIsIn, LogIsIn}
 use Rattle.nop_types.specs.Slots.{set_slot, laid}
+use Rattle.lemmas.proofs.Prefixes.{all-take, all-drop}
 use Rattle.lemmas.proofs.Slots.{length-set_slot}
 use Rattle.replica_log.proofs.Adopted.{adopted_point, length-adopted, length-trimmed_adopted, length-overlaid, length-trimmed_overlaid}
 
@@ -30,16 +31,6 @@ each-laid : (l k : List Entry) → AllByRecursion EntryFits l → AllByRecursion
 each-laid [] k h g = g
 each-laid (x ∷ l) [] h g = h
 each-laid (x ∷ l) (y ∷ k) h g = (h.0, each-laid l k h.1 g.1)
-
-each-take : (n : ℕ) (l : List Entry) → AllByRecursion EntryFits l → AllByRecursion EntryFits (take n l)
-each-take zero l h = tt
-each-take (suc n) [] h = tt
-each-take (suc n) (x ∷ l) h = (h.0, each-take n l h.1)
-
-each-drop : (n : ℕ) (l : List Entry) → AllByRecursion EntryFits l → AllByRecursion EntryFits (drop n l)
-each-drop zero l h = h
-each-drop (suc n) [] h = tt
-each-drop (suc n) (x ∷ l) h = each-drop n l h.1
 
 each-both : (k l : List Entry) → AllByRecursion EntryFits k → AllByRecursion EntryFits l → AllByRecursion EntryFits (k ++ l)
 each-both [] l h g = g
@@ -124,7 +115,7 @@ first_fits Whole l n h within =
     let limit = h.limit in
     let point = h.point in
     record {
-      entries = each-take n l.entries h.entries;
+      entries = all-take EntryFits n l.entries h.entries;
       room = omega (arith, len, room);
       limit = omega (arith, len, limit);
       point = omega (arith, len, point, within);
@@ -135,7 +126,7 @@ first_fits Trimmed l n h within =
     let room = h.room in
     let limit = h.limit in
     record {
-      entries = each-take (n - l.sync_point) l.entries h.entries;
+      entries = all-take EntryFits (n - l.sync_point) l.entries h.entries;
       room = omega (arith, len, room);
       limit = omega (arith, len, limit);
       point = omega arith;
@@ -157,7 +148,7 @@ each-upto : (k : Keeping) (new own : Log) → LogIsIn k new → LogIsIn k own
     → let f : Log = further new own in AllByRecursion EntryFits (upto k f f.sync_point)
 each-upto k new own h g =
     let f : Log = further new own in
-    each-take (place_of k f f.sync_point) f.entries (further_each k new own (nat_lt own.sync_point new.sync_point) h g)
+    all-take EntryFits (place_of k f f.sync_point) f.entries (further_each k new own (nat_lt own.sync_point new.sync_point) h g)
 
 -- by its length: with the greater of two sync points, it is as long as one of the two logs, or ends at the own sync point
 further_fits : (k : Keeping) (new own : Log) (entries : List Entry) → LogIsIn k new → LogIsIn k own → AllByRecursion EntryFits entries
@@ -195,7 +186,7 @@ adopt_fits k new own h g =
     let own_point = g.point in
     further_fits k new own (upto k f f.sync_point ++ above k new f.sync_point) h g
     (each-both (upto k f f.sync_point) (above k new f.sync_point) (each-upto k new own h g)
-    (each-drop (place_of k new f.sync_point) new.entries h.entries)) (omega (arith, len, point)) (omega (arith, len, own_point))
+    (all-drop EntryFits (place_of k new f.sync_point) new.entries h.entries)) (omega (arith, len, point)) (omega (arith, len, own_point))
 
 pub overlay_fits : (k : Keeping) (new own : Log) → LogIsIn k new → LogIsIn k own → LogIsIn k (overlaid k new own)
 overlay_fits k new own h g =
@@ -207,5 +198,5 @@ overlay_fits k new own h g =
     further_fits k new own (upto k f f.sync_point ++ over) h g
     (each-both (upto k f f.sync_point) over (each-upto k new own h g)
     (each-laid (above k new f.sync_point) (above k own f.sync_point)
-    (each-drop (place_of k new f.sync_point) new.entries h.entries) (each-drop (place_of k own f.sync_point) own.entries g.entries)))
+    (all-drop EntryFits (place_of k new f.sync_point) new.entries h.entries) (all-drop EntryFits (place_of k own f.sync_point) own.entries g.entries)))
     (omega (arith, len, point, own_point)) (omega (arith, len))

@@ -1,5 +1,5 @@
 //! Tests alone, by the public calls of the crates below: whole runs and commands over devices in
-//! memory, with each call failing in turn; the schedules of `examples/`.
+//! memory, with each call failing in turn. The schedules of `examples/` are in `transcript_tests`.
 #![tactic(auto)]
 
 #[cfg(test)]
@@ -9,8 +9,4 @@ mod faults;
 #[cfg(test)]
 mod outcomes;
 #[cfg(test)]
-mod rows;
-#[cfg(test)]
 mod runs;
-#[cfg(test)]
-mod view_rows;

@@ -1,6 +1,4 @@
 use super::outcomes::{ONE_PUT, check_outcome, datagram, words_of};
-use super::rows::ROWS;
-use super::view_rows::VIEW_ROWS;
 use commands::run_in_memory;
 use kv_host::KvHost;
 use outside::{ClockMem, LinkMem, PollAnswer, PortsMem, ReadMem, WriteMem};
@@ -226,6 +224,17 @@ served 2 lost 0
 |
 41008 4e4f030100000000000000000000000100075000016b000176
 ----
+nopaxos client --id 0 --replicas 3 --sequencers 1 --turns 3 5000016b000176 4700016b
+polls reply follower
+=> Unanswered
+submit c0 1 5000016b000176
+submit c0 2 4700016b
+accept c0 1 6e6f6e65
+served 3 lost 0
+|
+41008 4e4f030100000000000000000000000100075000016b000176
+41008 4e4f030100000000000000000000000200044700016b
+----
 nopaxos sequencer --id 0 --replicas 3 --sequencers 1 --turns 1
 polls request
 => Done
@@ -337,6 +346,24 @@ answer c0 1 o0 0 6e6f6e65
 served 2 lost 1
 |
 ----
+nopaxos read --id 0 --observer 0 --replicas 3 --sequencers 1 --turns 2 --position 1 6b
+polls answer
+=> Unanswered
+read c0 1 o0 6b
+answer c0 1 o0 0 6e6f6e65
+served 2 lost 0
+|
+41032 4e4f030900000000000000000000000100016b
+----
+nopaxos read --id 0 --observer 0 --position 1 --replicas 3 --sequencers 1 --turns 2 6b
+polls 4e4f030a000000000100000000000000000000000100046e6f6e65
+=> Done
+read c0 1 o0 6b
+answer c0 1 o0 1 6e6f6e65
+served 1 lost 0
+|
+41032 4e4f030900000000000000000000000100016b
+----
 nopaxos read --id 0 --observer 3 --replicas 3 --sequencers 1 --turns 2 6b
 polls answer reply
 => Unanswered
@@ -419,6 +446,8 @@ nopaxos read --id 4294967296 --observer 0 --replicas 3 --sequencers 1 6b
 nopaxos read --id 0 --observer 4 --replicas 3 --sequencers 1 6b
 nopaxos read --id 0 --observer 0 --replicas 3 --sequencers 1
 nopaxos read  --id 0 --observer 0 --replicas 3 --sequencers 1
+nopaxos read --id 0 --observer 0 --replicas 3 --sequencers 1 --position 4294967296 6b
+nopaxos read --id 0 --observer 0 --replicas 3 --sequencers 1 --position 6b
 nopaxos read --id 0 --observer 0 --replicas 3 --sequencers 1 6
 nopaxos read --id 0 --observer 0 --replicas 3 --sequencers 1 6x
 nopaxos read --id 0 --observer 0 --replicas 3 --sequencers 1 6b 6b
@@ -448,33 +477,6 @@ fn words_that_are_not_taken(rt: HostRuntime) {
     for words in NOT_TAKEN.lines() {
         check_words(&rt, rt.alloc(), words);
     }
-}
-
-/// A schedule and its transcript; one of a schedule with a bad line does not end with `end`. A read gives at most so many bytes.
-fn check_transcript(rt: &impl Abort, alloc: Global, row: &str, most: &str) {
-    let (schedule, transcript) = row.split_once("=>\n").expect(rt, "a transcript");
-    let status = if transcript.ends_with("end\n") {
-        "Done"
-    } else {
-        "Malformed"
-    };
-    let head = format!(in alloc; "nopaxos replay\nreads {most}\nwrites 16").expect(rt, "memory");
-    let wanted = format!(in alloc; "{status}\n{transcript}|\n").expect(rt, "memory");
-    check_outcome(rt, alloc, &head, schedule, &wanted);
-}
-
-fn check_transcripts(rt: &impl Abort, alloc: Global, rows: &str) {
-    for row in rows.split("----\n") {
-        for most in ["1", "7", "82", "4096"] {
-            check_transcript(rt, alloc, row, most);
-        }
-    }
-}
-
-#[test]
-fn transcripts(rt: HostRuntime) {
-    check_transcripts(&rt, rt.alloc(), ROWS);
-    check_transcripts(&rt, rt.alloc(), VIEW_ROWS);
 }
 
 /// A sequencer over devices in memory that never fail.

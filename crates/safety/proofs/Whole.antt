@@ -8,6 +8,7 @@ use Rattle.nop_types.specs.Configuration.{Configuration, is_configuration}
 use Rattle.nop_types.specs.Histories.{history_of}
 use Rattle.nop_types.specs.Legality.{Legal}
 use Rattle.nop_types.specs.Lines.{Line}
+use Rattle.nop_types.specs.Lists.{Has}
 use Rattle.nop_types.specs.Logs.{Log, Trimmed, length_of}
 use Rattle.nop_types.specs.Meaning.{Meaning}
 use Rattle.nop_types.specs.Views.{leader_of}
@@ -15,7 +16,10 @@ use Rattle.nop_types.specs.declared.limits.TheConstants.{MAX_LENGTH}
 use Rattle.nop_types.specs.declared.output.Actor.{Actor}
 use Rattle.nop_types.specs.declared.request.Entry.{Entry}
 use Rattle.lemmas.proofs.Places.{Splits-at}
+use Rattle.client_quorum.specs.declared.state.ClientState.{ClientState}
 use Rattle.execution_laws.proofs.Shortness.{result_fits}
+use Rattle.execution_laws.specs.Legality.{StandsFrom}
+use Rattle.protocol_sync.specs.Laws.{OpenIsNotStaleIn}
 use Rattle.trimming.specs.Trimming.{trim}
 use Rattle.trimming.proofs.Logs.{length_trims}
 use Rattle.replica_core.specs.ReplicaSteps.{Replica}
@@ -24,6 +28,7 @@ use Rattle.replica_rows.specs.Within.{ResultsShort}
 use Rattle.schedule_text.specs.declared.event.Event.{Event}
 use Rattle.schedule_text.specs.Fits.{EventFits, EventsFit}
 use Rattle.world.specs.Archive.{with_archive}
+use Rattle.world.specs.Others.{Clients, Others}
 use Rattle.world.specs.Seats.{Seated}
 use Rattle.world.specs.SeatOutcomes.{Refuses}
 use Rattle.world.specs.Agreement.{Agreed}
@@ -41,7 +46,7 @@ use Rattle.whole_world.proofs.Trimming.{safe_can_trim}
 use Rattle.safety.specs.Following.{spoken, plain, trimmed_seat, all_brought, whole_after, FollowsWhole, RunsFollowWhole}
 use Rattle.safety.specs.Observers.{ObserversReadTheHistory}
 use Rattle.safety.specs.Reads.{Reads}
-use Rattle.safety.specs.Safe.{Followed, SafelyPassed, RunsAreSafe, LeadTo, IsRefusedBy, Running}
+use Rattle.safety.specs.Safe.{AcceptedStand, OpenIsNotStale, Followed, SafelyPassed, RunsAreSafe, LeadTo, IsRefusedBy, Running}
 use Rattle.safety.proofs.Agreement.{agree}
 use Rattle.safety.proofs.Following.{Both, Front, Follows, world_after, run_follows}
 use Rattle.safety.proofs.KeptLogs.{IsKept, real_is_whole, same_text, main_same}
@@ -136,6 +141,26 @@ module _ {S : Type 0} (m : Meaning S) (IsSound : S → Type 0) (keeps : KeepsTo 
         let f : FollowsWhole m h w = follows_at bs h.world h.lines follows.both in
         agree m h.world w f.replicas f.logs f.main at_last.agreed
 
+    accepted_slots : AcceptedStand m h.world
+    accepted_slots k p a at has =
+        let bs = all_brought m config es in
+        let w : WholeWorld = world_after m config bs in
+        let f : FollowsWhole m h w = follows_at bs h.world h.lines follows.both in
+        let there : slice_get w.others.clients k ≡ Some p = subst (λ (o : Others). slice_get o.clients k ≡ Some p) f.others at in
+        let shown : at_last.conf.clients k ≡ p.state.requests = at_last.shows.actors.others Clients k p there in
+        let known : Has (at_last.conf.clients k).recent a = subst (λ (s : ClientState). Has s.recent a) (sym shown) has in
+        subst (λ (l : List Entry). StandsFrom m l k a.id a.slot a.result) (sym f.main) (at_last.accepted k a known)
+
+    not_stale : OpenIsNotStale h.world
+    not_stale i k a p at there =
+        let bs = all_brought m config es in
+        let w : WholeWorld = world_after m config bs in
+        let f : FollowsWhole m h w = follows_at bs h.world h.lines follows.both in
+        let x : WholeSeat m w.replicas i a = whole_seat m h.world.replicas w.replicas i a f.replicas at in
+        let same : with_archive h.world.archive a.state.state.log ≡ x.seat.state.state.log.entries = f.logs i a x.seat at x.there in
+        let client : slice_get w.others.clients k ≡ Some p = subst (λ (o : Others). slice_get o.clients k ≡ Some p) f.others there in
+        subst (λ (l : List Entry). OpenIsNotStaleIn l k p.state.requests) (sym same) (at_last.not_stale i k x.seat p x.there client)
+
     -- ---- reads
 
     -- the main log has fewer than 2^32 slots
@@ -182,6 +207,8 @@ module _ {S : Type 0} (m : Meaning S) (IsSound : S → Type 0) (keeps : KeepsTo 
         agreed = agreed;
         legal = legal;
       };
+      accepted_slots = accepted_slots;
+      not_stale = not_stale;
       reads = reads;
     }
 

@@ -16,6 +16,11 @@
 //!   configuration only went on.
 //! - So replicas agree as far as they are synchronised (`Agreed`), and the lines are legal of the
 //!   history (`Legal`).
+//! - What a client keeps as accepted is in the history from its slot on (`AcceptedStand`): the
+//!   history of the first slots of the main log has it, of as many as its slot says or more. So a
+//!   client that waits for an answer of that position reads what it wrote.
+//! - What a client has open is stale in no replica's log (`OpenIsNotStale`): no id that it has there is
+//!   a window ahead of it. So each slot of it has a result, where the log serves the client.
 //! - What was read is right (`Reads`): each line that answers a read stands behind the one line that
 //!   asks for it, has what the service answers after those members of the history that stand in the
 //!   first slots of the main log, up to its position, and goes back behind nothing that its observer

@@ -81,7 +81,8 @@ pub fn two_fields(rest: Option<&[u8]>) -> Result<(&[u8], &[u8]), Rule>
 #[tactic(auto, using(crate::proofs::SplitLemmas::others_of))]
 pub fn three_fields(rest: Option<&[u8]>) -> Result<(&[u8], &[u8], &[u8]), Rule>
     ensures { let read = three_fields (other_fields (option_copied rest.entry)) in
-        MatchResult result (λ p. read ≡ Ok (p.0.now, p.1.now, p.2.now)) (λ rule. read ≡ Err rule) }
+        MatchResult result (λ p. read ≡ Ok (p.0.now, p.1.now, p.2.now))
+        (λ rule. read ≡ Err rule) }
 {
     let (first, rest) = next_field(rest)?;
     match two_fields(rest) {

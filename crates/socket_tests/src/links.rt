@@ -150,8 +150,8 @@ fn acknowledgements_make_room(rt: HostRuntime) {
     assert!(rt; link.losses() == 0);
 }
 
-/// 300 parts, more than a receive buffer holds, arrive whole and in order, though the receiver is not polled for a while, and then
-/// both are. Another datagram passes by all but those that were sent at once.
+/// 300 parts, more than a receive buffer holds, arrive whole and in order, though the receiver is not polled for a while, which is half
+/// of the time that a sender waits at most, and then both are. Another datagram passes by all but those that were sent at once.
 #[test]
 fn bursts_arrive_whole(rt: HostRuntime) {
     let mut ports = UdpPorts::new(&rt, rt.alloc());
@@ -163,8 +163,13 @@ fn bursts_arrive_whole(rt: HostRuntime) {
         from.send(to.port(), &bytes).expect(&rt, "a send");
     }
     from.send(to.port(), b"small").expect(&rt, "a send");
+    let start = rt.monotonic().expect(&rt, "a clock").as_micros();
     for _ in 0..100usize {
         from.poll().expect(&rt, "a poll");
+        let now = rt.monotonic().expect(&rt, "a clock").as_micros();
+        if now.saturating_sub(start) >= 50_000 {
+            break;
+        }
     }
     let mut count: usize = 0;
     let mut before_small = None;

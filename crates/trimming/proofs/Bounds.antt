@@ -17,10 +17,10 @@ use Rattle.nop_types.specs.Execution.{Executed, opening, execute, exec, takes, e
 use Rattle.nop_types.specs.Logs.{Log, Whole, Trimmed, length_of, upto, entry_at}
 use Rattle.nop_types.specs.Meaning.{Meaning}
 use Rattle.nop_types.specs.Ranges.{EntryFits, LogIsIn}
+use Rattle.lemmas.proofs.Prefixes.{all-take, all-drop}
 use Rattle.execution_laws.proofs.Tables.{exec_is_by_kept}
 use Rattle.trimming.specs.Trimming.{checkpoint_at, trim}
 use Rattle.trimming.proofs.Executions.{has_checkpoint}
-use Rattle.trimming.proofs.Lists.{all-take, all-drop}
 use Rattle.trimming.proofs.Logs.{length_trims}
 use Rattle.trimming.proofs.Tables.{TableFits, empty_fits, loaded_fits, with_result_fits, kept_result_is_short}
 use Rattle.trimming.proofs.Tables.{entries_are_few, entries_are_saved, entries_as_saved}
@@ -38,7 +38,7 @@ module _ {S : Type 0} (m : Meaning S) (IsSound : S → Type 0) (keeps : KeepsTo 
       on true t = record {
         host = keeps.stays x.host r.op h.host;
         table =
-            with_result_fits x.table r.client (record { id = r.id; result = m.answer x.host r.op }) fits.client fits.id
+            with_result_fits x.table r.client (record { id = r.id; result = m.answer x.host r.op }) fits.client fits.id_low fits.id
             (keeps.short x.host r.op h.host) h.table t;
       }
       on false t = h

@@ -2,7 +2,6 @@
 use Rattle.std.proofs.Common.{◌≡◌, ℕ, zero, suc, ◌+◌, ◌-◌, ◌≤◌, ◌<◌, List, [], ◌∷◌, ◌++◌, length, take, drop, Option, None, refl, sym}
 use Rattle.std.proofs.Common.{ap, ◌∙◌, arith, length-take-le, take_at}
 use Rattle.std.specs.Prelude.{slice_get, slice_set}
-use Rattle.std.specs.List.{AllByRecursion}
 use Rattle.std.proofs.Math.Seq.{take-add}
 use Rattle.std.proofs.lemmas.List.{drop-drop, drop_at, drop-take, drop-set-add, take-set-le}
 use Rattle.nop_types.specs.declared.request.Entry.{Entry}
@@ -58,15 +57,3 @@ drop-set_slot n (suc i) e xs h =
 pub take-set_slot : (n k : ℕ) (e : Entry) (xs : List Entry) → n < k → take n (set_slot xs k e) ≡ take n xs
 take-set_slot n zero e xs h = absurd (omega (arith, h))
 take-set_slot n (suc i) e xs h = take-set-le n xs i e (omega (arith, h))
-
--- ---- what holds of each element
-
-pub all-take : {A : Type 0} (P : A → Type 0) (n : ℕ) (xs : List A) → AllByRecursion P xs → AllByRecursion P (take n xs)
-all-take P zero xs h = tt
-all-take P (suc n) [] h = tt
-all-take P (suc n) (x ∷ xs) h = (h.0, all-take P n xs h.1)
-
-pub all-drop : {A : Type 0} (P : A → Type 0) (n : ℕ) (xs : List A) → AllByRecursion P xs → AllByRecursion P (drop n xs)
-all-drop P zero xs h = h
-all-drop P (suc n) [] h = tt
-all-drop P (suc n) (x ∷ xs) h = all-drop P n xs h.1

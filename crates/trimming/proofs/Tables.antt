@@ -1,9 +1,8 @@
--- A table whose entries are as they are saved, each with one short result, stays so.
-use Rattle.std.proofs.Common.{◌≡◌, ℕ, suc, ◌+◌, ◌^◌, ◌≤◌, ◌<◌, Bool, true, false, cond, List, [], ◌∷◌, length, max, Option}
-use Rattle.std.proofs.Common.{Some, None, is_some, refl, sym, ap, subst, ◌∙◌, arith}
+-- A table of clients in their ranges, each with what may be saved of it, stays so.
+use Rattle.std.proofs.Common.{◌≡◌, ℕ, suc, ◌+◌, ◌^◌, ◌≤◌, ◌<◌, Bool, true, false, cond, List, [], ◌∷◌, length, Option}
+use Rattle.std.proofs.Common.{Some, None, is_some, refl, sym, subst, ◌∙◌, arith}
 use Rattle.std.proofs.Math.Dec.{T}
-use Rattle.std.proofs.Math.Nat.{max-eq_right}
-use Rattle.std.specs.Prelude.{◌&&◌, ◌||◌, ◌==◌, nat_le, nat_lt, not, IsTrue}
+use Rattle.std.specs.Prelude.{◌&&◌, ◌||◌, nat_le, nat_lt, IfSome, IsTrue}
 use Rattle.std.specs.List.{AllByRecursion}
 use Rattle.std.specs.Cmp.{ranked, unsigned_tied}
 use Rattle.std.specs.declared.cmp.Ordering.{Ordering}
@@ -11,19 +10,19 @@ use Rattle.std.specs.declared.cmp.Ordering.TheVariants.{Less, Equal, Greater}
 use Rattle.std.specs.Ordering.{nat_cmp, eq_by_cmp, is_lt}
 use Rattle.std.specs.FinMap as finite
 use Rattle.std.specs.FinMap.Entries.{put, by_order, is_sorted, below_all}
-use Rattle.std.proofs.lemmas.Bool.{and_from, and_parts, eqb-true, eqb-false, ltb-true, lt-ltb, le-ltb, le-leb, leb-true, not-true, or_parts}
+use Rattle.std.proofs.lemmas.Bool.{and_from, and_parts, eqb-true, ltb-true, le-leb, leb-true}
 use Rattle.std.proofs.lemmas.Cmp.{nat_cmp_total}
-use Rattle.nop_types.specs.declared.checkpoint.SavedClient.{SavedClient}
+use Rattle.nop_types.specs.declared.checkpoint.Answered.{Answered}
 use Rattle.nop_types.specs.declared.limits.TheConstants.{MAX_RESULT_BYTES, MAX_SERVED, WINDOW}
-use Rattle.nop_types.specs.Checkpoints.{are_saved, are_short, IsSavedAccount}
-use Rattle.nop_types.specs.Tables.{Answered, Account, Table, kept_for, result_kept, is_new_to, serves, account_with}
-use Rattle.nop_types.specs.Tables.{with_answered, within, with_result}
+use Rattle.nop_types.specs.Checkpoints.{is_kept, are_answers, is_account, are_saved, IsSavedAccount}
+use Rattle.nop_types.specs.Tables.{Account, Table, kept_for, result_kept, is_new_to, serves, account_with, with_result}
+use Rattle.lemmas.proofs.Kept.{answer_is, account_is, result_is_short}
 use Rattle.trimming.proofs.Worked.{entries-empty, entries-insert}
 
--- a client as it is saved, its result short
+-- a client in its ranges, and what may be saved of it
 pub record IsKept (e : ℕ × Account) : Type 0 where
   pub as_saved : IsSavedAccount e
-  pub short : length as_saved.saved.result ≤ MAX_RESULT_BYTES
+  pub account : is_account e.1 ≡ true
 
 pub record TableFits (t : Table) : Type 0 where
   pub few : finite.len t ≤ MAX_SERVED
@@ -85,17 +84,12 @@ loaded_each (e ∷ es) h =
     let t : Table = finite.from_entries es in
     rw (entries-insert t e.0 e.1) (put_kept (finite.entries t) e.0 e.1 h.0 (loaded_each es h.1))
 
-result_is_short : (e : ℕ × Account) (s : IsSavedAccount e) → are_short e.1.kept ≡ true → length s.saved.result ≤ MAX_RESULT_BYTES
-result_is_short e s h =
-    leb-true (length s.saved.result) MAX_RESULT_BYTES
-    (and_parts (nat_le (length s.saved.result) MAX_RESULT_BYTES) true (ap (λ (f : ℕ × Account). are_short f.1.kept) (sym s.is) ∙ h)).0
-
 saved_are_kept : (least : ℕ) (es : List (ℕ × Account)) → IsTrue (are_saved least es) → AllByRecursion IsSavedAccount es
     → AllByRecursion IsKept es
 saved_are_kept least [] h all = tt
 saved_are_kept least (e ∷ es) h all =
-    let here = and_parts (are_short e.1.kept) (are_saved (e.0 + 1) es) (and_parts (nat_le least e.0) _ h).1 in
-    (record { as_saved = all.0; short = result_is_short e all.0 here.0 }, saved_are_kept (e.0 + 1) es here.1 all.1)
+    let here = and_parts (is_account e.1) (are_saved (e.0 + 1) es) (and_parts (nat_le least e.0) _ h).1 in
+    (record { as_saved = all.0; account = here.0 }, saved_are_kept (e.0 + 1) es here.1 all.1)
 
 -- of saved clients
 pub loaded_fits : (es : List (ℕ × Account)) → IsTrue (nat_le (length es) MAX_SERVED) → IsTrue (are_saved 0 es)
@@ -107,46 +101,18 @@ loaded_fits es few saved all = record {
 
 -- ---- a result more
 
-abbrev account_of : Answered → Account
-account_of a = record { greatest = a.id; kept = a ∷ [] }
+may_be_saved : (o : Option Account) (c : ℕ) → ((old : Account) → o ≡ Some old → IsKept (c, old)) → IfSome o (λ old. is_account old ≡ true)
+may_be_saved None c kept = tt
+may_be_saved (Some old) c kept = (kept old refl).account
 
-abbrev filter_two : Answered → Answered → Bool → Bool → List Answered
-filter_two k a one two = cond one (k ∷ cond two (a ∷ []) []) (cond two (a ∷ []) [])
+greatest_fits : (o : Option Account) (c : ℕ) (a : Answered) → ((old : Account) → o ≡ Some old → IsKept (c, old)) → a.id < 2 ^ 64
+    → (account_with WINDOW o a).greatest < 2 ^ 64
+greatest_fits None c a kept id = id
+greatest_fits (Some old) c a kept id = let before = (kept old refl).as_saved.greatest in omega (arith, before, id)
 
--- the window of ids is 1, so the greatest id alone keeps its result
-one_is_kept : (k a : Answered) → k.id < a.id → account_with WINDOW (Some (account_of k)) a ≡ account_of a
-one_is_kept k a less =
-    let most : max k.id a.id ≡ a.id = max-eq_right (omega (arith, less)) in
-    let placed : with_answered a (k ∷ []) ≡ k ∷ a ∷ [] =
-    ap (λ (b : Bool). cond b (a ∷ k ∷ []) (k ∷ a ∷ [])) (le-ltb a.id k.id (omega (arith, less))) in
-    let left : within WINDOW a.id (k ∷ a ∷ []) ≡ a ∷ [] =
-    λ i. filter_two k a (le-ltb a.id (k.id + WINDOW) (omega (arith, less)) i) (lt-ltb a.id (a.id + WINDOW) (omega arith) i) in
-    λ i. record {
-      greatest = most i;
-      kept = (ap (λ (n : ℕ). within WINDOW n (with_answered a (k ∷ []))) most
-          ∙ ap (within WINDOW a.id) placed ∙ left) i;
-    }
-
-new_is_above : (k : Answered) (id : ℕ) → is_new_to WINDOW (Some (account_of k)) id ≡ true → k.id < id
-new_is_above k id h =
-    let parts = and_parts (nat_lt k.id (id + WINDOW)) (not ((k.id == id) || false)) h in
-    let near : k.id < id + WINDOW = ltb-true k.id (id + WINDOW) parts.0 in
-    let apart : k.id ≡ id → ⊥ = eqb-false k.id id (or_parts (k.id == id) false (not-true ((k.id == id) || false) parts.1)).0 in
-    omega (arith, near, apart)
-
-new_account : (o : Option Account) (c : ℕ) (a : Answered) → ((old : Account) → o ≡ Some old → IsKept (c, old))
-    → is_new_to WINDOW o a.id ≡ true → account_with WINDOW o a ≡ account_of a
-new_account None c a kept new = refl
-new_account (Some old) c a kept new =
-    let s : SavedClient = (kept old refl).as_saved.saved in
-    let former : Answered = record { id = s.id; result = s.result } in
-    let same : old ≡ account_of former = ap (λ (e : ℕ × Account). e.1) (kept old refl).as_saved.is in
-    ap (λ (x : Account). account_with WINDOW (Some x) a) same
-    ∙ one_is_kept former a (new_is_above former a.id (ap (λ (x : Account). is_new_to WINDOW (Some x) a.id) (sym same) ∙ new))
-
-pub with_result_fits : (t : Table) (c : ℕ) (a : Answered) → c < 2 ^ 32 → a.id < 2 ^ 64 → length a.result ≤ MAX_RESULT_BYTES → TableFits t
-    → (serves t c && is_new_to WINDOW (kept_for t c) a.id) ≡ true → TableFits (with_result WINDOW t c a)
-with_result_fits t c a low id short h taken = record {
+pub with_result_fits : (t : Table) (c : ℕ) (a : Answered) → c < 2 ^ 32 → 1 ≤ a.id → a.id < 2 ^ 64 → length a.result ≤ MAX_RESULT_BYTES
+    → TableFits t → (serves t c && is_new_to WINDOW (kept_for t c) a.id) ≡ true → TableFits (with_result WINDOW t c a)
+with_result_fits t c a low id_low id short h taken = record {
   few = len_fits (is_some (kept_for t c)) parts.0 (finite.len-insert nat_cmp_total t c new);
   each = rw (entries-insert t c new) (put_kept (finite.entries t) c new kept h.each);
 }
@@ -162,17 +128,13 @@ with_result_fits t c a low id short h taken = record {
     len_fits true e len = omega (arith, len, h.few)
     len_fits false e len = omega (arith, len, ltb-true (finite.len t) MAX_SERVED e)
 
+    before : (old : Account) → kept_for t c ≡ Some old → IsKept (c, old)
+    before old e = kept_is_kept t c old h e
+
     kept : IsKept (c, new)
     kept = record {
-      as_saved =
-          record {
-            saved = record { client = c; id = a.id; result = a.result };
-            is = ap (λ (x : Account). (c, x)) (new_account (kept_for t c) c a (λ old e. kept_is_kept t c old h e) parts.1);
-            client = low;
-            id = id;
-          };
-      short =
-          short;
+      as_saved = record { client = low; greatest = greatest_fits (kept_for t c) c a before id };
+      account = account_is (kept_for t c) a (may_be_saved (kept_for t c) c before) parts.1 (answer_is a id_low short);
     }
 
 -- what is kept with an id is short
@@ -183,14 +145,8 @@ kept_result_is_short t c id result h e = on (kept_for t c) refl e
     on : (o : Option Account) → kept_for t c ≡ o → result_kept o id ≡ Some result → length result ≤ MAX_RESULT_BYTES
     on None f g = absurd cc
     on (Some a) f g =
-        let kept : IsKept (c, a) = kept_is_kept t c a h f in
-        of_one (kept.as_saved.saved.id == id) kept.as_saved.saved.result
-        (ap (λ (x : ℕ × Account). result_kept (Some x.1) id) (sym kept.as_saved.is) ∙ g) kept.short
-      where
-        of_one : (b : Bool) (bytes : List ℕ) → cond b (Some bytes) None ≡ Some result → length bytes ≤ MAX_RESULT_BYTES
-            → length result ≤ MAX_RESULT_BYTES
-        of_one true bytes p short = let same : bytes ≡ result = cc in subst (λ (x : List ℕ). length x ≤ MAX_RESULT_BYTES) same short
-        of_one false bytes p short = absurd cc
+        subst (λ (r : Option (List ℕ)). IfSome r (λ bytes. length bytes ≤ MAX_RESULT_BYTES)) g
+        (result_is_short a.kept id (and_parts (is_kept a) (are_answers a.kept) (kept_is_kept t c a h f).account).1)
 
 -- ---- a table is saved
 
@@ -210,27 +166,21 @@ second_of : (a b : Bool) → T (a && b) → T b
 second_of true b h = h
 second_of false b h = absurd h
 
-kept_are_short : (e : ℕ × Account) → IsKept e → are_short e.1.kept ≡ true
-kept_are_short e h =
-    ap (λ (f : ℕ × Account). are_short f.1.kept) h.as_saved.is
-    ∙ and_from (nat_le (length h.as_saved.saved.result) MAX_RESULT_BYTES) true
-    (le-leb (length h.as_saved.saved.result) MAX_RESULT_BYTES h.short) refl
-
 above_are_saved : (k : ℕ) (es : List (ℕ × Account)) → T (below_all nat_cmp k es) → T (is_sorted nat_cmp es) → AllByRecursion IsKept es
     → are_saved (k + 1) es ≡ true
 above_are_saved k [] low sorted h = refl
 above_are_saved k (e ∷ es) low sorted h =
     let less : k < e.0 = less_from k e.0 (first_of (is_lt (nat_cmp k e.0)) (below_all nat_cmp k es) low) in
-    and_from (nat_le (k + 1) e.0) (are_short e.1.kept && are_saved (e.0 + 1) es) (le-leb (k + 1) e.0 (omega (arith, less)))
-    (and_from (are_short e.1.kept) (are_saved (e.0 + 1) es) (kept_are_short e h.0)
+    and_from (nat_le (k + 1) e.0) (is_account e.1 && are_saved (e.0 + 1) es) (le-leb (k + 1) e.0 (omega (arith, less)))
+    (and_from (is_account e.1) (are_saved (e.0 + 1) es) h.0.account
     (above_are_saved e.0 es (first_of (below_all nat_cmp e.0 es) (is_sorted nat_cmp es) sorted)
     (second_of (below_all nat_cmp e.0 es) (is_sorted nat_cmp es) sorted) h.1))
 
 sorted_are_saved : (es : List (ℕ × Account)) → T (is_sorted nat_cmp es) → AllByRecursion IsKept es → are_saved 0 es ≡ true
 sorted_are_saved [] sorted h = refl
 sorted_are_saved (e ∷ es) sorted h =
-    and_from (nat_le 0 e.0) (are_short e.1.kept && are_saved (e.0 + 1) es) (le-leb 0 e.0 (omega arith))
-    (and_from (are_short e.1.kept) (are_saved (e.0 + 1) es) (kept_are_short e h.0)
+    and_from (nat_le 0 e.0) (is_account e.1 && are_saved (e.0 + 1) es) (le-leb 0 e.0 (omega arith))
+    (and_from (is_account e.1) (are_saved (e.0 + 1) es) h.0.account
     (above_are_saved e.0 es (first_of (below_all nat_cmp e.0 es) (is_sorted nat_cmp es) sorted)
     (second_of (below_all nat_cmp e.0 es) (is_sorted nat_cmp es) sorted) h.1))
 

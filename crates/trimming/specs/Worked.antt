@@ -45,7 +45,9 @@ after_two = record {
 abbrev pub after_three : Checkpoint
 after_three = record {
   host = 10 ∷ 20 ∷ 30 ∷ [];
-  clients = (1, account_of_one 2 (10 ∷ 20 ∷ 30 ∷ [])) ∷ (2, account_of_one 1 (10 ∷ 20 ∷ [])) ∷ [];
+  clients =
+      (1, account_of (answered 1 (10 ∷ []) ∷ answered 2 (10 ∷ 20 ∷ 30 ∷ []) ∷ []) 2)
+      ∷ (2, account_of_one 1 (10 ∷ 20 ∷ [])) ∷ [];
 }
 
 -- what the sender tells of its log, all of one view

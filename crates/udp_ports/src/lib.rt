@@ -2,7 +2,7 @@
 //! `Link` of `outside`, and the monotonic clock as its `Clock`. `main` makes them and hands them to `commands::run`.
 //!
 //! Links acknowledge the parts of long messages. A socket's receive buffer holds some 90 fragments, and a message with a checkpoint
-//! and a log has up to 2,966: so a link sends only the first ones to each port at once, and the others by and by, while it is polled,
+//! and a log has up to 3,310: so a link sends only the first ones to each port at once, and the others by and by, while it is polled,
 //! as the link of that port says that it took those before them. Messages of one fragment and all other datagrams never wait. A poll
 //! has the memory for a datagram before it receives one.
 //!

@@ -1,4 +1,5 @@
--- What holds of a world that moves lead to: replicas agree, and the lines are legal of the history.
+-- What holds of a world that moves lead to: replicas agree, the lines are legal of the history, what is accepted stands from its slot on,
+-- and what is open is stale in no log.
 use Rattle.std.proofs.Common.{◌≡◌, ℕ, ◌+◌, ◌*◌, ◌<◌, ◌≤◌, Some, sym, ap, subst, ◌∙◌, arith, List, take}
 use Rattle.std.specs.Prelude.{slice_get}
 use Rattle.std.proofs.lemmas.Option.{slice_get_within}
@@ -7,21 +8,25 @@ use Rattle.nop_types.specs.Legality.{Legal}
 use Rattle.nop_types.specs.Lines.{Line}
 use Rattle.nop_types.specs.Lists.{IsPrefixOf, slot_of}
 use Rattle.nop_types.specs.Meaning.{Meaning}
+use Rattle.nop_types.specs.declared.request.Entry.{Entry}
+use Rattle.client_quorum.specs.declared.state.ClientState.{ClientState}
 use Rattle.protocol.specs.Conf.{Conf, opening}
 use Rattle.protocol.specs.Invariant.{Inv}
 use Rattle.protocol.specs.LocalState.{LocalState}
 use Rattle.protocol.proofs.Opening.{opening_meets}
+use Rattle.protocol_sync.specs.Laws.{AcceptedStand, OpenIsNotStaleIn}
 use Rattle.protocol_sync.specs.Sound.{Sound}
 use Rattle.protocol_sync.specs.Synced.{Sync}
 use Rattle.protocol_sync.proofs.Agreeing.{synchronised_begin, synchronised_prefixes_agree}
-use Rattle.protocol_sync.proofs.Concluding.{lines_are_legal}
+use Rattle.protocol_sync.proofs.Concluding.{accepted_stand, lines_are_legal, open_is_never_stale}
 use Rattle.protocol_sync.proofs.Opening.{opening_is_synced}
 use Rattle.protocol_sync.proofs.Runs.{syncs_keep}
 use Rattle.protocol_sync.proofs.Sounding.{runs_are_sound}
+use Rattle.world.specs.Others.{Clients}
 use Rattle.world.specs.Seats.{Seated}
 use Rattle.whole_world.specs.Whole.{WholeReplica, WholeWorld, Agreed, main_view, main_log, history}
 use Rattle.whole_world.specs.Passed.{Passed}
-use Rattle.whole_world.specs.Safe.{Leads}
+use Rattle.whole_world.specs.Safe.{Leads, OpenIsNotStale}
 use Rattle.whole_world.specs.Shows.{ShowsActors}
 use Rattle.whole_world.proofs.At.{At}
 use Rattle.whole_world.proofs.MainLogs.{is_main_log}
@@ -72,3 +77,14 @@ module _ {S : Type 0} (m : Meaning S) (f : ℕ) (config : Configuration) (count 
     pub legal : Legal m p.world.lines (history w)
     legal = subst (λ (t : List Line). Legal m t (history w)) (sym at.lines)
         (lines_are_legal m f c inv (main_view w) (main_log w) (is_main_log m f w c inv shown))
+
+    pub accepted : AcceptedStand m c (main_log w)
+    accepted = accepted_stand m f c inv (main_view w) (main_log w) (is_main_log m f w c inv shown)
+
+    pub not_stale : OpenIsNotStale w
+    not_stale i k a q e there =
+        let log : (c.replicas i).log ≡ a.state.state.log.entries = ap (λ (s : LocalState). s.log) (shown.replicas i a e) in
+        let requests : c.clients k ≡ q.state.requests = shown.others Clients k q there in
+        subst (λ (l : List Entry). OpenIsNotStaleIn l k q.state.requests) log
+        (subst (λ (s : ClientState). OpenIsNotStaleIn (c.replicas i).log k s) requests
+        (open_is_never_stale m f c inv i k (within i a e)))

@@ -13,7 +13,7 @@ use Rattle.whole_world.specs.Passed.{Passed, first, passed}
 use Rattle.whole_world.specs.Shows.{Shows}
 use Rattle.whole_world.specs.Safe.{Leads, IsSafe, WasSafe, WholeRunsAreSafe}
 use Rattle.whole_world.proofs.At.{At}
-use Rattle.whole_world.proofs.Concluding.{ran_sound, inv, sync, agreed, legal}
+use Rattle.whole_world.proofs.Concluding.{ran_sound, inv, sync, accepted, agreed, legal, not_stale}
 use Rattle.whole_world.proofs.Counts.{counts_from}
 use Rattle.whole_world.proofs.Events.{Before, events_reach}
 use Rattle.whole_world.proofs.Opening.{opening_stands}
@@ -42,6 +42,8 @@ module _ {S : Type 0} (m : Meaning S) (config : Configuration) (count : config.r
     sound = ran_sound m f config count c at.ran;
     agreed = agreed m f config count c (passed m config es) at;
     legal = legal m f config count c (passed m config es) at;
+    accepted = accepted m f config count c (passed m config es) at;
+    not_stale = not_stale m f config count c (passed m config es) at;
   }
 
   -- moves lead on from each time before

@@ -11,14 +11,16 @@ use Rattle.nop_types.specs.declared.output.Actor.{Actor}
 use Rattle.nop_types.specs.declared.output.Actor.TheVariants as actors
 use Rattle.oum_codec.specs.Reading.{reading}
 use Rattle.replica_rows.specs.Within.{ResultsShort}
+use Rattle.client_quorum.specs.Core.{Client}
 use Rattle.world.specs.Seats.{Seated}
 use Rattle.protocol.specs.Conf.{Conf}
 use Rattle.protocol.specs.Conf as protocol
 use Rattle.protocol.specs.Invariant.{Inv}
 use Rattle.protocol.specs.Runs.{Move, run, MayAll}
+use Rattle.protocol_sync.specs.Laws.{AcceptedStand, OpenIsNotStaleIn}
 use Rattle.protocol_sync.specs.Sound.{Sound, GoesOn}
 use Rattle.protocol_sync.specs.Synced.{Sync}
-use Rattle.whole_world.specs.Whole.{WholeReplica, WholeWorld, Brings, Op, Ask, Heard, Agreed, history}
+use Rattle.whole_world.specs.Whole.{WholeReplica, WholeWorld, Brings, Op, Ask, Heard, Agreed, history, main_log}
 use Rattle.whole_world.specs.Whole.{whole_step}
 use Rattle.whole_world.specs.Passed.{passed}
 use Rattle.whole_world.specs.Shows.{Shows}
@@ -40,8 +42,14 @@ pub record Leads {S : Type 0} (m : Meaning S) (f : ℕ) (c d : Conf) : Type 0 wh
   pub may : MayAll m f c moves
   pub ends : run m f c moves ≡ d
 
+-- no open request of a client is stale in the log of any replica, of a crashed one too
+abbrev pub OpenIsNotStale : WholeWorld → Type 0
+OpenIsNotStale w = (i k : ℕ) (a : Seated WholeReplica) (p : Seated Client) → slice_get w.replicas i ≡ Some a
+    → slice_get w.others.clients k ≡ Some p → OpenIsNotStaleIn a.state.state.log.entries k p.state.requests
+
 -- a configuration to which moves lead from the opening, and so with the invariants, shows what the events passed: all that was stamped,
--- said, logged, replied and accepted is sound, replicas agree as far as they are synchronised, and the lines are legal of the one history
+-- said, logged, replied and accepted is sound, replicas agree as far as they are synchronised, the lines are legal of the one history,
+-- what a client keeps as accepted stands in the main log from its slot on, and what it has open is stale in no replica's log
 pub record IsSafe {S : Type 0} (m : Meaning S) (config : Configuration) (es : List (Actor × Brings)) : Type 0 where
   pub conf : Conf
   pub ran : Leads m (config.replicas / 2) (protocol.opening config) conf
@@ -51,6 +59,8 @@ pub record IsSafe {S : Type 0} (m : Meaning S) (config : Configuration) (es : Li
   pub sound : Sound m (config.replicas / 2) conf
   pub agreed : Agreed (passed m config es).world
   pub legal : Legal m (passed m config es).world.lines (history (passed m config es).world)
+  pub accepted : AcceptedStand m conf (main_log (passed m config es).world)
+  pub not_stale : OpenIsNotStale (passed m config es).world
 
 -- so it was after the first of the events; moves lead on from there, and nothing of that was taken back
 pub record WasSafe {S : Type 0} (m : Meaning S) (config : Configuration) (prefix : List (Actor × Brings)) (last : Conf) : Type 0 where

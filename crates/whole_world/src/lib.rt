@@ -10,7 +10,8 @@
 //!
 //! `whole_runs_are_safe`: after any list of events in their ranges a configuration of the protocol shows the world, and moves
 //! lead to it from the initial state. So what was stamped, sent, logged, replied and accepted is sound, replicas agree as far as
-//! they are synchronised, and the lines are legal of the one history. Each session that was given out is of a controller of this
+//! they are synchronised, the lines are legal of the one history, what a client keeps as accepted is in it from its slot on, and
+//! what it has open is stale in no replica's log (`OpenIsNotStale`). Each session that was given out is of a controller of this
 //! world, and at most the last session of that one. The same held after every prefix of the events; moves lead on from there, and
 //! nothing was undone. The premise on the service is `ResultsShort`: each result fits a reply.
 //!

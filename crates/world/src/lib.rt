@@ -13,8 +13,8 @@
 //! `sent_count`, `replica`, `observer`, `entry`, `crashed`, `timer`, `history`, `main_view`, `main_log`,
 //! `replica_lines`, `observer_lines`. `final_lines` appends the lines at the end of a transcript, or nothing on an
 //! error. `find` is the first index of a datagram with the given bytes. `takes(client)`:
-//! whether a submit would be accepted: the client exists, is up, has no open request, and an id is
-//! left. `with_index` is `new` with an index for `find`.
+//! whether a submit would be accepted: the client exists, is up, has room for one more open request,
+//! and an id is left. `with_index` is `new` with an index for `find`.
 //!
 //! Files: `world_state`, `actors`, `stimulus` (what an event delivers, and to whom), `seat` (any
 //! core, and whether it crashed), `archive`, `main_log`, `history`, `state_lines`, `ending`. Definitions:

@@ -108,9 +108,9 @@ fn check_drawn(rt: &impl Abort, alloc: Global, number: u64, events_count: u32, e
 /// The summary as another program for the same protocol has it.
 const DRAWN: &str = "\
 gen 7 20000
-sends 5107 accepts 15
-view 40 88 length 77 noops 38
-history 17
+sends 7555 accepts 35
+view 37 71 length 112 noops 56
+history 40
 ";
 
 #[test]
@@ -125,5 +125,5 @@ fn the_most_drawn_events(rt: HostRuntime) {
         .ok()
         .expect(&rt, "memory");
     assert!(rt; drawn.len() == 100_000);
-    assert!(rt; matches!(drawn.last(), Some(Event::Deliver(37582, Actor::Replica(2)))));
+    assert!(rt; matches!(drawn.last(), Some(Event::Deliver(42944, Actor::Replica(3)))));
 }

@@ -31,13 +31,14 @@ end
 nopaxos 1 replicas 1 sequencers 1 clients 1
 submit c0 -
 submit c0 -
-deliver 1 r0
+deliver 2 r0
 crash|
 transcript 1 replicas 1 sequencers 1 clients 1
 submit c0 1 -
 send 0 c0 s* request 18
-busy c0
-error line 4 rule 8 index 1 sent 1
+submit c0 2 -
+send 1 c0 s* request 18
+error line 4 rule 8 index 2 sent 2
 ----
 nopaxos 1 replicas 1 sequencers 1 clients 1
 deliver 0 r1
@@ -89,13 +90,13 @@ submit c1 1 4700016b
 send 7 c1 s* request 22
 send 8 s0 r* stamped 38
 send 9 r1 r0 fragment 35
-send 10 r0 r1 fragment 75
+send 10 r0 r1 fragment 84
 send 11 r1 r0 fragment 35
 send 12 r1 c1 reply 36
 send 13 r2 r* fragment 31
-send 14 r2 r1 fragment 95
+send 14 r2 r1 fragment 104
 send 15 r1 r* fragment 31
-send 16 r1 r* fragment 102
+send 16 r1 r* fragment 111
 send 17 r1 c1 reply 38
 send 18 r2 c1 reply 36
 accept c1 1 3d76

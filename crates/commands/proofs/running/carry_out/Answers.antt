@@ -28,7 +28,8 @@ returns-in-Read-clause-ends g c =
       node = c.run_read.ensures.ends;
       cluster = tt;
       client = client_answers g.H.Host.meaning (links_of g.P.L.Link) (ports_of g.P.Ports c.args.ports.now c.run_read.new.ports)
-          (g.C.Clock.values c.args.clock.now) (Some (Read c.in-Read.id c.in-Read.site c.in-Read.observer c.in-Read.key)) c.run_read.result
+          (g.C.Clock.values c.args.clock.now)
+          (Some (Read c.in-Read.id c.in-Read.site c.in-Read.observer c.in-Read.key c.in-Read.least)) c.run_read.result
           (g.K.Sink.held c.args.sink.now) (g.K.Sink.held c.run_read.new.sink) c.run_read.ensures.ends;
       back = λ is. c.run_read.ensures.back;
       attaches = c.run_read.ensures.attaches;

@@ -1,14 +1,14 @@
 use Rattle.std.proofs.Common.{rules}
 use Rattle.nop_types.specs.CheckpointedLogs.{beginning}
 use Rattle.executor.specs.Running.{execution}
-use Rattle.executor.proofs.ExecutedLemmas.{last_is_kept, executed_before, fit_prefix, fit_still}
+use Rattle.executor.proofs.ExecutedLemmas.{last_may_unkeep, executed_before, fit_prefix, fit_still}
 use Rattle.executor.proofs.moves.go_back.Goals as goal
 
 pub leave-requires-clause-kept : goal.leave-requires-clause-kept
 leave-requires-clause-kept g c =
     let log = c.args.log.now in
     let x = execution (g.H.Host.state c.loop-undos.host) c.loop-undos.table in
-    last_is_kept g.H.Host.meaning g.H.Host.undo_of (beginning g.H.Host.meaning log.checkpoint) log.entries x c.pop.new.self.items
+    last_may_unkeep g.H.Host.meaning g.H.Host.undo_of (beginning g.H.Host.meaning log.checkpoint) log.entries x c.pop.new.self.items
     c.in-Some.slot_undo (rw c.in-Some.ensures.items at c.loop-undos.invariant.run)
 
 pub loop-undos-preserved-in-Some : goal.loop-undos-preserved-in-Some

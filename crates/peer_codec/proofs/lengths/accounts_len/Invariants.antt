@@ -8,5 +8,5 @@ abbrev pub invariant-loop-saved : goal.invariant-loop-saved
 invariant-loop-saved l =
     record {
       exact : l.len ≡ 4 + sum_by (λ c. length (account_bytes (saved_account c))) (take l.saved-index l.clients);
-      small : l.len ≤ 4 + 271 * l.saved-index;
+      small : l.len ≤ 4 + 2149 * l.saved-index;
     }

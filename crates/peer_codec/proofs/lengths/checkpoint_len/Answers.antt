@@ -2,9 +2,13 @@ use Rattle.std.proofs.Common.{List, ℕ, arith, ap}
 use Rattle.std.specs.Prelude.{length}
 use Rattle.nop_types.specs.Tables.{Account}
 use Rattle.peer_codec.specs.Spelling.{accounts_bytes}
-use Rattle.peer_codec.proofs.Accounts.{clients_short}
+use Rattle.peer_codec.proofs.Accounts.{clients_keep_few, clients_short}
 use Rattle.peer_codec.proofs.SpelledLengths.{checkpoint_len}
 use Rattle.peer_codec.proofs.lengths.checkpoint_len.Goals as goal
+
+pub accounts_len-requires-clause-few_kept : goal.accounts_len-requires-clause-few_kept
+accounts_len-requires-clause-few_kept c =
+    clients_keep_few c.args.checkpoint.now c.clients.result.now c.clients.ensures.fits c.clients.ensures.clients
 
 pub accounts_len-requires-clause-short : goal.accounts_len-requires-clause-short
 accounts_len-requires-clause-short c =

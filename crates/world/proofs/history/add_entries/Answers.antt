@@ -1,16 +1,15 @@
-use Rattle.std.proofs.Common.{◌≡◌, ◌+◌, ◌++◌, ◌∷◌, [], List, take, sym, ap, subst, ◌∙◌, append_assoc, append-nil}
+use Rattle.std.proofs.Common.{◌≡◌, ◌+◌, ◌++◌, ◌∷◌, [], List, take, sym, ap, ◌∙◌, append_assoc, append-nil}
 use Rattle.std.proofs.lemmas.List.{take_all}
 use Rattle.nop_types.specs.declared.request.Entry.{Entry}
 use Rattle.nop_types.specs.declared.request.Request.{Request}
 use Rattle.nop_types.specs.Histories.{history_of, new_in}
 use Rattle.execution_laws.proofs.Members.{history_of_next_entry}
-use Rattle.world.specs.Ids.{HasGreatest}
+use Rattle.world.specs.Ids.{table_after}
 use Rattle.world.proofs.IdLemmas.{take_next}
 use Rattle.world.proofs.history.add_entries.Goals as goal
 
 pub loop-entry-init : goal.loop-entry-init
-loop-entry-init c log has is =
-    (subst (HasGreatest c.args.greatest.now) (sym (append-nil log)) has, is ∙ ap history_of (sym (append-nil log)))
+loop-entry-init c log has is = (has ∙ ap table_after (sym (append-nil log)), is ∙ ap history_of (sym (append-nil log)))
 
 pub loop-entry-preserved : goal.loop-entry-preserved
 loop-entry-preserved c log has is =
@@ -21,7 +20,7 @@ loop-entry-preserved c log has is =
     ap (λ (es : List Entry). log ++ es) (take_next c.args.entries.now c.loop-entry.entry-index e c.loop-entry-test.true c.entry-item.is)
     ∙ sym (append_assoc log (take c.loop-entry.entry-index c.args.entries.now) (e ∷ [])) in
     let added = c.in_ok-add_entry.ensures in (
-      subst (HasGreatest c.add_entry.new.greatest) (sym next) (added.greatest before so_far.0),
+      added.next before so_far.0 ∙ ap table_after (sym next),
       added.members before so_far.0
           ∙ ap (λ (rs : List Request). rs ++ new_in before e) so_far.1 ∙ sym (ap history_of next ∙ history_of_next_entry before e),
     )
@@ -31,4 +30,4 @@ returns c log has is =
     let so_far = c.loop-entry.invariant log has is in
     let all : log ++ take c.loop-entry.entry-index c.args.entries.now ≡ log ++ c.args.entries.now =
     ap (λ (es : List Entry). log ++ es) (take_all c.loop-entry.entry-index c.args.entries.now c.loop-entry-test.false) in
-    (subst (HasGreatest c.loop-entry.greatest) all so_far.0, so_far.1 ∙ ap history_of all)
+    (so_far.0 ∙ ap table_after all, so_far.1 ∙ ap history_of all)

@@ -1,0 +1,95 @@
+// Delays the datagrams that a process sends to the ports from DELAY_FIRST to DELAY_LAST by DELAY_MICROS, each by the same time, so that
+// they keep their order. A thread sends them when they are due, from the socket that they were sent from. Loaded by LD_PRELOAD.
+
+#define _GNU_SOURCE
+#include <arpa/inet.h>
+#include <pthread.h>
+#include <stdlib.h>
+#include <string.h>
+#include <sys/prctl.h>
+#include <sys/socket.h>
+#include <sys/syscall.h>
+#include <time.h>
+#include <unistd.h>
+
+struct waiting {
+    struct waiting *next;
+    struct timespec due;
+    int socket, flags;
+    struct sockaddr_in to;
+    size_t length;
+    char bytes[];
+};
+
+static long micros, first, last;
+static struct waiting *front, **behind = &front;
+static pthread_mutex_t lock = PTHREAD_MUTEX_INITIALIZER;
+static pthread_cond_t more = PTHREAD_COND_INITIALIZER;
+
+static long number(const char *name)
+{
+    const char *text = getenv(name);
+    return text ? strtol(text, 0, 10) : 0;
+}
+
+static void *send_when_due(void *unused)
+{
+    (void)unused;
+    prctl(PR_SET_TIMERSLACK, 1UL);
+    for (;;) {
+        pthread_mutex_lock(&lock);
+        while (!front)
+            pthread_cond_wait(&more, &lock);
+        struct waiting *one = front;
+        front = one->next;
+        if (!front)
+            behind = &front;
+        pthread_mutex_unlock(&lock);
+        while (clock_nanosleep(CLOCK_MONOTONIC, TIMER_ABSTIME, &one->due, 0) != 0)
+            ;
+        syscall(SYS_sendto, one->socket, one->bytes, one->length, one->flags, &one->to, sizeof one->to);
+        free(one);
+    }
+    return 0;
+}
+
+__attribute__((constructor)) static void begin(void)
+{
+    micros = number("DELAY_MICROS");
+    first = number("DELAY_FIRST");
+    last = number("DELAY_LAST");
+    pthread_t thread;
+    if (micros > 0 && pthread_create(&thread, 0, send_when_due, 0) != 0)
+        _exit(99);
+}
+
+static int is_delayed(const struct sockaddr *to, socklen_t size)
+{
+    if (micros <= 0 || !to || size != sizeof(struct sockaddr_in) || to->sa_family != AF_INET)
+        return 0;
+    long port = ntohs(((const struct sockaddr_in *)to)->sin_port);
+    return first <= port && port <= last;
+}
+
+ssize_t sendto(int socket, const void *bytes, size_t length, int flags, const struct sockaddr *to, socklen_t size)
+{
+    struct waiting *one = is_delayed(to, size) ? malloc(sizeof *one + length) : 0;
+    if (!one)
+        return syscall(SYS_sendto, socket, bytes, length, flags, to, size);
+    clock_gettime(CLOCK_MONOTONIC, &one->due);
+    long nanos = one->due.tv_nsec + micros % 1000000 * 1000;
+    one->due.tv_sec += micros / 1000000 + nanos / 1000000000;
+    one->due.tv_nsec = nanos % 1000000000;
+    one->next = 0;
+    one->socket = socket;
+    one->flags = flags;
+    memcpy(&one->to, to, sizeof one->to);
+    one->length = length;
+    memcpy(one->bytes, bytes, length);
+    pthread_mutex_lock(&lock);
+    *behind = one;
+    behind = &one->next;
+    pthread_cond_signal(&more);
+    pthread_mutex_unlock(&lock);
+    return length;
+}
