@@ -91,6 +91,17 @@ udp_ports RECENT_PARTS 72
 udp_ports WAIT_MILLIS 1
 replay MAX_DRAWN_EVENTS 100_000
 linearize DEFAULT_STEPS 100_000_000
+braiding MAX_TRACE_LINES 4_000_000
+host_list PLACES 36
+host_list FNV_OFFSET 14_695_981_039_346_656_037
+host_list FNV_PRIME 1_099_511_628_211
+admission HELLO_MAGIC 0x48
+admission GREETING_BYTES 23
+admission MAX_CLIENT_CLAIMS 4096
+admission ASK_MICROS 20_000
+admission ALL_MICROS 300_000
+admission ROUND_MICROS 60_000_000
+admission REMIND_MICROS 500_000
 END
 }
 
@@ -115,6 +126,7 @@ schedule_text MAX_JUNK_TEXT
 schedule_text MAX_KEY_TEXT
 transcript_rows MAX_OP_TEXT
 replay GATHERED_BYTES
+braiding MANY
 picture_arrows MAX_ACTORS
 udp_ports PORTS
 udp_ports MOST_ACKS

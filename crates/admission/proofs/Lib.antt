@@ -1,0 +1,7 @@
+pub mod Admitted
+pub mod Counted
+pub mod Guard
+pub mod Halves
+pub mod Mapped
+pub mod Noting
+pub mod Spelled

@@ -1,0 +1,6 @@
+pub mod Actors
+pub mod Asked
+pub mod Greetings
+pub mod Questions
+pub mod Registries
+pub mod Rounds

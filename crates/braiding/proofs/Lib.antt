@@ -1,0 +1,16 @@
+pub mod Behinds
+pub mod Endings
+pub mod FieldLemmas
+pub mod Finished
+pub mod Gathers
+pub mod Lines
+pub mod NameLemmas
+pub mod NumbersRead
+pub mod Openings
+pub mod Pieces
+pub mod Readings
+pub mod Searches
+pub mod Stuck
+pub mod Transfer
+pub mod Woven
+pub mod Writings

@@ -1,0 +1,10 @@
+use Rattle.std.proofs.Common.{◌∙◌, sym, ap}
+use Rattle.braiding.specs.Weaving.{Numbers}
+use Rattle.braiding.proofs.NumbersRead.{numbers_read}
+use Rattle.braiding.proofs.numbers.sends_at.Goals as goal
+
+pub returns : goal.returns
+returns c =
+    c.deref.ensures.value
+    ∙ sym (ap (λ (n : Numbers). n.sends)
+    (numbers_read c.args.steps.now c.args.place c.index-steps-place.result c.requires))

@@ -1,0 +1,6 @@
+pub mod Apart
+pub mod Digesting
+pub mod Grammar
+pub mod Orders
+pub mod Pieces
+pub mod Tables
