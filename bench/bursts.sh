@@ -14,10 +14,7 @@
 # here 1.1 s are that wait. The last two numbers are the datagrams that found a receive buffer full, before the kills and after them
 # (RcvbufErrors of /proc/net/snmp, which counts for all programs of the network namespace). It takes two minutes, and ends with status 1
 # where a client is not answered within 20 s.
-set -u
-cd "$(dirname "$0")/.." || exit 2
-program=$(realpath "${NOPAXOS:-crates/nopaxos/out/nopaxos}") || exit 2
-[ -x "$program" ] || { echo "no program file $program"; exit 2; }
+. "$(dirname "$0")/program.bash" || exit 2
 kills=${KILLS:-20}
 base=${BASE:-47000}
 folder=$(mktemp -d) || exit 2

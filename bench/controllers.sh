@@ -8,10 +8,7 @@
 # sequencer, so 0.9 to 1.2 s after the kill. with: both are left, and both install that one, each in a session of its own. order: none is
 # left, and a new controller is ordered to install it; the time begins with its start. It takes some two minutes, and ends with status 1
 # where a client is not answered within 20 s.
-set -u
-cd "$(dirname "$0")/.." || exit 2
-program=$(realpath "${NOPAXOS:-crates/nopaxos/out/nopaxos}") || exit 2
-[ -x "$program" ] || { echo "no program file $program"; exit 2; }
+. "$(dirname "$0")/program.bash" || exit 2
 kills=${KILLS:-20}
 replicas=${REPLICAS:-3}
 folder=$(mktemp -d) || exit 2

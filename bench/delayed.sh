@@ -16,10 +16,7 @@
 # `submit` line to its last `accept` line. Neither counts the start of a process. A client submits one op in a turn, and a turn to which
 # nothing comes takes as long as the system's timers say, here up to 9 ms: over a link with delay its first eight puts are opened so. The
 # second rate leaves them out: it is of what is accepted after the first eight. The status is 1 where a put was not answered rightly.
-set -u
-cd "$(dirname "$0")/.." || exit 2
-program=$(realpath "${NOPAXOS:-crates/nopaxos/out/nopaxos}") || exit 2
-[ -x "$program" ] || { echo "no program file $program"; exit 2; }
+. "$(dirname "$0")/program.bash" || exit 2
 before=
 if [ -n "${BEFORE:-}" ]; then
     before=$(realpath "$BEFORE") || exit 2

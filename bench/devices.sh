@@ -9,10 +9,7 @@
 # First single processes: a full disk, one that fills in the middle, a closed pipe, files that are closed, of the wrong kind or opened
 # the wrong way, and a port in use. The exit status and the output of each are compared with what they have to be. Then the
 # flood, in three rounds that bench/devices/flood.py describes. It takes about two minutes.
-set -u
-cd "$(dirname "$0")/.." || exit 2
-program=$(realpath "${NOPAXOS:-crates/nopaxos/out/nopaxos}") || exit 2
-[ -x "$program" ] || { echo "no program file $program"; exit 2; }
+. "$(dirname "$0")/program.bash" || exit 2
 base=${BASE:-45000}
 folder=$(mktemp -d) || exit 2
 . checks/nodes.bash

@@ -13,10 +13,7 @@
 # memory of any replica grew from the 10,000th put on, the rate of the last tenth of the puts over that of the first, and how many
 # datagrams found a receive buffer full (RcvbufErrors, of all programs on the machine). The status is 1 where a put was not answered, or
 # not rightly.
-set -u
-cd "$(dirname "$0")/.." || exit 2
-program=$(realpath "${NOPAXOS:-crates/nopaxos/out/nopaxos}") || exit 2
-[ -x "$program" ] || { echo "no program file $program"; exit 2; }
+. "$(dirname "$0")/program.bash" || exit 2
 puts=${1:-1000000}
 replicas=${REPLICAS:-3}
 base=${BASE:-48000}

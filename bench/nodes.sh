@@ -10,10 +10,7 @@
 # that are open at a time.
 # EVENT names what happens in the middle: kill (the leader), install (the controller is killed, and another one
 # installs sequencer 1) or stop (a follower stands still for two seconds).
-set -u
-cd "$(dirname "$0")/.." || exit 2
-program=$(realpath "${NOPAXOS:-crates/nopaxos/out/nopaxos}") || exit 2
-[ -x "$program" ] || { echo "no program file $program"; exit 2; }
+. "$(dirname "$0")/program.bash" || exit 2
 replicas=${1:-3}
 lanes=${LANES:-16}
 event=${EVENT:-none}

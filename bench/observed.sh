@@ -13,10 +13,7 @@
 # the end nothing is lost for three seconds. Filters at the sockets lose datagrams (bench/observed/loss.py: Linux, and the right to
 # trace the processes). It prints a line for each run and one for all. The status is 1 where an answer is wrong, a run had no put
 # accepted or no read answered, or a put was not accepted in the end.
-set -u
-cd "$(dirname "$0")/.." || exit 2
-program=$(realpath "${NOPAXOS:-crates/nopaxos/out/nopaxos}") || exit 2
-[ -x "$program" ] || { echo "no program file $program"; exit 2; }
+. "$(dirname "$0")/program.bash" || exit 2
 runs=${1:-200}
 first=${FIRST:-0}
 base=${BASE:-30000}

@@ -11,10 +11,7 @@
 # The clients that put are those of bench/long/client.rs, the readers those of bench/reads/client.rs; both are built first (rustc). With
 # 4,096 KEYS and a VALUE of 256 each message of synchronisation has more than a megabyte. The status is 1 where a put or a read was not
 # answered, or not rightly.
-set -u
-cd "$(dirname "$0")/.." || exit 2
-program=$(realpath "${NOPAXOS:-crates/nopaxos/out/nopaxos}") || exit 2
-[ -x "$program" ] || { echo "no program file $program"; exit 2; }
+. "$(dirname "$0")/program.bash" || exit 2
 replicas=${REPLICAS:-3}
 clients=${CLIENTS:-8}
 readers=${READERS:-8}

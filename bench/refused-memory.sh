@@ -9,10 +9,7 @@
 # What it runs: four schedules of examples/, each command of a node, and words that are not taken. A client's answers come from
 # peer.py over the loopback address, or never. The allocator that refuses is loaded before the C library (LD_PRELOAD), so the program
 # has to be linked dynamically, as it is; with it comes a clock that stands still. Needs a C compiler. It takes about a minute.
-set -u
-cd "$(dirname "$0")/.." || exit 2
-program=$(realpath "${NOPAXOS:-crates/nopaxos/out/nopaxos}") || exit 2
-[ -x "$program" ] || { echo "no program file $program"; exit 2; }
+. "$(dirname "$0")/program.bash" || exit 2
 base=${BASE:-44000}
 folder=$(mktemp -d) || exit 2
 . checks/nodes.bash

@@ -11,10 +11,7 @@
 # client puts, each time up to 100 ms after the last put was shown. A leader synchronises ten times a second. The datagrams that found a
 # receive buffer full (RcvbufErrors of /proc/net/snmp) are counted over all programs of the network namespace. The status is 1 where a
 # put was not shown.
-set -u
-cd "$(dirname "$0")/.." || exit 2
-program=$(realpath "${NOPAXOS:-crates/nopaxos/out/nopaxos}") || exit 2
-[ -x "$program" ] || { echo "no program file $program"; exit 2; }
+. "$(dirname "$0")/program.bash" || exit 2
 base=${BASE:-46000}
 keys=${KEYS:-4064}
 folder=$(mktemp -d) || exit 2

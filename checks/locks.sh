@@ -53,7 +53,7 @@ answered() {
 }
 
 # ---- commands that need no network
-ends 'the words' 2 'usage: lock_service replay | gen | node | sequencer | controller | client | cluster | check | observer | read' stop
+ends 'the words' 2 'usage: lock_service replay | gen | node | sequencer | controller | client | cluster | check | observer | read | audit' stop
 ends 'the stored transcript' 0 'legal 6 6 6' check < crates/lock_service/stdout
 sed "s/^accept c1 2 .*/accept c1 2 6772616e7465640000000000000001/" crates/lock_service/stdout > "$folder/changed"
 ends 'a token that is granted again' 8 'refuted line 31 clause 5' check < "$folder/changed"

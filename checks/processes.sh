@@ -10,7 +10,7 @@ schedule=examples/one-put.schedule
 transcript=examples/one-put.transcript
 base=$((20000 + $$ % 600 * 64))
 site="--replicas 3 --sequencers 1 --base $base"
-usage='usage: nopaxos replay | gen | node | sequencer | controller | client | cluster | check | observer | read'
+usage='usage: nopaxos replay | gen | node | sequencer | controller | client | cluster | check | observer | read | audit'
 server=
 trap '[ -z "$server" ] || kill "$server" 2> /dev/null; rm -rf "$folder"' EXIT
 
@@ -116,6 +116,10 @@ for words in '' 'stop' 'replay replay' 'gen 1 0' 'gen 1 100001' 'node' 'node --h
     'read --id 0 --observer 0 --replicas 3 --sequencers 1' \
     'read --id 0 --observer 0 --replicas 3 --sequencers 1 6' \
     'read --id 0 --observer 0 --replicas 3 --sequencers 1 6b 6b' \
+    'node --id 0 --replicas 3 --sequencers 1 --trace --trace' \
+    'node --id 0 --replicas 3 --sequencers 1 --trace=1' \
+    'cluster --replicas 3 --sequencers 1 --clients 1 --trace 50' \
+    'replay --trace' 'audit --trace' 'audit audit' \
     "read --id 0 --observer 0 --replicas 3 --sequencers 1 ${big:0:130}" \
     "client --id 0 --replicas 3 --sequencers 1 ${big}78" \
     "client --id 0 --replicas 3 --sequencers 1 $(printf '50 %.0s' {1..65})"; do

@@ -1,16 +1,20 @@
 #!/bin/bash
 # The stories of examples/: what a story quotes is the whole transcript beside it, in order; a story of a schedule shows its picture; and
 # the pictures there are what `spacetime` draws of the schedules beside them. A story whose name begins with `lock-` is of the stored run of
-# `lock_service`, and its picture is what `lock_spacetime` draws. Then how both end where there is nothing to draw. It takes a few seconds,
+# `lock_service`, and its picture is what `lock_spacetime` draws. A story with a folder of its name is of a run of nodes: their traces there
+# are braided, audited, replayed and judged. Then how both programs end where there is nothing to draw. It takes a few seconds,
 # leaves nothing behind, and ends with status 1 at any difference. checks/transcripts.sh compares the transcripts with what the
 # program writes, and checks/links.sh follows the links of the stories.
 #
-#   checks/stories.sh            the programs are crates/spacetime/out/spacetime and crates/lock_spacetime/out/lock_spacetime, or the files
-#                                that SPACETIME and LOCK_SPACETIME name
+#   checks/stories.sh            the programs are crates/NAME/out/NAME, or the files that SPACETIME, LOCK_SPACETIME, NOPAXOS and BRAID name
 #   checks/stories.sh --draw     writes the pictures that are there anew
 . "$(dirname "$0")/common.bash" || exit 2
 needs "${LOCK_SPACETIME:-}" lock_spacetime
 locks=$program
+needs "${BRAID:-}" braid
+braid=$program
+needs "${NOPAXOS:-}" nopaxos -- replay
+nopaxos=$program
 needs "${SPACETIME:-}" spacetime
 
 # files NAME: the program, the schedule and the transcript of a story.
@@ -18,6 +22,10 @@ files() {
     drawer=$program
     schedule=examples/$1.schedule
     transcript=examples/$1.transcript
+    if [ -d "examples/$1" ]; then
+        schedule=examples/$1/schedule
+        transcript=examples/$1/transcript
+    fi
     case $1 in
     lock-*)
         drawer=$locks
@@ -59,11 +67,30 @@ drawn() {
     fi
 }
 
+# audited NAME: what is made of the traces of a story is what lies beside them, and is answered as the story says, also where a byte
+# of the order's line that it names is another one.
+audited() {
+    local base=examples/$1 line
+    { head -n 1 "$base/order"; cat "$base"/traces/*; } | "$braid" > "$folder/out" 2> "$folder/err"
+    same "$1, braided" $? 0 "$(cat "$base/order")"
+    "$nopaxos" audit < "$base/order" > "$folder/out" 2> "$folder/err"
+    same "$1, audited" $? 0 "$(cat "$base/schedule")
+$(grep -o 'audited [0-9]*' "$base.md")"
+    "$nopaxos" replay < "$base/schedule" > "$folder/out" 2> "$folder/err"
+    same "$1, replayed" $? 0 "$(cat "$base/transcript")"
+    "$nopaxos" check < "$base/transcript" > "$folder/out" 2> "$folder/err"
+    same "$1, judged" $? 0 "$(grep -o 'legal [0-9 ]*' "$base.md")"
+    line=$(sed -n 's/^`audit line \([0-9]*\) fault 4`$/\1/p' "$base.md")
+    sed "${line}s/3d76$/3d77/" "$base/order" | "$nopaxos" audit > "$folder/out" 2> "$folder/err"
+    same "$1, with another byte" $? 8 "audit line $line fault 4"
+}
+
 draw=0
 if [ "${1:-}" = --draw ]; then draw=1; fi
 for story in examples/*.md; do
     name=$(basename "$story" .md)
     [ "$name" = README ] || told "$name"
+    [ ! -d "examples/$name" ] || audited "$name"
 done
 for picture in examples/*.svg; do
     drawn "$(basename "$picture" .svg)"

@@ -1,4 +1,5 @@
-// Clients of bench/delayed.sh, one process after the other: times their lines as they come. std alone: rustc -O times.rs
+// Clients of bench/delayed.sh and bench/traced.sh, one process after the other: times their lines as they come, also those of a trace. std
+// alone: rustc -O times.rs
 //
 //   times PROGRAM CLIENTS OPS WORDS..
 //
@@ -41,11 +42,11 @@ fn run(program: &str, client: usize, ops: usize, words: &[String], told: &mut To
         let now = Instant::now();
         let fields: Vec<&str> = line.split(' ').collect();
         match fields[..] {
-            ["submit", _, id, _] => {
+            ["submit", _, id, _] | ["out", _, "submit", id, _] => {
                 began.get_or_insert(now);
                 open.insert(id.to_string(), now);
             }
-            ["accept", _, id, result] => {
+            ["accept", _, id, result] | ["out", _, "accept", id, result] => {
                 accepted.push(now);
                 match open.remove(id) {
                     Some(submitted) => told.waits.push(now - submitted),

@@ -5,7 +5,7 @@
 //
 // PUTS in all, at KEYS keys in all, with values of VALUE bytes, at most RATE in a second (0: each as soon as the one before is answered). Each answer has to be what the client's last put at that key wrote,
 // or `none`. After every 10,000 puts a line tells how many were answered, the seconds so far, the puts a second since the line
-// before, and the longest wait for an answer since then, in milliseconds. The last line tells of all, and of the last view.
+// before, and the longest wait for an answer since then, in milliseconds. The last line tells of all, of the last view, and of the median wait.
 use std::net::UdpSocket;
 use std::sync::atomic::{AtomicBool, AtomicU64, Ordering};
 use std::sync::{Arc, Mutex};
@@ -31,6 +31,7 @@ struct Counts {
     // microseconds, since the last line and in all
     longest: AtomicU64,
     longest_of_all: AtomicU64,
+    waits: Mutex<Vec<u32>>,
     // the greatest session of an accepted reply, and its leader number
     view: Mutex<(u64, u32)>,
     given_up: AtomicBool,
@@ -86,6 +87,7 @@ fn run(site: &Site, client: u32, puts: u64, counts: &Counts) {
     let own = site.keys / site.clients + u64::from(u64::from(client) < site.keys % site.clients);
     let mut values: Vec<Option<Vec<u8>>> = vec![None; own.max(1) as usize];
     let mut bytes = [0u8; 2048];
+    let mut waits = Vec::new();
     let mut id = 0;
     // not all clients at once
     let mut due = Instant::now() + site.pause.mul_f64(client as f64 / site.clients as f64);
@@ -128,6 +130,7 @@ fn run(site: &Site, client: u32, puts: u64, counts: &Counts) {
             }
         };
         let waited = began.elapsed().as_micros() as u64;
+        waits.push(waited.min(u64::from(u32::MAX)) as u32);
         counts.longest.fetch_max(waited, Ordering::Relaxed);
         counts.longest_of_all.fetch_max(waited, Ordering::Relaxed);
         let wanted = match &values[place] {
@@ -140,6 +143,7 @@ fn run(site: &Site, client: u32, puts: u64, counts: &Counts) {
         values[place] = Some(value);
         counts.answered.fetch_add(1, Ordering::Relaxed);
     }
+    counts.waits.lock().expect("a lock").extend(waits);
 }
 
 fn main() {
@@ -184,8 +188,12 @@ fn main() {
     }
     let answered = counts.answered.load(Ordering::Relaxed);
     let (session, leader_number) = *counts.view.lock().expect("a lock");
+    let mut waits = counts.waits.lock().expect("a lock");
+    waits.sort_unstable();
+    let median = waits.get(waits.len() / 2).copied().unwrap_or(0);
     println!(
-        "all answered {answered} wrong {} retries {} longest_wait_ms {} seconds {:.1} leader_number {leader_number} session {session}",
+        "all answered {answered} wrong {} retries {} longest_wait_ms {} seconds {:.1} leader_number {leader_number} session {session} \
+         median_wait_us {median}",
         counts.wrong.load(Ordering::Relaxed),
         counts.retries.load(Ordering::Relaxed),
         counts.longest_of_all.load(Ordering::Relaxed) / 1000,

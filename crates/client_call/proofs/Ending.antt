@@ -16,7 +16,7 @@ use Rattle.client_quorum.specs.Opens.{accepted_in}
 use Rattle.client_quorum.specs.Runs.{after, gave}
 use Rattle.client_quorum.specs.declared.state.ClientState.{ClientState}
 use Rattle.client_quorum.proofs.Alone.{state_alone, outs_alone, is_done_alone}
-use Rattle.udp_node.specs.Effects.{Effect, effects, effects_by, calls, lines, Stopped}
+use Rattle.udp_node.specs.Effects.{Effect, effects, effects_by, calls, lines, step_effects, Stopped}
 use Rattle.udp_node.specs.Folding.{folded, AllOutside, TookSome}
 use Rattle.udp_node.specs.NodeRun.{NodeRun, ServedRun, ServesAfter}
 use Rattle.udp_node.specs.Sends.{LinkSide, Sends, side}
@@ -25,6 +25,7 @@ use Rattle.udp_node.specs.declared.errors.ServeError.{ServeError}
 use Rattle.udp_node.specs.declared.errors.ServeError.TheVariants as serves
 use Rattle.udp_node.specs.declared.serving.Served.{Served}
 use Rattle.udp_node.proofs.EffectLemmas.{calls_append}
+use Rattle.udp_node.proofs.FoldLemmas.{taken_is}
 use Rattle.client_call.specs.Calls.{caller, caller_core, request, error_of, IsAccepted, Answers, GivesAccepted, run_of, NotDone}
 use Rattle.client_call.specs.Calls.{Answered, TurnsEnded, SomeCallsMade, EndsRun, EndsObserved}
 use Rattle.client_call.specs.declared.errors.CallError.{CallError}
@@ -43,7 +44,7 @@ folded_is s [] = refl
 folded_is s (x ∷ xs) = ap (λ (r : Client × List Out). (r.0, (client.next s x).1 ++ r.1)) (folded_is (client.next s x).0 xs)
 
 module _ (at : Address) (number : ℕ) (op : List ℕ) (t : Client) (h i : Option (List ℕ))
-    (took : TookSome client.next at [] (caller_core at.config number op) t h i) where
+    (took : TookSome client.next (step_effects false at) [] (caller_core at.config number op) t h i) where
   abbrev core_start : Client
   core_start = caller_core at.config number op
 
@@ -102,12 +103,12 @@ module _ (at : Address) (number : ℕ) (op : List ℕ) (t : Client) (h i : Optio
   same_lines (Some zs) xs ys a b = sym a ∙ b
 
   module _ (turns : ℕ) (r : NodeRun) (served : Served) (a b : LinkSide) (empty : h ≡ Some [])
-      (run : ServedRun at r served a (record b { lost = served.lost }) h i) (done : served.done ≡ client.is_done t)
+      (run : ServedRun (step_effects false at) r served a (record b { lost = served.lost }) h i) (done : served.done ≡ client.is_done t)
       (spent : served.done ≡ false → served.turns ≡ turns) where
-    run_lines : lines (effects_by at r.acts) ≡ lines (effects at (gave start took.inputs))
+    run_lines : lines (effects_by (step_effects false at) r.acts) ≡ lines (effects at (gave start took.inputs))
     run_lines =
-        same_lines i (lines (effects_by at r.acts)) (lines (effects at (folded client.next core_start took.inputs).1)) (rw empty at run.effects.lines)
-        (rw empty at took.written)
+        same_lines i (lines (effects_by (step_effects false at) r.acts)) (lines (effects at (folded client.next core_start took.inputs).1))
+        (rw empty at run.effects.lines) (rw (empty, taken_is client.next at core_start took.inputs) at took.written)
         ∙ ap (λ os. lines (effects at os)) outs_after
 
     run_answered : (accept : Accept) (o : Option Accept) → its_accept ≡ o → GivesAccepted o (Ok accept)
@@ -144,11 +145,11 @@ module _ (at : Address) (number : ℕ) (op : List ℕ) (t : Client) (h i : Optio
     run_ends (Err Unanswered) gives = run_open its_accept refl gives
     run_ends (Err NoMemory) gives = (
       served.lost,
-      record { before = calls (effects_by at r.acts); rest = []; split = sym (append-nil (calls (effects_by at r.acts))); sends = run.effects.sends },
+      record { before = calls (effects_by (step_effects false at) r.acts); rest = []; split = sym (append-nil (calls (effects_by (step_effects false at) r.acts))); sends = run.effects.sends },
     )
 
   pub ends_served : (turns : ℕ) (answers : Option (List PollAnswer)) (values : Option (List ℕ)) (served : Served) (a b : LinkSide)
-      → h ≡ Some [] → ServesAfter client.next client.is_done [] client.timers at turns core_start answers values (Ok served) a b h i
+      → h ≡ Some [] → ServesAfter client.next client.is_done [] client.timers (step_effects false at) turns core_start answers values (Ok served) a b h i
       → served.done ≡ client.is_done t → (served.done ≡ false → served.turns ≡ turns)
       → (result : Result Accept CallError) → GivesAccepted its_accept result
       → EndsObserved at number op turns answers values result a b
@@ -159,7 +160,7 @@ module _ (at : Address) (number : ℕ) (op : List ℕ) (t : Client) (h i : Optio
 
 module _ (at : Address) (number : ℕ) (op : List ℕ) (turns : ℕ) (a b : LinkSide) (h i : Option (List ℕ)) where
   ends_broken : (answers : Option (List PollAnswer)) (values : Option (List ℕ))
-      → ServesAfter client.next client.is_done [] client.timers at turns (caller_core at.config number op) answers values (Err serves.LinkFault) a b h i
+      → ServesAfter client.next client.is_done [] client.timers (step_effects false at) turns (caller_core at.config number op) answers values (Err serves.LinkFault) a b h i
       → EndsObserved at number op turns answers values (Err LinkFault) a b
   ends_broken None values run = tt
   ends_broken (Some answers) None run = tt
@@ -177,21 +178,21 @@ module _ (at : Address) (number : ℕ) (op : List ℕ) (turns : ℕ) (a b : Link
   )
 
   ends_stopped : (answers : Option (List PollAnswer)) (values : Option (List ℕ))
-      → ServesAfter client.next client.is_done [] client.timers at turns (caller_core at.config number op) answers values (Err serves.NoMemory) a b h i
+      → ServesAfter client.next client.is_done [] client.timers (step_effects false at) turns (caller_core at.config number op) answers values (Err serves.NoMemory) a b h i
       → EndsObserved at number op turns answers values (Err NoMemory) a b
   ends_stopped None values run = tt
   ends_stopped (Some answers) None run = tt
-  ends_stopped (Some answers) (Some values) run = stopped_calls (effects_by at (run_of at number op turns answers values).acts) run.0 run.1
+  ends_stopped (Some answers) (Some values) run = stopped_calls (effects_by (step_effects false at) (run_of at number op turns answers values).acts) run.0 run.1
 
   ends_in_line : (answers : Option (List PollAnswer)) (values : Option (List ℕ))
-      → ServesAfter client.next client.is_done [] client.timers at turns (caller_core at.config number op) answers values (Err serves.WriteFault) a b h i
+      → ServesAfter client.next client.is_done [] client.timers (step_effects false at) turns (caller_core at.config number op) answers values (Err serves.WriteFault) a b h i
       → EndsObserved at number op turns answers values (Err NoMemory) a b
   ends_in_line None values run = tt
   ends_in_line (Some answers) None run = tt
-  ends_in_line (Some answers) (Some values) run = stopped_calls (effects_by at (run_of at number op turns answers values).acts) run.0 run.1.stopped
+  ends_in_line (Some answers) (Some values) run = stopped_calls (effects_by (step_effects false at) (run_of at number op turns answers values).acts) run.0 run.1.stopped
 
   pub ends_failed : (e : ServeError) (answers : Option (List PollAnswer)) (values : Option (List ℕ))
-      → ServesAfter client.next client.is_done [] client.timers at turns (caller_core at.config number op) answers values (Err e) a b h i
+      → ServesAfter client.next client.is_done [] client.timers (step_effects false at) turns (caller_core at.config number op) answers values (Err e) a b h i
       → EndsObserved at number op turns answers values (Err (error_of e)) a b
   ends_failed serves.LinkFault answers values run = ends_broken answers values run
   ends_failed serves.WriteFault answers values run = ends_in_line answers values run
@@ -210,7 +211,7 @@ ends_before at number op turns None values trace losses = tt
 ends_before at number op turns (Some answers) None trace losses = tt
 ends_before at number op turns (Some answers) (Some values) trace losses = (
   0,
-  record { before = []; rest = calls (effects_by at (run_of at number op turns answers values).acts); split = refl; sends = no_calls trace losses },
+  record { before = []; rest = calls (effects_by (step_effects false at) (run_of at number op turns answers values).acts); split = refl; sends = no_calls trace losses },
 )
 
 -- ---- a link that ports gave

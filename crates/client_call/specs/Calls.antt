@@ -16,7 +16,7 @@ use Rattle.client_quorum.specs.Core as client
 use Rattle.client_quorum.specs.Opens.{accepted_in}
 use Rattle.client_quorum.specs.Runs.{after, gave, replies_of, IsAgreed}
 use Rattle.client_quorum.specs.declared.state.ClientState.{ClientState}
-use Rattle.udp_node.specs.Effects.{calls, effects_by, lines}
+use Rattle.udp_node.specs.Effects.{calls, effects_by, lines, step_effects}
 use Rattle.udp_node.specs.Folding.{AllOutside}
 use Rattle.udp_node.specs.NodeRun.{NodeRun, run_after}
 use Rattle.udp_node.specs.Ports.{port_of}
@@ -105,27 +105,27 @@ SomeCallsMade cs a b = (lost : ℕ) × SendsPrefix cs a (record b { lost = lost 
 pub record Answered (at : Address) (number : ℕ) (op result : List ℕ) (r : NodeRun) (a b : LinkSide) : Type 0 where
   pub done : r.done ≡ true
   pub works : r.broken ≡ false
-  pub lines : lines (effects_by at r.acts) ≡ submit_line (request number op) ++ accept_line number 1 result
-  pub calls : CallsMade (calls (effects_by at r.acts)) a b
+  pub lines : lines (effects_by (step_effects false at) r.acts) ≡ submit_line (request number op) ++ accept_line number 1 result
+  pub calls : CallsMade (calls (effects_by (step_effects false at) r.acts)) a b
 
 -- all turns were taken, and the client was not done
 pub record TurnsEnded (at : Address) (turns : ℕ) (r : NodeRun) (a b : LinkSide) : Type 0 where
   pub all : r.turns ≡ turns
   pub done : r.done ≡ false
   pub works : r.broken ≡ false
-  pub calls : CallsMade (calls (effects_by at r.acts)) a b
+  pub calls : CallsMade (calls (effects_by (step_effects false at) r.acts)) a b
 
 -- a poll failed
 pub record PollFailed (at : Address) (r : NodeRun) (a b : LinkSide) : Type 0 where
   pub broken : r.broken ≡ true
-  pub calls : CallsMade (calls (effects_by at r.acts)) a b
+  pub calls : CallsMade (calls (effects_by (step_effects false at) r.acts)) a b
 
 abbrev pub EndsRun : Address → ℕ → List ℕ → ℕ → NodeRun → Result Accept CallError → LinkSide → LinkSide → Type 0
 EndsRun at number op turns r (Ok accept) a b = Answered at number op accept.result r a b
 EndsRun at number op turns r (Err PortFault) a b = ⊥
 EndsRun at number op turns r (Err LinkFault) a b = PollFailed at r a b
 EndsRun at number op turns r (Err Unanswered) a b = TurnsEnded at turns r a b
-EndsRun at number op turns r (Err NoMemory) a b = SomeCallsMade (calls (effects_by at r.acts)) a b
+EndsRun at number op turns r (Err NoMemory) a b = SomeCallsMade (calls (effects_by (step_effects false at) r.acts)) a b
 
 abbrev pub EndsObserved : Address → ℕ → List ℕ → ℕ → Option (List PollAnswer) → Option (List ℕ) → Result Accept CallError
     → LinkSide → LinkSide → Type 0

@@ -84,7 +84,9 @@ pub(crate) fn wait_over<L: Link, C: Clock>(
     let mut core = caller(alloc, service, number, op)?;
     let mut sink = WriteMem::new(alloc);
     let at = address(service, number);
-    match serve(alloc, &mut core, at, None, link, clock, turns, &mut sink) {
+    match serve(
+        alloc, &mut core, at, None, link, clock, turns, &mut sink, false,
+    ) {
         Ok(_served) => accepted(&core),
         Err(e) => Err(error_of(e)),
     }

@@ -1,9 +1,10 @@
-ghost use Rattle.std.specs.Prelude.{◌≡◌, ◌≤◌, ◌+◌, ◌==◌, find, length, insert, vec_len, vec_capacity, nat_lt, count_by, map};
+ghost use Rattle.std.specs.Prelude.{◌≡◌, ◌<◌, ◌≤◌, ◌+◌, ◌==◌, find, length, nat_lt, count_by, map, false};
+ghost use Rattle.std.specs.VecDeque.{deque_len, deque_capacity};
 ghost use Rattle.std.specs.Prelude.{None, Some, IsTrue, OnOk, OnErr, IfOk, option_map};
 ghost use Rattle.std.specs.List.{list_any, position};
 ghost use Rattle.std.specs.Option.{option_copied};
 ghost use Rattle.nop_types.specs.declared.limits.TheConstants.{WINDOW};
-ghost use Rattle.nop_types.specs.Lists.{is_in};
+ghost use Rattle.nop_types.specs.Lists.{is_in, any_above};
 ghost use Rattle.nop_types.specs.Tables as tables;
 ghost use Rattle.nop_types.specs.declared.checkpoint.Answered.{Answered as Result};
 ghost use Rattle.nop_types.specs.Tables.{kept_ids, result_in, is_new_to, account_with, with_answered, without};
@@ -17,6 +18,7 @@ use crate::dropped::{Dropped, put_front, take_front};
 use crate::judged::Judged;
 use nop_types::{Answered, NoMemory, WINDOW};
 use std::alloc::Global;
+use std::collections::VecDeque;
 use std::marker::Model;
 
 /// The most results that are kept for a client.
@@ -28,7 +30,7 @@ const _: () = prove!(MAX_KEPT as u64 == WINDOW);
 #[derive(Debug, Drop)]
 pub struct Account {
     greatest: u64,
-    kept: Vec<Answered>,
+    kept: VecDeque<Answered>,
 }
 
 /// What an account was before a result was kept: its greatest id, and the results that left the window.
@@ -39,7 +41,8 @@ pub struct Removed {
 }
 
 impl Model for Account {
-    ghost use Rattle.std.specs.Prelude.{◌≤◌, IsTrue, vec_capacity};
+    ghost use Rattle.std.specs.Prelude.{◌≤◌, IsTrue};
+    ghost use Rattle.std.specs.VecDeque.{deque_capacity};
     ghost use Rattle.nop_types.specs.declared.limits.TheConstants.{WINDOW};
     ghost use Rattle.nop_types.specs.Tables as tables;
     ghost use Rattle.nop_types.specs.Checkpoints.{is_kept};
@@ -53,7 +56,7 @@ impl Model for Account {
     ghost invariant = { λ a. IsTrue (is_kept (record {
       greatest = a.greatest;
       kept = a.kept.items;
-    })) × (WINDOW ≤ vec_capacity a.kept) };
+    })) × (WINDOW ≤ deque_capacity a.kept) };
 }
 
 /// Whether the id is less than a window behind the greatest one.
@@ -63,61 +66,58 @@ fn is_near(greatest: u64, id: u64) -> bool
     greatest.saturating_sub(id) < WINDOW
 }
 
-fn has_result(kept: &[Answered], id: u64) -> bool
-    ensures { result ≡ list_any (λ a. a.id == id) kept.now }
+fn has_result(kept: &VecDeque<Answered>, id: u64) -> bool
+    ensures { result ≡ list_any (λ a. a.id == id) kept.now.items }
 {
     kept.iter().any(|a| a.id == id)
 }
 
 /// Whether a result is kept with the id.
-fn has(kept: &[Answered], id: u64) -> bool
-    ensures { result ≡ is_in (kept_ids kept.now) id }
+fn has(kept: &VecDeque<Answered>, id: u64) -> bool
+    ensures { result ≡ is_in (kept_ids kept.now.items) id }
 {
     has_result(kept, id)
 }
 
-fn first_result(kept: &[Answered], id: u64) -> Option<&Answered>
-    ensures { option_copied result ≡ find (λ a. a.id == id) kept.now }
+fn first_result(kept: &VecDeque<Answered>, id: u64) -> Option<&Answered>
+    ensures { option_copied result ≡ find (λ a. a.id == id) kept.now.items }
 {
     kept.iter().find(|a| a.id == id)
 }
 
-/// The result that is kept with the id.
-fn find(kept: &[Answered], id: u64) -> Option<&Answered>
-    ensures { option_map (λ a. a.result) (option_copied result) ≡ result_in kept.now id }
+fn first_near(kept: &VecDeque<Answered>, greatest: u64) -> Option<usize>
+    ensures { result ≡ position (λ k. nat_lt greatest (k.id + WINDOW)) kept.now.items }
 {
-    first_result(kept, id)
-}
-
-/// How many results a greatest id leaves behind.
-fn count_far(kept: &[Answered], greatest: u64) -> usize
-    ensures count { result ≡ count_by (is_far greatest) kept.now }
-    ensures most { result ≤ length kept.now }
-{
-    kept.iter().filter(|a| !is_near(greatest, a.id)).count()
+    kept.iter().position(|k| is_near(greatest, k.id))
 }
 
 /// Takes the result with an id out.
-fn take_out(kept: &mut Vec<Answered>, id: u64)
+fn take_out(kept: &mut VecDeque<Answered>, id: u64)
     ensures items { kept.new.items ≡ without id kept.old.items }
-    ensures capacity { vec_capacity kept.new ≡ vec_capacity kept.old }
+    ensures capacity { deque_capacity kept.new ≡ deque_capacity kept.old }
 {
     kept.retain(|a| a.id != id);
 }
 
-fn first_above(kept: &[Answered], id: u64) -> Option<usize>
-    ensures { result ≡ position (λ k. nat_lt id k.id) kept.now }
+fn first_above(kept: &VecDeque<Answered>, id: u64) -> Option<usize>
+    ensures { result ≡ position (λ k. nat_lt id k.id) kept.now.items }
 {
     kept.iter().position(|k| id < k.id)
 }
 
-/// Where a result with this id goes among the others.
-fn place_of(kept: &[Answered], id: u64) -> usize
-    ensures within { result ≤ length kept.now }
-    ensures place { (a : Result) → a.id ≡ id → insert kept.now result a
-        ≡ with_answered a kept.now }
+/// Puts a result among the others, of which none is above the greatest id.
+fn put(kept: &mut VecDeque<Answered>, greatest: u64, answered: Answered)
+    requires others { any_above (kept_ids kept.old.items) greatest ≡ false }
+    requires room { deque_len kept.old < deque_capacity kept.old }
+    ensures items { kept.new.items ≡ with_answered answered kept.old.items }
+    ensures capacity { deque_capacity kept.old ≤ deque_capacity kept.new }
 {
-    first_above(kept, id).unwrap_or(kept.len())
+    if answered.id > greatest {
+        kept.push_back_reserved(answered);
+        return;
+    }
+    let place = first_above(kept, answered.id).unwrap_or(kept.len());
+    kept.insert(place, answered).unwrap();
 }
 
 impl Account {
@@ -125,9 +125,9 @@ impl Account {
     pub fn first(alloc: Global, answered: Answered) -> Result<Account, NoMemory>
         ensures { IfOk result (λ a. a ≡ account_with WINDOW None answered) }
     {
-        let mut kept = Vec::with_capacity(alloc, MAX_KEPT)?;
+        let mut kept = VecDeque::with_capacity(alloc, MAX_KEPT)?;
         let greatest = answered.id;
-        kept.push(answered).unwrap();
+        kept.push_back(answered).unwrap();
         Ok(Account { greatest, kept })
     }
 
@@ -136,7 +136,7 @@ impl Account {
         requires { IsTrue (is_kept (record { greatest = greatest; kept = kept.items })) }
         ensures { IfOk result (λ a. a ≡ record { greatest = greatest; kept = kept.items }) }
     {
-        let mut kept = kept;
+        let mut kept = VecDeque::from(kept);
         let room = MAX_KEPT.saturating_sub(kept.len());
         kept.reserve(room)?;
         Ok(Account { greatest, kept })
@@ -148,25 +148,53 @@ impl Account {
         self.greatest
     }
 
-    pub fn kept(&self) -> &[Answered]
-        ensures kept { result.now ≡ self.now.kept }
-        ensures fits { IsTrue (is_kept self.now) }
+    /// A copy of what is kept.
+    pub fn try_clone_kept(&self, alloc: Global) -> Result<Vec<Answered>, NoMemory>
+        ensures { IfOk result (λ copy. copy.items ≡ self.now.kept) }
     {
-        &self.kept
+        let mut copy = Vec::with_capacity(alloc, self.kept.len())?;
+        for answered in &self.kept {
+            copy.push(answered.try_clone()?)?;
+        }
+        Ok(copy)
+    }
+
+    /// The result that is kept with the id. Mostly it is the last one.
+    fn find(&self, id: u64) -> Option<&Answered>
+        ensures { option_map (λ a. a.result) (option_copied result)
+            ≡ result_in self.now.kept id }
+    {
+        if let Some(last) = self.kept.back() {
+            if last.id == id {
+                return Some(last);
+            }
+        }
+        first_result(&self.kept, id)
+    }
+
+    /// How many results a greatest id leaves behind.
+    fn count_far(&self, greatest: u64) -> usize
+        ensures count { result ≡ count_by (is_far greatest) self.now.kept }
+        ensures most { result ≤ length self.now.kept }
+    {
+        first_near(&self.kept, greatest).unwrap_or(self.kept.len())
     }
 
     /// Whether the id is new.
     pub fn is_new(&self, id: u64) -> bool
         ensures { result ≡ is_new_to WINDOW (Some self.now) id }
     {
-        is_near(self.greatest, id) && !has(&self.kept, id)
+        id > self.greatest || (is_near(self.greatest, id) && !has(&self.kept, id))
     }
 
     /// Compares an id with those that were executed.
     pub fn judge(&self, id: u64) -> Judged<'_>
         ensures { verdict_of result ≡ verdict_on (Some self.now) id }
     {
-        match find(&self.kept, id) {
+        if id > self.greatest {
+            return Judged::Fresh;
+        }
+        match self.find(id) {
             Some(answered) => Judged::Same(&answered.result),
             None => {
                 if is_near(self.greatest, id) {
@@ -187,11 +215,9 @@ impl Account {
     {
         let before = self.greatest;
         let greatest = before.max(answered.id);
-        let count = count_far(&self.kept, greatest);
-        let others = Vec::with_capacity(alloc, count.saturating_sub(1))?;
-        let dropped = take_front(&mut self.kept, count, others);
-        let place = place_of(&self.kept, answered.id);
-        self.kept.insert(place, answered).unwrap();
+        let count = self.count_far(greatest);
+        let dropped = take_front(alloc, &mut self.kept, count)?;
+        put(&mut self.kept, before, answered);
         self.greatest = greatest;
         Ok(Removed {
             greatest: before,

@@ -1,83 +1,83 @@
-ghost use Rattle.std.specs.Prelude.{◌≡◌, ◌≤◌, ◌+◌, ◌++◌, [], take, drop, length, vec_len, vec_capacity};
+ghost use Rattle.std.specs.Prelude.{◌≡◌, ◌≤◌, ◌+◌, ◌++◌, [], take, drop, length, OnOk, OnErr, IfOk};
+ghost use Rattle.std.specs.VecDeque.{deque_len, deque_capacity};
+ghost use Rattle.client_table.specs.Dropping.{results_of};
 
-use nop_types::Answered;
-use std::marker::Model;
+use nop_types::{Answered, NoMemory};
+use std::alloc::Global;
+use std::collections::VecDeque;
 
 /// Results that left an account, by ascending id. Most often there is one, which needs no memory.
 #[derive(Debug, Drop)]
-pub struct Dropped {
-    first: Option<Answered>,
-    others: Vec<Answered>,
+pub enum Dropped {
+    None,
+    One(Answered),
+    Several(Vec<Answered>),
 }
 
-impl Model for Dropped {
-    ghost use Rattle.std.specs.Prelude.{List, ◌++◌};
-    ghost use Rattle.nop_types.specs.declared.checkpoint.Answered.{Answered};
-    ghost use Rattle.client_table.specs.Dropping.{one_or_none};
-
-    ghost Value = { List Answered };
-
-    ghost view = { λ d. one_or_none d.first ++ d.others.items };
-}
-
-/// Moves the first results to others.
-fn take_others(kept: &mut Vec<Answered>, count: usize, to: &mut Vec<Answered>)
-    requires there { count ≤ vec_len kept.old }
-    requires empty { to.old.items ≡ [] }
-    requires room { count ≤ vec_capacity to.old }
-    ensures front { to.new.items ≡ take count kept.old.items }
-    ensures rest { kept.new.items ≡ drop count kept.old.items }
-    ensures capacity { vec_capacity kept.new ≡ vec_capacity kept.old }
+/// Moves the first results away.
+// Apart from its caller, since an id is mostly the next one, and one result leaves for it.
+#[cold]
+#[inline(never)]
+fn take_several(
+    alloc: Global,
+    kept: &mut VecDeque<Answered>,
+    count: usize,
+) -> Result<Dropped, NoMemory>
+    requires { count ≤ deque_len kept.old }
+    ensures front { IfOk result (λ d. results_of d ≡ take count kept.old.items) }
+    ensures rest { OnOk result (kept.new.items ≡ drop count kept.old.items) }
+    ensures err { OnErr result (kept.new.items ≡ kept.old.items) }
+    ensures capacity { deque_capacity kept.new ≡ deque_capacity kept.old }
 {
+    let mut results = Vec::with_capacity(alloc, count)?;
     for _ in 0..count {
-        let first = kept.remove(0);
-        to.push(first).unwrap();
+        let first = kept.pop_front().unwrap();
+        results.push(first).unwrap();
     }
+    Ok(Dropped::Several(results))
 }
 
-/// Moves the first results away, all but one into a vector that has the room.
-pub fn take_front(kept: &mut Vec<Answered>, count: usize, mut others: Vec<Answered>) -> Dropped
-    requires there { count ≤ vec_len kept.old }
-    requires empty { others.items ≡ [] }
-    requires room { count ≤ vec_capacity others + 1 }
-    ensures front { result ≡ take count kept.old.items }
-    ensures rest { kept.new.items ≡ drop count kept.old.items }
-    ensures capacity { vec_capacity kept.new ≡ vec_capacity kept.old }
+/// Moves the first results away. Up to one takes no memory.
+pub fn take_front(
+    alloc: Global,
+    kept: &mut VecDeque<Answered>,
+    count: usize,
+) -> Result<Dropped, NoMemory>
+    requires { count ≤ deque_len kept.old }
+    ensures front { IfOk result (λ d. results_of d ≡ take count kept.old.items) }
+    ensures rest { OnOk result (kept.new.items ≡ drop count kept.old.items) }
+    ensures err { OnErr result (kept.new.items ≡ kept.old.items) }
+    ensures capacity { deque_capacity kept.new ≡ deque_capacity kept.old }
 {
     if count == 0 {
-        return Dropped {
-            first: None,
-            others,
-        };
+        return Ok(Dropped::None);
     }
-    let first = kept.remove(0);
-    take_others(kept, count - 1, &mut others);
-    Dropped {
-        first: Some(first),
-        others,
+    if count == 1 {
+        return Ok(Dropped::One(kept.pop_front().unwrap()));
     }
+    take_several(alloc, kept, count)
 }
 
 /// Moves other results in front.
-fn put_others(kept: &mut Vec<Answered>, mut others: Vec<Answered>)
-    requires { vec_len others + vec_len kept.old ≤ vec_capacity kept.old }
-    ensures items { kept.new.items ≡ others.items ++ kept.old.items }
-    ensures capacity { vec_capacity kept.old ≤ vec_capacity kept.new }
+fn put_several(kept: &mut VecDeque<Answered>, mut results: Vec<Answered>)
+    requires { length results.items + deque_len kept.old ≤ deque_capacity kept.old }
+    ensures items { kept.new.items ≡ results.items ++ kept.old.items }
+    ensures capacity { deque_capacity kept.old ≤ deque_capacity kept.new }
 {
-    while let Some(last) = others.pop() {
-        kept.insert(0, last).unwrap();
+    while let Some(last) = results.pop() {
+        kept.push_front(last).unwrap();
     }
 }
 
 /// Moves results in front of the others.
-pub fn put_front(kept: &mut Vec<Answered>, dropped: Dropped)
-    requires { length dropped + vec_len kept.old ≤ vec_capacity kept.old }
-    ensures items { kept.new.items ≡ dropped ++ kept.old.items }
-    ensures capacity { vec_capacity kept.old ≤ vec_capacity kept.new }
+pub fn put_front(kept: &mut VecDeque<Answered>, dropped: Dropped)
+    requires { length (results_of dropped) + deque_len kept.old ≤ deque_capacity kept.old }
+    ensures items { kept.new.items ≡ results_of dropped ++ kept.old.items }
+    ensures capacity { deque_capacity kept.old ≤ deque_capacity kept.new }
 {
-    let Dropped { first, others } = dropped;
-    put_others(kept, others);
-    if let Some(first) = first {
-        kept.insert(0, first).unwrap();
+    match dropped {
+        Dropped::None => {}
+        Dropped::One(first) => kept.push_front(first).unwrap(),
+        Dropped::Several(results) => put_several(kept, results),
     }
 }

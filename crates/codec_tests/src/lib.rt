@@ -1,6 +1,6 @@
 //! Tests alone, by the public calls of the crates below: shared types, datagrams and peer messages,
-//! fragments, lines of schedules and transcripts, whole transcripts. Expected bytes and texts are
-//! written out by hand.
+//! fragments, lines of schedules, transcripts and traces, whole transcripts. Expected bytes and texts
+//! are written out by hand.
 #![tactic(auto)]
 
 #[cfg(test)]
@@ -13,6 +13,8 @@ mod peers;
 mod rows;
 #[cfg(test)]
 mod texts;
+#[cfg(test)]
+mod traces;
 #[cfg(test)]
 mod transcripts;
 #[cfg(test)]

@@ -20,6 +20,7 @@ use Rattle.command_line.specs.Program.{
   with_cluster,
   with_check,
   with_observer,
+  with_read,
   gen_app,
   site_app,
 }
@@ -27,12 +28,12 @@ use Rattle.command_line.specs.Program.{member_app, node_app, controller_app, cli
 
 pub program_is_simple : is_simple program_app ≡ true
 unfolding clap_on_literals program_app with_replay with_gen with_node with_sequencer with_controller with_client with_cluster
-    with_check with_observer gen_app site_app member_app node_app controller_app client_app cluster_app read_app
+    with_check with_observer with_read gen_app site_app member_app node_app controller_app client_app cluster_app read_app
 program_is_simple = refl
 
 pub program_is_free : is_simple_and_free program_app ≡ true
 unfolding clap_on_literals program_app with_replay with_gen with_node with_sequencer with_controller with_client with_cluster
-    with_check with_observer gen_app site_app member_app node_app controller_app client_app cluster_app read_app
+    with_check with_observer with_read gen_app site_app member_app node_app controller_app client_app cluster_app read_app
 program_is_free = refl
 
 refused_by : (texts : List Text) (k : ErrorKind) (ks : Kinds) → faults_of texts ≡ ks → IsAmong k ks → IsRefused texts

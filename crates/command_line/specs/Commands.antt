@@ -14,7 +14,7 @@ use Rattle.nop_types.specs.declared.limits.TheConstants.{MAX_KEY_BYTES, MAX_OP_B
 use Rattle.command_line.specs.Numbers.{number_of}
 use Rattle.command_line.specs.Program.{program_app}
 use Rattle.command_line.specs.declared.command.Command.{Command}
-use Rattle.command_line.specs.declared.command.Command.TheVariants.{Replay, Gen, Node, Sequencer, Controller, Client, Cluster, Check}
+use Rattle.command_line.specs.declared.command.Command.TheVariants.{Replay, Gen, Node, Sequencer, Controller, Client, Cluster, Check, Audit}
 use Rattle.command_line.specs.declared.command.Command.TheVariants.{Observer, Read}
 use Rattle.command_line.specs.declared.command.Site.{Site}
 use Rattle.command_line.specs.declared.options.TheConstants.{MAX_CLUSTER_TURNS}
@@ -35,22 +35,31 @@ abbrev pub choice_of : Option Text → Option (Option ℕ)
 choice_of None = Some None
 choice_of (Some text) = option_map Some (number_of 0 255 text)
 
+-- a flag that stands among the words
+abbrev pub is_set : Option Text → Bool
+is_set None = false
+is_set (Some text) = bytes_eq text (codes "true")
+
+abbrev pub flag_of : List Row → Text → Bool
+flag_of rows name = is_set (first_of name rows)
+
 -- ---- where a node is
 
 abbrev pub config_of : (replicas sequencers clients controllers observers : ℕ) → Configuration
 config_of r s c k o = record { replicas = r; sequencers = s; clients = c; controllers = k; observers = o }
 
-abbrev pub site_if : Bool → Configuration → ℕ → ℕ → Option Site
-site_if true config base turns = Some (record { config = config; base = base; turns = turns })
-site_if false config base turns = None
+abbrev pub site_if : Bool → Configuration → ℕ → ℕ → Bool → Option Site
+site_if true config base turns trace = Some (record { config = config; base = base; turns = turns; trace = trace })
+site_if false config base turns trace = None
 
-abbrev pub site_by : Option ℕ → Option ℕ → Option ℕ → ℕ → ℕ → Option ℕ → Option ℕ → Option Site
-site_by None sequencers clients k o base turns = None
-site_by (Some r) None clients k o base turns = None
-site_by (Some r) (Some s) None k o base turns = None
-site_by (Some r) (Some s) (Some c) k o None turns = None
-site_by (Some r) (Some s) (Some c) k o (Some b) None = None
-site_by (Some r) (Some s) (Some c) k o (Some b) (Some t) = site_if (is_configuration (config_of r s c k o)) (config_of r s c k o) b t
+abbrev pub site_by : Option ℕ → Option ℕ → Option ℕ → ℕ → ℕ → Option ℕ → Option ℕ → Bool → Option Site
+site_by None sequencers clients k o base turns trace = None
+site_by (Some r) None clients k o base turns trace = None
+site_by (Some r) (Some s) None k o base turns trace = None
+site_by (Some r) (Some s) (Some c) k o None turns trace = None
+site_by (Some r) (Some s) (Some c) k o (Some b) None trace = None
+site_by (Some r) (Some s) (Some c) k o (Some b) (Some t) trace =
+    site_if (is_configuration (config_of r s c k o)) (config_of r s c k o) b t trace
 
 abbrev pub last_turns : ℕ
 last_turns = 2 ^ 64 - 1
@@ -61,7 +70,7 @@ abbrev pub site_of : (observers : ℕ) → List Row → Option Site
 site_of observers rows =
     site_by (value_of rows (codes "replicas") None 0 255) (value_of rows (codes "sequencers") None 0 255) (Some 1)
     MAX_CONTROLLERS observers (value_of rows (codes "base") (Some 41000) 1024 65000)
-    (value_of rows (codes "turns") (Some last_turns) 1 last_turns)
+    (value_of rows (codes "turns") (Some last_turns) 1 last_turns) (flag_of rows (codes "trace"))
 
 abbrev pub replica_site_by : Option ℕ → List Row → Option Site
 replica_site_by None rows = None
@@ -71,12 +80,12 @@ replica_site_by (Some observers) rows = site_of observers rows
 abbrev pub replica_site_of : List Row → Option Site
 replica_site_of rows = replica_site_by (value_of rows (codes "observers") (Some 0) 0 255) rows
 
--- of a cluster, which has one controller, and no observers
+-- of a cluster, which has one controller, no observers, and no trace
 abbrev pub cluster_site_of : List Row → Option Site
 cluster_site_of rows =
     site_by (value_of rows (codes "replicas") None 0 255) (value_of rows (codes "sequencers") None 0 255)
     (value_of rows (codes "clients") None 0 255) 1 0 (value_of rows (codes "base") (Some 41000) 1024 65000)
-    (value_of rows (codes "turns") (Some MAX_CLUSTER_TURNS) 1 MAX_CLUSTER_TURNS)
+    (value_of rows (codes "turns") (Some MAX_CLUSTER_TURNS) 1 MAX_CLUSTER_TURNS) false
 
 -- ---- ops
 
@@ -222,6 +231,7 @@ abbrev pub command_by : Text → List Row → Option Command
 command_by name rows =
     if bytes_eq name (codes "replay") then Some Replay
     else if bytes_eq name (codes "check") then Some Check
+    else if bytes_eq name (codes "audit") then Some Audit
     else if bytes_eq name (codes "gen") then gen_in rows
     else if bytes_eq name (codes "node") then node_in rows
     else served_by name rows
@@ -263,7 +273,7 @@ IsFit (Gen number count) = (1 ≤ count) × (count ≤ 100000)
 IsFit (Node id site) = id < site.config.replicas
 IsFit (Sequencer id site) = id < MAX_SEQUENCERS
 IsFit (Controller site id install) = id < MAX_CONTROLLERS
-IsFit (Cluster site ops) = IsTrue (gives 1 site.config)
+IsFit (Cluster site ops) = IsTrue (gives 1 site.config) × (site.turns ≤ MAX_CLUSTER_TURNS)
 IsFit (Observer id site) = id < MAX_OBSERVERS
 IsFit (Read id site observer key least) = observer < MAX_OBSERVERS
 IsFit _ = ⊤

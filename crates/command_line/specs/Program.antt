@@ -1,10 +1,15 @@
 -- The program's command line, as clap takes it.
 use Rattle.std.specs.Prelude.{Bool, true, false, Some, codes}
 use Rattle.clap.specs.Words.{App, Rule, Text, new_app, new_rule, with_rule, with_subcommand}
+use Rattle.clap.specs.declared.builder.action.ArgAction.TheVariants.{SetTrue}
 
 -- an option with a value
 abbrev pub option_rule : Text → Bool → Rule
 option_rule name required = record (new_rule name) { long = Some name; required = required }
+
+-- an option without a value: its text is `true` where it stands among the words, and else `false`
+abbrev pub flag_rule : Text → Rule
+flag_rule name = record (new_rule name) { long = Some name; action = Some SetTrue }
 
 -- a value without a name
 abbrev pub value_rule : Text → Rule
@@ -26,8 +31,9 @@ site_app name =
     (option_rule (codes "base") false))
     (option_rule (codes "turns") false)
 
+-- what each node is told
 unfoldable pub member_app : Text → App
-member_app name = with_rule (site_app name) (option_rule (codes "id") true)
+member_app name = with_rule (with_rule (site_app name) (option_rule (codes "id") true)) (flag_rule (codes "trace"))
 
 unfoldable pub node_app : App
 node_app = with_rule (member_app (codes "node")) (option_rule (codes "observers") false)
@@ -76,5 +82,8 @@ with_check = with_subcommand with_cluster (new_app (codes "check")).top
 unfoldable pub with_observer : App
 with_observer = with_subcommand with_check (member_app (codes "observer")).top
 
+unfoldable pub with_read : App
+with_read = with_subcommand with_observer read_app.top
+
 unfoldable pub program_app : App
-program_app = with_subcommand with_observer read_app.top
+program_app = with_subcommand with_read (new_app (codes "audit")).top

@@ -4,10 +4,10 @@ use Rattle.std.specs.List.{fold}
 use Rattle.clap.specs.Words.{App, Rule, app_of, new_app, with_rule, with_subcommand}
 use Rattle.clap.specs.declared.builder.command.Command.{Command}
 use Rattle.clap.specs.declared.builder.command.Command.TheViews.{out-Command}
-use Rattle.command_line.specs.Program.{option_rule, value_rule, ops_rule}
+use Rattle.command_line.specs.Program.{option_rule, flag_rule, value_rule, ops_rule}
 use Rattle.command_line.specs.declared.program.Row.{Row}
 use Rattle.command_line.specs.declared.program.Word.{Word}
-use Rattle.command_line.specs.declared.program.Word.TheVariants.{Required, Optional, Value, Ops}
+use Rattle.command_line.specs.declared.program.Word.TheVariants.{Required, Optional, Flag, Value, Ops}
 
 -- clap sees this of the command, which has no global argument
 pub record HasApp (a : App) (c : Command) : Type 0 where
@@ -17,6 +17,7 @@ pub record HasApp (a : App) (c : Command) : Type 0 where
 abbrev pub rule_for : Word → Rule
 rule_for (Required name) = option_rule name.now true
 rule_for (Optional name) = option_rule name.now false
+rule_for (Flag name) = flag_rule name.now
 rule_for (Value name) = value_rule name.now
 rule_for Ops = ops_rule
 

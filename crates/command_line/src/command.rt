@@ -2,12 +2,14 @@ use crate::ops::Ops;
 use nop_types::{Config, Key};
 use udp_node::BasePort;
 
-/// Where a node or a cluster is: how many actors there are, the port of replica 0, and the most turns that it takes.
+/// Where a node or a cluster is: how many actors there are, the port of replica 0, and the most turns that it takes; and whether it
+/// writes a trace. A cluster writes none.
 #[derive(Clone, Copy, Debug, PartialEq, Eq)]
 pub struct Site {
     pub config: Config,
     pub base: BasePort,
     pub turns: u64,
+    pub trace: bool,
 }
 
 /// What the program is asked to do.
@@ -28,6 +30,8 @@ pub enum Command {
     Cluster(Site, Ops),
     /// A transcript is judged.
     Check,
+    /// A trace is audited.
+    Audit,
     /// An observer with this number.
     Observer(u8, Site),
     /// A client with this number, which asks this observer for the key until an answer's position is not below the last number.

@@ -4,8 +4,8 @@
 //! and ranges read on top. It is None where `clap` refuses them or a value is out of its range.
 //! Each number of a command is in its range (`IsFit`).
 //!
-//! Calls, for `commands`: `read_words`; `Command`, `Site` (configuration, base port, turns) and
-//! `Ops::into_vec`.
+//! Calls, for `commands`: `read_words`; `Command`, `Site` (configuration, base port, turns, and whether
+//! a trace is written) and `Ops::into_vec`.
 //!
 //! Files: `command`, `program` (the table that `clap` reads by), `reading`; `options`, `number`,
 //! `ops` and `key` below it. Definitions: `specs/Program`, `Commands`.

@@ -1,10 +1,12 @@
 //! The values of options.
 
-ghost use Rattle.std.specs.Prelude.{◌≡◌, ◌≤◌, IfSome, IsTrue, codes};
+ghost use Rattle.std.specs.Prelude.{◌≡◌, ◌≤◌, IfSome, IsTrue, Some, codes};
 ghost use Rattle.clap.specs.Words.{all_of, found_of, rows_of, first_of};
 ghost use Rattle.nop_types.specs.Headers.{gives};
-ghost use Rattle.command_line.specs.Commands.{value_of, choice_of, text_in, texts_in, site_by, site_of};
+ghost use Rattle.command_line.specs.Commands.{value_of, choice_of, flag_of, is_set, text_in, texts_in};
+ghost use Rattle.command_line.specs.Commands.{site_by, site_of};
 ghost use Rattle.command_line.specs.Commands.{replica_site_of, cluster_site_of};
+ghost use Rattle.command_line.specs.declared.options.TheConstants.{MAX_CLUSTER_TURNS};
 
 use crate::command::Site;
 use crate::number::number;
@@ -135,6 +137,23 @@ pub(crate) fn choice(matches: &ArgMatches<'_>, name: &str) -> Option<Option<u8>>
     }
 }
 
+/// Whether a flag stands among the words: its text is `true` then, and else `false`.
+fn is_set(text: Option<&str>) -> bool
+    ensures { result ≡ is_set (text_in text.entry) }
+{
+    match text {
+        Some(text) => text == "true",
+        None => false,
+    }
+}
+
+/// Whether an option without a value stands among the words.
+fn flag(matches: &ArgMatches<'_>, name: &str) -> bool
+    ensures { result ≡ flag_of (rows_of (found_of matches.now)) name.now }
+{
+    is_set(matches.get_str(name))
+}
+
 /// The texts of ops.
 pub(crate) fn ops<'m>(matches: &'m ArgMatches<'_>) -> Option<&'m [&'m str]>
     ensures { texts_in result ≡ all_of (codes "ops") (rows_of (found_of matches.now)) }
@@ -157,10 +176,13 @@ fn site_by(
     observers: u8,
     base: Option<BasePort>,
     turns: Option<u64>,
+    trace: bool,
 ) -> Option<Site>
-    ensures value { result ≡ site_by replicas sequencers clients controllers observers base turns }
+    ensures value { result ≡ site_by replicas sequencers clients controllers observers base turns
+        trace }
     ensures controllers { IfSome result (λ s. s.config.controllers ≡ controllers) }
     ensures observers { IfSome result (λ s. s.config.observers ≡ observers) }
+    ensures turns { IfSome result (λ s. turns ≡ Some s.turns) }
 {
     let (Some(replicas), Some(sequencers), Some(clients), Some(base), Some(turns)) = (
         replicas, sequencers, clients, base, turns,
@@ -172,6 +194,7 @@ fn site_by(
             config,
             base,
             turns,
+            trace,
         }),
         None => None,
     }
@@ -189,6 +212,7 @@ pub(crate) fn site(observers: u8, matches: &ArgMatches<'_>) -> Option<Site>
         observers,
         base(matches),
         turns(matches, u64::MAX),
+        flag(matches, "trace"),
     )
 }
 
@@ -206,6 +230,7 @@ pub(crate) fn replica_site(matches: &ArgMatches<'_>) -> Option<Site>
 pub(crate) fn cluster_site(matches: &ArgMatches<'_>) -> Option<Site>
     ensures value { result ≡ cluster_site_of (rows_of (found_of matches.now)) }
     ensures form { IfSome result (λ s. IsTrue (gives 1 s.config)) }
+    ensures turns { IfSome result (λ s. s.turns ≤ MAX_CLUSTER_TURNS) }
 {
     site_by(
         small(matches, "replicas"),
@@ -215,5 +240,6 @@ pub(crate) fn cluster_site(matches: &ArgMatches<'_>) -> Option<Site>
         0,
         base(matches),
         turns(matches, MAX_CLUSTER_TURNS),
+        false,
     )
 }

@@ -3,10 +3,11 @@
 ghost use Rattle.std.specs.Prelude.{◌≡◌, IfOk, false, codes};
 ghost use Rattle.clap.specs.Words.{app_of, rule_of, new_app, with_rule};
 ghost use Rattle.clap.specs.declared.builder.command.Command.TheViews.{out-Command};
-ghost use Rattle.command_line.specs.Program.{option_rule, value_rule, ops_rule, program_app};
+ghost use Rattle.command_line.specs.Program.{option_rule, flag_rule, value_rule, ops_rule};
+ghost use Rattle.command_line.specs.Program.{program_app};
 ghost use Rattle.command_line.specs.Rows.{HasApp, rule_for, with_words, row_app, with_row, with_rows};
 
-use clap::{Arg, Command};
+use clap::{Arg, ArgAction, Command};
 use std::alloc::{AllocError, Global};
 
 /// What a command takes.
@@ -16,6 +17,8 @@ enum Word<'a> {
     Required(&'a str),
     /// An option with a value, which may be left out.
     Optional(&'a str),
+    /// An option without a value.
+    Flag(&'a str),
     /// A value without a name.
     Value(&'a str),
     /// From 1 to 64 ops.
@@ -32,6 +35,9 @@ struct Row<'a> {
 
 /// The number of a replica, a sequencer, a controller, a client or an observer.
 const ID: Word<'static> = Word::Required("id");
+
+/// That a node writes a trace.
+const TRACE: Word<'static> = Word::Flag("trace");
 
 /// The options of a node and of a cluster.
 const SITE: &[Word<'static>] = &[
@@ -56,22 +62,22 @@ const COMMANDS: &[Row<'static>] = &[
     Row {
         name: "node",
         shared: SITE,
-        own: &[ID, Word::Optional("observers")],
+        own: &[ID, TRACE, Word::Optional("observers")],
     },
     Row {
         name: "sequencer",
         shared: SITE,
-        own: &[ID],
+        own: &[ID, TRACE],
     },
     Row {
         name: "controller",
         shared: SITE,
-        own: &[ID, Word::Optional("install")],
+        own: &[ID, TRACE, Word::Optional("install")],
     },
     Row {
         name: "client",
         shared: SITE,
-        own: &[ID, Word::Ops],
+        own: &[ID, TRACE, Word::Ops],
     },
     Row {
         name: "cluster",
@@ -86,17 +92,23 @@ const COMMANDS: &[Row<'static>] = &[
     Row {
         name: "observer",
         shared: SITE,
-        own: &[ID],
+        own: &[ID, TRACE],
     },
     Row {
         name: "read",
         shared: SITE,
         own: &[
             ID,
+            TRACE,
             Word::Required("observer"),
             Word::Optional("position"),
             Word::Value("key"),
         ],
+    },
+    Row {
+        name: "audit",
+        shared: &[],
+        own: &[],
     },
 ];
 
@@ -105,6 +117,13 @@ fn option<'a>(alloc: Global, name: &'a str, required: bool) -> Arg<'a>
     ensures local { result.global ≡ false }
 {
     Arg::new(alloc, name).long(name).required(required)
+}
+
+fn flag<'a>(alloc: Global, name: &'a str) -> Arg<'a>
+    ensures rule { rule_of result ≡ flag_rule name.entry.now }
+    ensures local { result.global ≡ false }
+{
+    Arg::new(alloc, name).long(name).action(ArgAction::SetTrue)
 }
 
 fn value<'a>(alloc: Global, name: &'a str) -> Arg<'a>
@@ -128,6 +147,7 @@ fn arg<'a>(alloc: Global, word: Word<'a>) -> Arg<'a>
     match word {
         Word::Required(name) => option(alloc, name, true),
         Word::Optional(name) => option(alloc, name, false),
+        Word::Flag(name) => flag(alloc, name),
         Word::Value(name) => value(alloc, name),
         Word::Ops => ops(alloc),
     }

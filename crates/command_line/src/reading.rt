@@ -8,6 +8,7 @@ ghost use Rattle.command_line.specs.Commands.{install_by, controller_by, control
 ghost use Rattle.command_line.specs.Commands.{cluster_by, cluster_in, ops_of, texts_in, served_by, command_by};
 ghost use Rattle.command_line.specs.Commands.{observer_by, observer_in, asking_by, read_by, read_in, key_in, text_in};
 ghost use Rattle.command_line.specs.Commands.{command_from, command_of, texts_of, IsRefused, HasFound};
+ghost use Rattle.command_line.specs.declared.options.TheConstants.{MAX_CLUSTER_TURNS};
 
 use crate::command::{Command, Site};
 use crate::key::read_key;
@@ -139,7 +140,8 @@ fn client(alloc: Global, matches: &ArgMatches<'_>) -> Result<Option<Command>, No
 }
 
 fn cluster_by(alloc: Global, site: Site, ops: Option<&[&str]>) -> Result<Option<Command>, NoMemory>
-    requires { IsTrue (gives 1 site.config) }
+    requires form { IsTrue (gives 1 site.config) }
+    requires turns { site.turns ≤ MAX_CLUSTER_TURNS }
     ensures value { IfOk result (λ c. c ≡ cluster_by (Some site) (ops_of (texts_in ops.entry))) }
     ensures fits { IfOk result (λ c. IfSome c IsFit) }
 {
@@ -252,6 +254,7 @@ fn command(alloc: Global, name: &str, matches: &ArgMatches<'_>) -> Result<Option
     match name {
         "replay" => Ok(Some(Command::Replay)),
         "check" => Ok(Some(Command::Check)),
+        "audit" => Ok(Some(Command::Audit)),
         "gen" => Ok(generate(matches)),
         "node" => Ok(node(matches)),
         _ => served(alloc, name, matches),

@@ -1,12 +1,15 @@
 -- How a cluster in one process ends.
-use Rattle.std.proofs.Common.{arith, ◌≡◌, ℕ, List, Bool, true, Option, Some, Result, Ok, refl, subst, inl, inr}
+use Rattle.std.proofs.Common.{arith, ◌≡◌, ◌≤◌, ◌+◌, ◌*◌, ℕ, List, length, Bool, true, Option, Some, Result, Ok, refl, subst, inl, inr}
 use Rattle.command_line.specs.declared.command.Command.{Command}
 use Rattle.command_line.specs.declared.command.Command.TheVariants.{Cluster}
 use Rattle.command_line.specs.declared.command.Site.{Site}
+use Rattle.command_line.specs.declared.options.TheConstants.{MAX_CLUSTER_TURNS}
 use Rattle.nop_types.specs.Meaning.{Meaning}
+use Rattle.nop_types.specs.declared.limits.TheConstants.{MAX_LINES}
 use Rattle.one_box.specs.declared.boxed.Boxed.{Boxed}
 use Rattle.one_box.specs.declared.errors.ClusterError.{ClusterError}
 use Rattle.one_box.specs.Boxing.{PollFailed}
+use Rattle.one_box.specs.Counting.{most_of_turn}
 use Rattle.one_box.specs.Showing as boxed
 use Rattle.outside.specs.Causes.{Rose}
 use Rattle.commands.specs.Clusters.{ServesAll, ClusterFinished, ClusterCommandEnds, runs_cluster, ClusterEndsWithoutFault}
@@ -16,6 +19,10 @@ use Rattle.commands.specs.declared.status.Status.TheVariants as statuses
 
 pub no_rise : ¬ Rose 0 0
 no_rise rose = omega arith
+
+-- the events of so many turns fit a schedule, behind its first line
+within : (turns events : ℕ) → turns ≤ MAX_CLUSTER_TURNS → events ≤ turns * most_of_turn → 1 + events ≤ MAX_LINES
+within turns events few most = omega (arith, few, most)
 
 module _ {S L : Type 0} (m : Meaning S) (w : boxed.LinkView L) (p : PortsView L) (values : Option (List ℕ)) where
   -- memory ran out before anything was done
@@ -50,6 +57,14 @@ module _ {S L : Type 0} (m : Meaning S) (w : boxed.LinkView L) (p : PortsView L)
         → ServesAll m site ops w p values result h i
     serves_same result h i serves = subst (λ (zs : List (List ℕ)). ServesAll m site zs w p values result h i) same serves
 
-    pub finishes : (boxed : Boxed) (done : Bool) (h i : Option (List ℕ)) → boxed.done ≡ done → ServesAll m site xs w p values (Ok boxed) h i
-        → ClusterFinished m site ops w p values done h i
-    finishes boxed done h i same_done serves = record { boxed = boxed; same_done = same_done; serves = serves_same (Ok boxed) h i serves }
+    pub finishes : (boxed : Boxed) (done : Bool) (h i : Option (List ℕ)) → site.turns ≤ MAX_CLUSTER_TURNS → boxed.done ≡ done
+        → ServesAll m site xs w p values (Ok boxed) h i → ClusterFinished m site ops w p values done h i
+    finishes boxed done h i turns same_done serves =
+        let all = serves_same (Ok boxed) h i serves in
+        record {
+          boxed = boxed;
+          same_done = same_done;
+          ran = all.0;
+          wrote = all.1;
+          replays = all.2 (within site.turns (length all.0.events) turns all.0.few);
+        }

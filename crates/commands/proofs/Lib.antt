@@ -1,3 +1,4 @@
+pub mod AuditLemmas
 pub mod AnswerLemmas
 pub mod CheckLemmas
 pub mod ClusterLemmas

@@ -15,15 +15,15 @@ use Rattle.outside.specs.declared.ports.Ports as ports_trait
 use Rattle.outside.specs.declared.sink.Sink as sinks
 use Rattle.outside.specs.declared.link.PollAnswer.{PollAnswer}
 use Rattle.outside.specs.declared.link.LinkCall.{LinkCall}
-use Rattle.udp_node.specs.Effects.{Line, effects, effects_by, lines, WrotePrefix}
-use Rattle.udp_node.specs.Folding.{folded, TookSome}
+use Rattle.udp_node.specs.Effects.{Line, effects_by, lines, step_effects, WrotePrefix}
+use Rattle.udp_node.specs.Folding.{taking, TookSome}
 use Rattle.udp_node.specs.Ports.{port_of}
 use Rattle.udp_node.specs.NodeRun.{NodeRun, ServedRun, ServesAfter}
 use Rattle.udp_node.specs.Sends.{LinkSide, side, last_count}
 use Rattle.udp_node.specs.declared.errors.ServeError.TheVariants as serve_errors
 use Rattle.udp_node.specs.declared.serving.Served.{Served}
 use Rattle.udp_node.proofs.EffectLemmas.{done_then, stops_then, stops_more, wrote_line}
-use Rattle.commands.specs.Nodes.{served_line, last_effects, end_status, IsNodeStatus, IsUnattachedStatus, EndsNodeWithoutFault}
+use Rattle.commands.specs.Nodes.{last_text, last_effects, end_status, IsNodeStatus, IsUnattachedStatus, EndsNodeWithoutFault}
 use Rattle.commands.specs.Nodes.{LastLine, EndsInLine, NodeEndsOver}
 use Rattle.commands.specs.Nodes.{Finished, RunEnds, NodeTask, run_of, RunObserved, PortsView, NodeEnds}
 use Rattle.commands.specs.declared.status.Status.{Status}
@@ -31,15 +31,16 @@ use Rattle.commands.specs.declared.status.Status.TheVariants as statuses
 
 -- ---- the last line
 
-last_is : (r : NodeRun) (turns lost : ℕ) → r.broken ≡ false → turns ≡ r.turns
-    → last_effects r.broken r.turns lost ≡ Line (served_line turns lost) ∷ []
-last_is r turns lost works same =
-    ap (λ b. last_effects b r.turns lost) works ∙ ap (λ n. Line (served_line n lost) ∷ []) (sym same)
+last_is : (trace : Bool) (r : NodeRun) (turns lost : ℕ) → r.broken ≡ false → turns ≡ r.turns
+    → last_effects trace r.broken r.turns lost ≡ Line (last_text trace turns lost) ∷ []
+last_is trace r turns lost works same =
+    ap (λ b. last_effects trace b r.turns lost) works ∙ ap (λ n. Line (last_text trace n lost) ∷ []) (sym same)
 
 module _ {S : Type 0} (k : NodeTask S) (losses losses_now : ℕ) (served : Served) (last : S) (h i j : Option (List ℕ))
     (most : served.turns ≤ k.turns) (spent : served.done ≡ false → served.turns ≡ k.turns)
     (counted : min (losses + served.lost) last_count ≤ losses_now) (same_done : served.done ≡ k.is_done last)
-    (took : TookSome k.next k.at k.first k.opening last h i) (wrote : Appends i j (served_line served.turns served.lost)) where
+    (took : TookSome k.next (step_effects k.trace k.at) k.first k.opening last h i)
+    (wrote : Appends i j (last_text k.trace served.turns served.lost)) where
   last_line : (s : Status) → s ≡ end_status k.waits served.done → (s ≡ statuses.Unanswered → served.turns ≡ k.turns)
       → LastLine k losses losses_now s h j
   last_line s is all = record {
@@ -51,8 +52,8 @@ module _ {S : Type 0} (k : NodeTask S) (losses losses_now : ℕ) (served : Serve
     all = all;
     counted = counted;
     ends = is ∙ ap (end_status k.waits) (same_done ∙ ap k.is_done took.state);
-    line = Appends-trans h i j (lines (effects k.at (folded k.next k.opening (k.first ++ took.inputs)).1)) (served_line served.turns served.lost)
-        took.written wrote;
+    line = Appends-trans h i j (lines (effects_by (step_effects k.trace k.at) (taking k.next k.opening (k.first ++ took.inputs))))
+        (last_text k.trace served.turns served.lost) took.written wrote;
   }
 
   in_line : (waits done : Bool) → waits ≡ k.waits → done ≡ served.done
@@ -67,87 +68,87 @@ module _ {S : Type 0} (k : NodeTask S) (losses losses_now : ℕ) (served : Serve
 
 module _ {S : Type 0} (k : NodeTask S) where
   finished : (r : NodeRun) (served : Served) (a b : LinkSide) (h i j : Option (List ℕ))
-      → ServedRun k.at r served a (record b { lost = served.lost }) h i → Appends i j (served_line served.turns served.lost)
-      → Finished k.at k.waits r (end_status k.waits served.done) a b h j
+      → ServedRun (step_effects k.trace k.at) r served a (record b { lost = served.lost }) h i → Appends i j (last_text k.trace served.turns served.lost)
+      → Finished k.trace k.at k.waits r (end_status k.waits served.done) a b h j
   finished r served a b h i j one wrote = record {
     lost = served.lost;
     works = one.works;
     ends = ap (end_status k.waits) one.done;
-    effects = rw (last_is r served.turns served.lost one.works one.turns)
-        (done_then (effects_by k.at r.acts) (Line (served_line served.turns served.lost) ∷ []) a
+    effects = rw (last_is k.trace r served.turns served.lost one.works one.turns)
+        (done_then (effects_by (step_effects k.trace k.at) r.acts) (Line (last_text k.trace served.turns served.lost) ∷ []) a
         (record b { lost = served.lost }) (record b { lost = served.lost }) h i j one.effects
-        (wrote_line {T = Unit {0}} (served_line served.turns served.lost) (Ok tt) (record b { lost = served.lost }) i j wrote));
+        (wrote_line {T = Unit {0}} (last_text k.trace served.turns served.lost) (Ok tt) (record b { lost = served.lost }) i j wrote));
   }
 
   as_finished : (w d : Bool) (r : NodeRun) (a b : LinkSide) (h i : Option (List ℕ))
-      → Finished k.at w r (end_status w d) a b h i → RunEnds k.at w r (end_status w d) a b h i
+      → Finished k.trace k.at w r (end_status w d) a b h i → RunEnds k.trace k.at w r (end_status w d) a b h i
   as_finished true true r a b h i one = one
   as_finished true false r a b h i one = one
   as_finished false true r a b h i one = one
   as_finished false false r a b h i one = one
 
   pub ends_served : (o : Option (List PollAnswer)) (v : Option (List ℕ)) (served : Served) (s : Status) (a b : LinkSide)
-      (h i j : Option (List ℕ)) → ServesAfter k.next k.is_done k.first k.timers k.at k.turns k.opening o v (Ok served) a b h i
-      → Appends i j (served_line served.turns served.lost) → s ≡ end_status k.waits served.done → RunObserved k o v s a b h j
+      (h i j : Option (List ℕ)) → ServesAfter k.next k.is_done k.first k.timers (step_effects k.trace k.at) k.turns k.opening o v (Ok served) a b h i
+      → Appends i j (last_text k.trace served.turns served.lost) → s ≡ end_status k.waits served.done → RunObserved k o v s a b h j
   ends_served None v served s a b h i j serves wrote is = tt
   ends_served (Some x) None served s a b h i j serves wrote is = tt
   ends_served (Some x) (Some y) served s a b h i j serves wrote is =
       rw is (as_finished k.waits served.done (run_of k x y) a b h j (finished (run_of k x y) served a b h i j serves wrote))
 
   pub ends_in_line : (o : Option (List PollAnswer)) (v : Option (List ℕ)) (served : Served) (a b : LinkSide)
-      (h i j : Option (List ℕ)) → ServesAfter k.next k.is_done k.first k.timers k.at k.turns k.opening o v (Ok served) a b h i
-      → AppendsPrefix i j (served_line served.turns served.lost) → RunObserved k o v statuses.WriteFault a b h j
+      (h i j : Option (List ℕ)) → ServesAfter k.next k.is_done k.first k.timers (step_effects k.trace k.at) k.turns k.opening o v (Ok served) a b h i
+      → AppendsPrefix i j (last_text k.trace served.turns served.lost) → RunObserved k o v statuses.WriteFault a b h j
   ends_in_line None v served a b h i j serves wrote = tt
   ends_in_line (Some x) None served a b h i j serves wrote = tt
   ends_in_line (Some x) (Some y) served a b h i j serves wrote = (
     served.lost,
-    rw (last_is (run_of k x y) served.turns served.lost serves.works serves.turns)
-        (stops_then (effects_by k.at (run_of k x y).acts) (Line (served_line served.turns served.lost) ∷ []) devices.Failed a
+    rw (last_is k.trace (run_of k x y) served.turns served.lost serves.works serves.turns)
+        (stops_then (effects_by (step_effects k.trace k.at) (run_of k x y).acts) (Line (last_text k.trace served.turns served.lost) ∷ []) devices.Failed a
         (record b { lost = served.lost }) (record b { lost = served.lost }) h i j serves.effects
-        (wrote_line {T = Unit {0}} (served_line served.turns served.lost) (Err devices.Failed)
+        (wrote_line {T = Unit {0}} (last_text k.trace served.turns served.lost) (Err devices.Failed)
         (record b { lost = served.lost }) i j wrote)),
   )
 
   pub ends_short : (o : Option (List PollAnswer)) (v : Option (List ℕ)) (served : Served) (a b : LinkSide)
-      (h i j : Option (List ℕ)) → ServesAfter k.next k.is_done k.first k.timers k.at k.turns k.opening o v (Ok served) a b h i
-      → WrotePrefix (served_line served.turns served.lost) i j → RunObserved k o v statuses.NoMemory a b h j
+      (h i j : Option (List ℕ)) → ServesAfter k.next k.is_done k.first k.timers (step_effects k.trace k.at) k.turns k.opening o v (Ok served) a b h i
+      → WrotePrefix (last_text k.trace served.turns served.lost) i j → RunObserved k o v statuses.NoMemory a b h j
   ends_short None v served a b h i j serves wrote = tt
   ends_short (Some x) None served a b h i j serves wrote = tt
   ends_short (Some x) (Some y) served a b h i j serves wrote = (
     served.lost,
-    rw (last_is (run_of k x y) served.turns served.lost serves.works serves.turns)
-        (stops_then (effects_by k.at (run_of k x y).acts) (Line (served_line served.turns served.lost) ∷ []) devices.NoMemory a
+    rw (last_is k.trace (run_of k x y) served.turns served.lost serves.works serves.turns)
+        (stops_then (effects_by (step_effects k.trace k.at) (run_of k x y).acts) (Line (last_text k.trace served.turns served.lost) ∷ []) devices.NoMemory a
         (record b { lost = served.lost }) (record b { lost = served.lost }) h i j serves.effects
-        (wrote_line {T = Unit {0}} (served_line served.turns served.lost) (Err devices.NoMemory)
+        (wrote_line {T = Unit {0}} (last_text k.trace served.turns served.lost) (Err devices.NoMemory)
         (record b { lost = served.lost }) i j wrote)),
   )
 
   pub ends_broken : (o : Option (List PollAnswer)) (v : Option (List ℕ)) (a b : LinkSide) (h i : Option (List ℕ))
-      → ServesAfter k.next k.is_done k.first k.timers k.at k.turns k.opening o v (Err serve_errors.LinkFault) a b h i
+      → ServesAfter k.next k.is_done k.first k.timers (step_effects k.trace k.at) k.turns k.opening o v (Err serve_errors.LinkFault) a b h i
       → RunObserved k o v statuses.LinkFault a b h i
   ends_broken None v a b h i serves = tt
   ends_broken (Some x) None a b h i serves = tt
   ends_broken (Some x) (Some y) a b h i serves = serves
 
   pub ends_writing : (o : Option (List PollAnswer)) (v : Option (List ℕ)) (a b : LinkSide) (h i : Option (List ℕ))
-      → ServesAfter k.next k.is_done k.first k.timers k.at k.turns k.opening o v (Err serve_errors.WriteFault) a b h i
+      → ServesAfter k.next k.is_done k.first k.timers (step_effects k.trace k.at) k.turns k.opening o v (Err serve_errors.WriteFault) a b h i
       → RunObserved k o v statuses.WriteFault a b h i
   ends_writing None v a b h i serves = tt
   ends_writing (Some x) None a b h i serves = tt
   ends_writing (Some x) (Some y) a b h i serves = (
     serves.0,
-    stops_more (effects_by k.at (run_of k x y).acts) (last_effects (run_of k x y).broken (run_of k x y).turns serves.0)
+    stops_more (effects_by (step_effects k.trace k.at) (run_of k x y).acts) (last_effects k.trace (run_of k x y).broken (run_of k x y).turns serves.0)
         devices.Failed a (record b { lost = serves.0 }) h i serves.1,
   )
 
   pub ends_without_memory : (o : Option (List PollAnswer)) (v : Option (List ℕ)) (a b : LinkSide) (h i : Option (List ℕ))
-      → ServesAfter k.next k.is_done k.first k.timers k.at k.turns k.opening o v (Err serve_errors.NoMemory) a b h i
+      → ServesAfter k.next k.is_done k.first k.timers (step_effects k.trace k.at) k.turns k.opening o v (Err serve_errors.NoMemory) a b h i
       → RunObserved k o v statuses.NoMemory a b h i
   ends_without_memory None v a b h i serves = tt
   ends_without_memory (Some x) None a b h i serves = tt
   ends_without_memory (Some x) (Some y) a b h i serves = (
     serves.0,
-    stops_more (effects_by k.at (run_of k x y).acts) (last_effects (run_of k x y).broken (run_of k x y).turns serves.0)
+    stops_more (effects_by (step_effects k.trace k.at) (run_of k x y).acts) (last_effects k.trace (run_of k x y).broken (run_of k x y).turns serves.0)
         devices.NoMemory a (record b { lost = serves.0 }) h i serves.1,
   )
 

@@ -1,10 +1,11 @@
 -- How a cluster in one process ends.
 use Rattle.std.specs.Prelude.{◌≡◌, ℕ, List, Bool, true, false, ◌||◌, Option, Some, Result, Ok, Err, ◌⊎◌, ⊤}
+use Rattle.std.specs.Io.KnownBytes.{Appends}
 use Rattle.command_line.specs.declared.command.Command.{Command}
 use Rattle.command_line.specs.declared.command.Command.TheVariants.{Cluster}
 use Rattle.command_line.specs.declared.command.Site.{Site}
 use Rattle.nop_types.specs.Meaning.{Meaning}
-use Rattle.one_box.specs.Boxing.{EndsWith, PollFailed}
+use Rattle.one_box.specs.Boxing.{EndsWith, PollFailed, Ran, Replays, text_of}
 use Rattle.one_box.specs.Showing as boxed
 use Rattle.one_box.specs.declared.boxed.Boxed.{Boxed}
 use Rattle.one_box.specs.declared.errors.ClusterError.{ClusterError}
@@ -22,11 +23,18 @@ module _ {S L : Type 0} (m : Meaning S) (site : Site) (ops : List (List ℕ)) (w
   ServesAll result h i =
       EndsWith m w site.config ops site.base site.turns p.to_come values p.before p.after result h i
 
-  -- the run was taken to its end and written; all ops were accepted, or not
+  -- what is written of a run that was taken to its end
+  abbrev pub cluster_text : (boxed : Boxed) → Ran m w site.config ops site.base site.turns p.to_come values p.before p.after boxed → List ℕ
+  cluster_text boxed r = text_of m w site.config ops site.base site.turns r.events r.happened boxed
+
+  -- The run was taken to its end and written; all ops were accepted, or not. The schedule that was written has no bad line, and is read as
+  -- the events of this run; what a replay writes for it is the transcript behind it.
   pub record ClusterFinished (done : Bool) (h i : Option (List ℕ)) : Type 0 where
     pub boxed : Boxed
     pub same_done : boxed.done ≡ done
-    pub serves : ServesAll (Ok boxed) h i
+    pub ran : Ran m w site.config ops site.base site.turns p.to_come values p.before p.after boxed
+    pub wrote : Appends h i (cluster_text boxed ran)
+    pub replays : Replays m site.config ran.events ran.happened boxed (cluster_text boxed ran)
 
   -- an attach failed, or the poll of a link that was given back
   pub record ClusterBroke (h i : Option (List ℕ)) : Type 0 where

@@ -13,8 +13,8 @@ use Rattle.outside.specs.declared.link.Link as link_trait
 use Rattle.outside.specs.declared.ports.Ports as ports_trait
 use Rattle.outside.specs.declared.sink.Sink as sink_trait
 use Rattle.udp_node.specs.declared.address.Address.{Address}
-use Rattle.udp_node.specs.Effects.{Effect, Line, effects, effects_by, lines, Done, Stopped, StoppedInLine}
-use Rattle.udp_node.specs.Folding.{folded, AllOutside}
+use Rattle.udp_node.specs.Effects.{Effect, Line, effects_by, lines, step_effects, Done, Stopped, StoppedInLine}
+use Rattle.udp_node.specs.Folding.{folded, taking, AllOutside}
 use Rattle.udp_node.specs.NodeRun.{NodeRun, run_after, Broke}
 use Rattle.udp_node.specs.Ports.{port_of}
 use Rattle.udp_node.specs.Sends.{LinkSide, side, last_count}
@@ -26,14 +26,19 @@ use Rattle.commands.specs.declared.status.Status.TheVariants as statuses
 abbrev pub served_line : ℕ → ℕ → List ℕ
 served_line turns lost = codes "served " ++ decimal turns ++ codes " lost " ++ decimal lost ++ 10 ∷ []
 
--- after a poll that failed there is none
-abbrev pub last_effects : Bool → ℕ → ℕ → List Effect
-last_effects true turns lost = []
-last_effects false turns lost = Line (served_line turns lost) ∷ []
+-- a trace has none
+abbrev pub last_text : (trace : Bool) → ℕ → ℕ → List ℕ
+last_text true turns lost = []
+last_text false turns lost = served_line turns lost
+
+-- after a poll that failed nothing more is written
+abbrev pub last_effects : (trace broken : Bool) → ℕ → ℕ → List Effect
+last_effects trace true turns lost = []
+last_effects trace false turns lost = Line (last_text trace turns lost) ∷ []
 
 -- what a run does outside, and the last line
-abbrev pub all_effects : Address → NodeRun → ℕ → List Effect
-all_effects at r lost = effects_by at r.acts ++ last_effects r.broken r.turns lost
+abbrev pub all_effects : (trace : Bool) → Address → NodeRun → ℕ → List Effect
+all_effects trace at r lost = effects_by (step_effects trace at) r.acts ++ last_effects trace r.broken r.turns lost
 
 -- ---- statuses
 
@@ -76,25 +81,27 @@ IsUnattachedStatus _ = ⊥
 -- ---- a run and its last line
 
 -- the run was taken to its end, and its line was written
-pub record Finished (at : Address) (waits : Bool) (r : NodeRun) (s : Status) (a b : LinkSide) (h i : Option (List ℕ)) : Type 0 where
+pub record Finished (trace : Bool) (at : Address) (waits : Bool) (r : NodeRun) (s : Status) (a b : LinkSide) (h i : Option (List ℕ)) : Type 0 where
   pub lost : ℕ
   pub works : r.broken ≡ false
   pub ends : s ≡ end_status waits r.done
-  pub effects : Done (all_effects at r lost) a (record b { lost = lost }) h i
+  pub effects : Done (all_effects trace at r lost) a (record b { lost = lost }) h i
 
 -- by its status
-abbrev pub RunEnds : Address → Bool → NodeRun → Status → LinkSide → LinkSide → Option (List ℕ) → Option (List ℕ) → Type 0
-RunEnds at waits r statuses.Done a b h i = Finished at waits r statuses.Done a b h i
-RunEnds at waits r statuses.WriteFault a b h i = (lost : ℕ) × StoppedInLine (all_effects at r lost) a (record b { lost = lost }) h i
-RunEnds at waits r statuses.LinkFault a b h i = (lost : ℕ) × Broke at r a (record b { lost = lost }) h i
-RunEnds at waits r statuses.NoMemory a b h i = (lost : ℕ) × Stopped (all_effects at r lost) a (record b { lost = lost }) h i
-RunEnds at waits r statuses.Unanswered a b h i = Finished at waits r statuses.Unanswered a b h i
-RunEnds at waits r _ a b h i = ⊥
+abbrev pub RunEnds : (trace : Bool) → Address → (waits : Bool) → NodeRun → Status → LinkSide → LinkSide → Option (List ℕ)
+    → Option (List ℕ) → Type 0
+RunEnds trace at waits r statuses.Done a b h i = Finished trace at waits r statuses.Done a b h i
+RunEnds trace at waits r statuses.WriteFault a b h i =
+    (lost : ℕ) × StoppedInLine (all_effects trace at r lost) a (record b { lost = lost }) h i
+RunEnds trace at waits r statuses.LinkFault a b h i = (lost : ℕ) × Broke (step_effects trace at) r a (record b { lost = lost }) h i
+RunEnds trace at waits r statuses.NoMemory a b h i = (lost : ℕ) × Stopped (all_effects trace at r lost) a (record b { lost = lost }) h i
+RunEnds trace at waits r statuses.Unanswered a b h i = Finished trace at waits r statuses.Unanswered a b h i
+RunEnds trace at waits r _ a b h i = ⊥
 
 -- ---- what a node runs from
 
--- its core's step table and opening, its address, the inputs before the first turn, the most turns, and whether it waits for
--- its core to be done
+-- its core's step table and opening, its address, the inputs before the first turn, the most turns, whether it waits for its core to be
+-- done, and whether it writes a trace
 pub record NodeTask (S : Type 0) : Type 0 where
   pub next : S → Given → S × List Out
   pub is_done : S → Bool
@@ -104,11 +111,21 @@ pub record NodeTask (S : Type 0) : Type 0 where
   pub first : List Given
   pub turns : ℕ
   pub waits : Bool
+  pub trace : Bool
 
-abbrev pub task_of : {S : Type 0} → (S → Given → S × List Out) → (S → Bool) → List (Tick × ℕ) → S → Address → List Given → ℕ → Bool
-    → NodeTask S
-task_of next is_done timers opening at first turns waits =
-    record { next = next; is_done = is_done; timers = timers; opening = opening; at = at; first = first; turns = turns; waits = waits }
+abbrev pub task_of : {S : Type 0} → (S → Given → S × List Out) → (S → Bool) → List (Tick × ℕ) → S → Address → List Given → ℕ
+    → (waits trace : Bool) → NodeTask S
+task_of next is_done timers opening at first turns waits trace = record {
+  next = next;
+  is_done = is_done;
+  timers = timers;
+  opening = opening;
+  at = at;
+  first = first;
+  turns = turns;
+  waits = waits;
+  trace = trace;
+}
 
 abbrev pub run_of : {S : Type 0} → NodeTask S → List PollAnswer → List ℕ → NodeRun
 run_of k answers values = run_after k.next k.is_done k.first k.timers k.turns k.opening answers values
@@ -118,11 +135,11 @@ abbrev pub RunObserved : {S : Type 0} → NodeTask S → Option (List PollAnswer
     → LinkSide → LinkSide → Option (List ℕ) → Option (List ℕ) → Type 0
 RunObserved k None values s a b h i = ⊤
 RunObserved k (Some answers) None s a b h i = ⊤
-RunObserved k (Some answers) (Some values) s a b h i = RunEnds k.at k.waits (run_of k answers values) s a b h i
+RunObserved k (Some answers) (Some values) s a b h i = RunEnds k.trace k.at k.waits (run_of k answers values) s a b h i
 
 -- ---- the last line over any link and clock
 
--- The core took the first inputs and then some packets and ticks, the lines of what it gave were written, and then the last line. That
+-- The core took the first inputs and then some packets and ticks, the lines of its steps were written, and then the last line. That
 -- says no more turns than there were, and all of them where a client is unanswered, and no more losses than the link counted in the run, unless its count
 -- stands at the end of 64 bits. The status tells whether the core is done.
 pub record LastLine {S : Type 0} (k : NodeTask S) (losses losses_now : ℕ) (s : Status) (h i : Option (List ℕ)) : Type 0 where
@@ -134,7 +151,8 @@ pub record LastLine {S : Type 0} (k : NodeTask S) (losses losses_now : ℕ) (s :
   pub all : s ≡ statuses.Unanswered → taken ≡ k.turns
   pub counted : min (losses + lost) last_count ≤ losses_now
   pub ends : s ≡ end_status k.waits (k.is_done (folded k.next k.opening (k.first ++ inputs)).0)
-  pub line : Appends h i (lines (effects k.at (folded k.next k.opening (k.first ++ inputs)).1) ++ served_line taken lost)
+  pub line : Appends h i (lines (effects_by (step_effects k.trace k.at) (taking k.next k.opening (k.first ++ inputs)))
+      ++ last_text k.trace taken lost)
 
 -- by its status
 abbrev pub EndsInLine : {S : Type 0} → NodeTask S → ℕ → ℕ → Status → Option (List ℕ) → Option (List ℕ) → Type 0

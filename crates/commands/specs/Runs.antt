@@ -1,13 +1,14 @@
 -- How a command ends, by what is seen of its devices.
 use Rattle.std.specs.Prelude.{◌≡◌, ℕ, ◌+◌, ◌++◌, List, [], ◌∷◌, length, true, Option, Some, IsSome}
 use Rattle.command_line.specs.declared.command.Command.{Command}
-use Rattle.command_line.specs.declared.command.Command.TheVariants.{Replay, Check}
+use Rattle.command_line.specs.declared.command.Command.TheVariants.{Replay, Check, Audit}
 use Rattle.nop_types.specs.Meaning.{Meaning}
 use Rattle.one_box.specs.Boxing.{PollFailed}
 use Rattle.one_box.specs.Showing.{LinkView}
 use Rattle.outside.specs.Causes.{CountsWhere, Rose}
 use Rattle.outside.specs.declared.sink.Sink as sink_trait
 use Rattle.outside.specs.declared.source.Source as source_trait
+use Rattle.commands.specs.Audits.{AuditsWithoutFault}
 use Rattle.commands.specs.Checks.{ChecksWithoutFault}
 use Rattle.commands.specs.Clusters.{ClusterCommandEnds, ClusterEndsWithoutFault, runs_cluster, uses_ports}
 use Rattle.commands.specs.Ending.{EndsWithoutFault, GeneratesWithoutFault, RefusesWithoutFault}
@@ -70,6 +71,7 @@ Attaches p = ¬ Rose p.faults_before p.faults_after
 pub record Completes {L : Type 0} (c : Option Command) (d : Devices L) (s : Status) : Type 0 where
   pub replay_complete : c ≡ Some Replay → Works d.source → Works d.sink → EndsWithoutFault s
   pub check_complete : c ≡ Some Check → Works d.source → Works d.sink → ChecksWithoutFault s
+  pub audit_complete : c ≡ Some Audit → Works d.source → Works d.sink → AuditsWithoutFault s
   pub drawing_complete : draws c ≡ true → Works d.sink → GeneratesWithoutFault s
   pub usage_complete : ¬ IsSome c → Works d.sink → RefusesWithoutFault s
   -- where no poll of the link failed
@@ -84,6 +86,7 @@ pub record Completes {L : Type 0} (c : Option Command) (d : Devices L) (s : Stat
 pub record CompletesAlways (c : Option Command) (s : Status) : Type 0 where
   pub replay_complete : c ≡ Some Replay → EndsWithoutFault s
   pub check_complete : c ≡ Some Check → ChecksWithoutFault s
+  pub audit_complete : c ≡ Some Audit → AuditsWithoutFault s
   pub drawing_complete : draws c ≡ true → GeneratesWithoutFault s
   pub usage_complete : ¬ IsSome c → RefusesWithoutFault s
   pub node_complete : runs_node c ≡ true → EndsNodeWithoutFault (waits_for_answers c) s

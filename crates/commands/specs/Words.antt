@@ -2,7 +2,7 @@
 use Rattle.std.specs.Prelude.{ℕ, List, [], ◌∷◌, ◌++◌, String, Option, Some, IsSome, codes, Bool, true, false}
 use Rattle.command_line.specs.Commands.{command_of, texts_of}
 use Rattle.command_line.specs.declared.command.Command.{Command}
-use Rattle.command_line.specs.declared.command.Command.TheVariants.{Replay, Check}
+use Rattle.command_line.specs.declared.command.Command.TheVariants.{Replay, Check, Audit}
 
 -- the command that the words ask for
 abbrev pub asked : {Z : Type 0} → List (String Z) → Option Command
@@ -16,10 +16,11 @@ Taken words = IsSome (asked words)
 abbrev pub reads : Option Command → Bool
 reads (Some Replay) = true
 reads (Some Check) = true
+reads (Some Audit) = true
 reads _ = false
 
 -- by the name of the program
 unfoldable pub usage_line : List ℕ → List ℕ
 usage_line program =
     codes "usage: " ++ (program
-    ++ (codes " replay | gen | node | sequencer | controller | client | cluster | check | observer | read" ++ 10 ∷ []))
+    ++ (codes " replay | gen | node | sequencer | controller | client | cluster | check | observer | read | audit" ++ 10 ∷ []))

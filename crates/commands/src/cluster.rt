@@ -1,6 +1,7 @@
 //! The command that runs all actors in one process.
 
-ghost use Rattle.std.specs.Prelude.{◌≡◌, ◌+◌, length, IsTrue};
+ghost use Rattle.std.specs.Prelude.{◌≡◌, ◌≤◌, ◌+◌, length, IsTrue};
+ghost use Rattle.command_line.specs.declared.options.TheConstants.{MAX_CLUSTER_TURNS};
 ghost use Rattle.nop_types.specs.Headers.{gives};
 ghost use Rattle.outside.specs.Causes.{CountsWhere};
 ghost use Rattle.commands.specs.Clusters.{ClusterEnds};
@@ -23,6 +24,7 @@ pub(crate) fn run_cluster<H: Host, P: Ports, T: Clock, K: Sink>(
     sink: &mut K,
 ) -> Status
     requires form { IsTrue (gives 1 site.now.config) }
+    requires turns { site.now.turns ≤ MAX_CLUSTER_TURNS }
     ensures ends { ClusterEnds H.meaning site.now ops
         (links_of P.L.Link) (ports_of P.Ports ports.old ports.new) (T.values clock.old)
         result (K.held sink.old) (K.held sink.new) }

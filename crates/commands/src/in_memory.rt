@@ -3,6 +3,7 @@ ghost use Rattle.one_box.specs.Showing.{link_view};
 ghost use Rattle.outside.specs.Memory.{answers_of};
 ghost use Rattle.replay.specs.Safety.{RunsSafelyOf};
 ghost use Rattle.commands.specs.Words.{asked, reads, Taken};
+ghost use Rattle.commands.specs.Audits.{AuditEnds, PassesTrace};
 ghost use Rattle.commands.specs.Checks.{CheckEnds};
 ghost use Rattle.commands.specs.Clusters.{uses_ports};
 ghost use Rattle.commands.specs.Ending.{ReplayEnds, UsageEnds};
@@ -35,6 +36,11 @@ pub fn run_in_memory<H: Host>(
     ensures check { asked words.now ≡ Some Command.Check →
         CheckEnds H.meaning (Some source.old.left) (Some source.new.left) (Some sink.old.held)
         (Some sink.new.held) result }
+    ensures audit { asked words.now ≡ Some Command.Audit →
+        AuditEnds H.meaning (Some source.old.left) (Some source.new.left) (Some sink.old.held)
+        (Some sink.new.held) result }
+    ensures audited { asked words.now ≡ Some Command.Audit → PassesTrace H.meaning
+        (Some source.old.left) result }
     ensures usage { ¬ Taken words.now →
         UsageEnds program.now (Some sink.old.held) (Some sink.new.held) result }
     ensures ends { Runs H.meaning (asked words.now) (devices

@@ -7,16 +7,19 @@
 //!   headline").
 //! - `check`: a check ends as `judge` says of the bytes: Done with `legal`, its line and its counts,
 //!   Refuted with the line and the clause; the bytes of a legal transcript are never Refuted.
+//! - `audit`, `audited`: an audit ends as `audit` says of the bytes: Done with the schedule of a trace of
+//!   steps, which is a run, Refuted with the line and the fault; a trace of steps is never Refuted.
 //! - `usage`: arguments that ask for no command are answered by the usage line, or a proper prefix
 //!   of it.
 //! - `ends`: what a command does over its devices (`Runs`). Its fields are:
 //!   - `drawing`: `gen` writes `drawn_summary` at Done, and otherwise a proper prefix of it.
 //!   - `node`, `cluster`, `back`: a node runs its core from its initial state over one link, as
-//!     `udp_node` says, and writes its last line; a cluster ends as `one_box` says; each link is
-//!     given back.
+//!     `udp_node` says, and writes its last line, or with `--trace` none; a cluster ends as `one_box`
+//!     says, and no line of the schedule that it writes is bad; each link is given back.
 //!   - `client`: over any link, a client that ends Done wrote an accept line for each of its ops,
 //!     and one that ends Unanswered fewer; a `read` that ends Done wrote one answer line whose
-//!     position is not below the one that was asked for, and one that ends Unanswered none.
+//!     position is not below the one that was asked for, and one that ends Unanswered none. In a
+//!     trace these are lines of steps, and each step that gave something has its lines there.
 //!   - `writes`: WriteFault comes only where a write failed, and a write that failed is always told:
 //!     the sink's count of faults rose by one at WriteFault, and stayed at every other status.
 //!   - `reads`: the source's count of faults rose by one at ReadFault; at WriteFault and NoMemory
@@ -28,10 +31,11 @@
 //!
 //! `run_in_memory` is `run` over devices in memory that never fail, where `complete` has no premise.
 //!
-//! Files: `running`; `check`; `node_commands`, `node`, `cluster`; `in_memory`. Definitions:
-//! `specs/Words` (`asked`), `Runs`, `Ending`, `Checks`, `Tasks`, `Nodes`, `Clusters`.
+//! Files: `running`; `check`, `auditing`; `node_commands`, `node`, `cluster`; `in_memory`. Definitions:
+//! `specs/Words` (`asked`), `Runs`, `Ending`, `Checks`, `Audits`, `Tasks`, `Nodes`, `Clusters`.
 #![tactic(auto)]
 
+mod auditing;
 mod check;
 mod cluster;
 mod in_memory;

@@ -6,7 +6,8 @@ ghost use Rattle.outside.specs.Causes.{CountsFor, CountsWhere};
 ghost use Rattle.udp_node.specs.Effects.{Writes};
 ghost use Rattle.udp_node.specs.NodeRun.{first_inputs};
 ghost use Rattle.udp_node.specs.Sends.{side};
-ghost use Rattle.commands.specs.Nodes.{served_line, end_status, task_of, EndsInLine, IsNodeStatus, NodeEndsOver, RunObserved};
+ghost use Rattle.commands.specs.Nodes.{served_line, last_text, end_status, task_of, EndsInLine};
+ghost use Rattle.commands.specs.Nodes.{IsNodeStatus, NodeEndsOver, RunObserved};
 ghost use Rattle.outside.specs.declared.errors.DeviceError.TheVariants as devices;
 
 use crate::status::Status;
@@ -15,12 +16,14 @@ use outside::{AttachError, Clock, Link, Ports, Sink, WriteError, write_all};
 use std::alloc::Global;
 use udp_node::{Address, ServeError, Served, serve};
 
-/// What a node runs: the input before its first turn, the most turns, and whether it waits for its core to be done.
+/// What a node runs: the input before its first turn, the most turns, whether it waits for its core to be done, and whether it
+/// writes a trace.
 #[derive(Clone, Copy)]
 pub(crate) struct Task<'a> {
     pub(crate) first: Option<Input<'a>>,
     pub(crate) turns: u64,
     pub(crate) waits: bool,
+    pub(crate) trace: bool,
 }
 
 fn put_number(n: u64, to: &mut Vec<u8>) -> Result<(), NoMemory>
@@ -51,6 +54,25 @@ fn write_served<K: Sink>(alloc: Global, served: Served, sink: &mut K) -> Result<
     let mut line = Vec::new(alloc);
     put_served(served, &mut line)?;
     write_all(sink, &line)
+}
+
+/// Writes the last line. A trace has none.
+#[tactic(auto, using(udp_node::proofs::EffectLemmas::Appends_none))]
+fn write_last<K: Sink>(
+    alloc: Global,
+    trace: bool,
+    served: Served,
+    sink: &mut K,
+) -> Result<(), WriteError>
+    ensures line { Writes (last_text trace served.turns served.lost) result (K.held sink.old)
+        (K.held sink.new) }
+    ensures count { CountsFor (K.fault_count sink.old) (K.fault_count sink.new)
+        devices.Failed result }
+{
+    if trace {
+        return Ok(());
+    }
+    write_served(alloc, served, sink)
 }
 
 fn end_status(waits: bool, done: bool) -> Status
@@ -85,13 +107,15 @@ fn run_link<C: Core, L: Link, T: Clock, K: Sink>(
 ) -> Status
     requires timers { length C.timers ≤ 255 }
     ensures run { RunObserved (task_of C.next C.is_done C.timers (C.state core.old) at.now
-        (first_inputs (option_map given task.now.first)) task.now.turns task.now.waits)
+        (first_inputs (option_map given task.now.first)) task.now.turns task.now.waits
+        task.now.trace)
         (L.answers link.old) (T.values clock.old) result
         (side (L.trace link.old) 0 (L.loss_count link.old))
         (side (L.trace link.new) 0 (L.loss_count link.new)) (K.held sink.old) (K.held sink.new) }
     ensures status { IsNodeStatus task.now.waits result }
     ensures last { EndsInLine (task_of C.next C.is_done C.timers (C.state core.old) at.now
-        (first_inputs (option_map given task.now.first)) task.now.turns task.now.waits)
+        (first_inputs (option_map given task.now.first)) task.now.turns task.now.waits
+        task.now.trace)
         (L.loss_count link.old) (L.loss_count link.new) result
         (K.held sink.old) (K.held sink.new) }
     ensures port { L.own_port link.new ≡ L.own_port link.old }
@@ -103,8 +127,9 @@ fn run_link<C: Core, L: Link, T: Clock, K: Sink>(
     let place = copied(at);
     let first = task.first;
     let turns = task.turns;
-    match serve(alloc, core, place, first, link, clock, turns, sink) {
-        Ok(served) => match write_served(alloc, served, sink) {
+    let trace = task.trace;
+    match serve(alloc, core, place, first, link, clock, turns, sink, trace) {
+        Ok(served) => match write_last(alloc, trace, served, sink) {
             Ok(()) => end_status(task.waits, served.done),
             Err(WriteError::Failed) => Status::WriteFault,
             Err(WriteError::NoMemory) => Status::NoMemory,
@@ -128,7 +153,8 @@ pub(crate) fn run_core<C: Core, P: Ports, T: Clock, K: Sink>(
     requires timers { length C.timers ≤ 255 }
     ensures { NodeEndsOver P.L.Link P.Ports T.Clock K.Sink
         (task_of C.next C.is_done C.timers (C.state core.old) at.now
-        (first_inputs (option_map given task.now.first)) task.now.turns task.now.waits)
+        (first_inputs (option_map given task.now.first)) task.now.turns task.now.waits
+        task.now.trace)
         ports.old ports.new clock.old sink.old sink.new result }
 {
     match ports.attach(at.port_of(at.own)) {

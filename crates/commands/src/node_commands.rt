@@ -35,23 +35,35 @@ fn address(site: &Site, own: Actor) -> Address
 
 /// What a node runs that ends with its turns.
 fn endless<'a>(site: &Site, first: Option<Input<'a>>) -> Task<'a>
-    ensures { result ≡ record { first = first.entry; turns = site.now.turns; waits = false } }
+    ensures { result ≡ record {
+      first = first.entry;
+      turns = site.now.turns;
+      waits = false;
+      trace = site.now.trace;
+    } }
 {
     Task {
         first,
         turns: site.turns,
         waits: false,
+        trace: site.trace,
     }
 }
 
 /// What a node runs that waits for its core to be done.
 fn waiting<'a>(site: &Site, first: Option<Input<'a>>) -> Task<'a>
-    ensures { result ≡ record { first = first.entry; turns = site.now.turns; waits = true } }
+    ensures { result ≡ record {
+      first = first.entry;
+      turns = site.now.turns;
+      waits = true;
+      trace = site.now.trace;
+    } }
 {
     Task {
         first,
         turns: site.turns,
         waits: true,
+        trace: site.trace,
     }
 }
 

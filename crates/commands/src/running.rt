@@ -3,6 +3,7 @@ ghost use Rattle.outside.specs.Causes.{CountsWhere};
 ghost use Rattle.replay.specs.Safety.{RunsSafelyOf};
 ghost use Rattle.command_line.specs.Commands.{IsFit};
 ghost use Rattle.commands.specs.Words.{asked, reads, usage_line, Taken};
+ghost use Rattle.commands.specs.Audits.{AuditEnds, PassesTrace};
 ghost use Rattle.commands.specs.Checks.{CheckEnds};
 ghost use Rattle.commands.specs.Clusters.{uses_ports};
 ghost use Rattle.commands.specs.Ending.{ReplayEnds, GenEnds, UsageEnds};
@@ -10,6 +11,7 @@ ghost use Rattle.one_box.specs.Showing.{links_of};
 ghost use Rattle.commands.specs.Nodes.{ports_of, ReadsTo};
 ghost use Rattle.commands.specs.Runs.{Runs, Completes, devices, sink_of, source_of};
 
+use crate::auditing::run_audit;
 use crate::check::run_check;
 use crate::cluster::run_cluster;
 use crate::node_commands::{
@@ -23,8 +25,8 @@ use replay::{GenError, ReplayError, generate, replay};
 use std::alloc::Global;
 
 /// What stands after the program's name in the usage line.
-const COMMANDS: &str =
-    " replay | gen | node | sequencer | controller | client | cluster | check | observer | read\n";
+const COMMANDS: &str = " replay | gen | node | sequencer | controller | client | cluster | check \
+    | observer | read | audit\n";
 
 fn run_replay<H: Host, S: Source, K: Sink>(alloc: Global, source: &mut S, sink: &mut K) -> Status
     ensures ends { ReplayEnds H.meaning (S.left source.old) (S.left source.new) (K.held sink.old)
@@ -100,6 +102,9 @@ fn carry_out<H: Host, S: Source, K: Sink, P: Ports, C: Clock>(
         RunsSafelyOf H.meaning (S.left source.old) }
     ensures check { command ≡ Command.Check → CheckEnds H.meaning (S.left source.old)
         (S.left source.new) (K.held sink.old) (K.held sink.new) result }
+    ensures audit { command ≡ Command.Audit → AuditEnds H.meaning (S.left source.old)
+        (S.left source.new) (K.held sink.old) (K.held sink.new) result }
+    ensures audited { command ≡ Command.Audit → PassesTrace H.meaning (S.left source.old) result }
     ensures ends { Runs H.meaning (Some command) (devices
         (source_of S.Source source.old source.new) (sink_of K.Sink sink.old sink.new)
         (ports_of P.Ports ports.old ports.new) (links_of P.L.Link) (C.values clock.old)) result }
@@ -120,6 +125,7 @@ fn carry_out<H: Host, S: Source, K: Sink, P: Ports, C: Clock>(
             run_cluster::<H, P, C, K>(alloc, &site, ops, ports, clock, sink)
         }
         Command::Check => run_check::<H, S, K>(alloc, source, sink),
+        Command::Audit => run_audit::<H, S, K>(alloc, source, sink),
         Command::Observer(id, site) => {
             run_observer::<H, P, C, K>(alloc, id, &site, ports, clock, sink)
         }
@@ -149,6 +155,10 @@ pub fn run<H: Host, S: Source, K: Sink, P: Ports, C: Clock>(
         RunsSafelyOf H.meaning (S.left source.old) }
     ensures check { asked words.now ≡ Some Command.Check → CheckEnds H.meaning (S.left source.old)
         (S.left source.new) (K.held sink.old) (K.held sink.new) result }
+    ensures audit { asked words.now ≡ Some Command.Audit → AuditEnds H.meaning (S.left source.old)
+        (S.left source.new) (K.held sink.old) (K.held sink.new) result }
+    ensures audited { asked words.now ≡ Some Command.Audit → PassesTrace H.meaning
+        (S.left source.old) result }
     ensures usage { ¬ Taken words.now → UsageEnds program.now (K.held sink.old) (K.held sink.new)
         result }
     ensures ends { Runs H.meaning (asked words.now) (devices

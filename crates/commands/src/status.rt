@@ -14,6 +14,6 @@ pub enum Status {
     NoMemory = 6,
     /// A client or a cluster took all its turns, and one of the ops was not accepted, or a read not answered.
     Unanswered = 7,
-    /// A transcript breaks a clause.
+    /// A transcript breaks a clause, or a line of a trace has a fault.
     Refuted = 8,
 }

@@ -80,7 +80,7 @@ pub fn advance<H: Host>(
     while undos.len() < count {
         undos.reserve(1)?;
         let slot_undo = enter(host, table, &entries[undos.len()])?;
-        undos.push(slot_undo).unwrap();
+        undos.push_reserved(slot_undo);
     }
     Ok(())
 }

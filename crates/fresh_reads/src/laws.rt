@@ -15,7 +15,8 @@ pub fn has_one_fresh_answer()
         (Read observer key ∷ xs)) ≡ 1 }
     ensures not_done { (config : Configuration) (number observer : ℕ) (key : List ℕ) (least : ℕ)
         (xs : List Given) → HasNoRead xs →
-        is_done (after (opening config number observer key least) (Read observer key ∷ xs)) ≡ false →
+        is_done (after (opening config number observer key least)
+        (Read observer key ∷ xs)) ≡ false →
         fresh_count least (gave (opening config number observer key least)
         (Read observer key ∷ xs)) ≡ 0 }
 {}

@@ -47,7 +47,8 @@ fn above(log: &Log, slot: u32) -> &[Entry]
 fn choice_at(change: &Change, view: View, slot: u32, place: usize) -> Option<Choice<'_>>
     requires { slot ≤ MAX_LENGTH }
     ensures { option_map given result ≡ cond (is_view change.now.last_normal view)
-        (choice_of change.now.sender (slot_of (above Trimmed change.now.log slot) (suc place))) None }
+        (choice_of change.now.sender
+        (slot_of (above Trimmed change.now.log slot) (suc place))) None }
 {
     if !change.last_normal.is(view) {
         return None;

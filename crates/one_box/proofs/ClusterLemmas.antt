@@ -1,13 +1,18 @@
 -- A cluster from its links to what it wrote.
-use Rattle.std.proofs.Common.{◌≡◌, ◌≤◌, ℕ, ◌+◌, ◌-◌, ◌^◌, min, List, [], ◌∷◌, ◌++◌, length, map, true, Option, Some, None, Result, Ok, Err}
+use Rattle.std.proofs.Common.{◌≡◌, ◌≤◌, ℕ, ◌+◌, ◌-◌, ◌*◌, ◌^◌, min, List, [], ◌∷◌, ◌++◌, length, map, true, Option, Some, None, Result, Ok, Err}
 use Rattle.std.proofs.Common.{refl, sym, ap, subst, ◌∙◌, arith, inl, inr, length-append}
+use Rattle.std.proofs.Math.Nat.{mul-le-mul_left}
+use Rattle.std.proofs.lemmas.Bool.{and_from}
 use Rattle.std.proofs.lemmas.List.{length-map}
+use Rattle.std.proofs.lemmas.List.Elements.{recursion_from_All}
 use Rattle.std.proofs.lemmas.List.Sums.{sum_by-cons}
-use Rattle.std.specs.Prelude.{◌⊎◌, ◌==◌, sum, IsErrOf}
+use Rattle.std.specs.Prelude.{◌⊎◌, ◌==◌, sum, IsErrOf, IsTrue, OnOk}
+use Rattle.std.specs.List.{All}
 use Rattle.std.specs.Io.KnownBytes.{Appends}
 use Rattle.std.proofs.lemmas.Grind.{common_steps}
 use Rattle.nop_types.specs.Checkpoints.{KeepsTo}
 use Rattle.nop_types.specs.Configuration.{Configuration, is_configuration}
+use Rattle.nop_types.specs.Headers.{gives, is_header}
 use Rattle.nop_types.specs.Meaning.{Meaning}
 use Rattle.outside.specs.Causes.{Rose, CountsFor}
 use Rattle.outside.proofs.Counts.{rose_where}
@@ -17,6 +22,9 @@ use Rattle.outside.specs.declared.errors.DeviceError.{DeviceError}
 use Rattle.outside.specs.declared.errors.DeviceError.TheVariants.{Failed}
 use Rattle.outside.specs.declared.errors.DeviceError.TheVariants as devices
 use Rattle.outside.specs.declared.link.PollAnswer.{PollAnswer}
+use Rattle.printed_runs.proofs.Printing.{prints_again}
+use Rattle.replay.specs.Output.{Output}
+use Rattle.printed_runs.specs.Printing.{LineMeans, LinesMean, printed}
 use Rattle.safety.proofs.Whole.{runs_are_safe}
 use Rattle.transcript_text.specs.Transcript.{lines_text}
 use Rattle.udp_node.specs.Effects.{WrotePrefix}
@@ -29,11 +37,13 @@ use Rattle.one_box.specs.declared.serving.Taken.{Taken}
 use Rattle.one_box.specs.Actors.{actors_of}
 use Rattle.one_box.specs.Attaching.{AttachesAll, Holds, HasRoom, place_for, lost_after, lost_by}
 use Rattle.one_box.specs.Boxing.{WritesRun, IsObservedRun, IsNoRun, RanTurns, BreaksOff, RunsOr, Reports, ReportsOf}
-use Rattle.one_box.specs.Boxing.{Ran, text_of, EndsWith, PollFailed, error_of}
+use Rattle.one_box.specs.Boxing.{Ran, ReplaysWithin, EndsWith, PollFailed, error_of}
 use Rattle.one_box.specs.ClusterRun.{Course, BoxActor, ClusterRun, turns_from, opening_course, opening_nodes, cluster_run}
+use Rattle.one_box.specs.Counting.{most_of_turn, turn_in}
 use Rattle.one_box.specs.Running.{IsRunIf, EndsAs, RunsObserved, Runs}
 use Rattle.one_box.specs.Showing.{LinkView, IsLedTo, AllShow, AllLostFit, place_of}
-use Rattle.one_box.specs.Text.{cluster_text}
+use Rattle.one_box.specs.Text.{IsReadBack, cluster_text, served_line, transcript_of}
+use Rattle.one_box.proofs.Counting.{turn_few}
 
 -- ---- the turns
 
@@ -160,7 +170,7 @@ module _ {S L : Type 0} (m : Meaning S) (v : LinkView L) (config : Configuration
     (polls : Option (List (List PollAnswer))) (values : Option (List ℕ)) (det there : List L) where
   module _ (IsSound : S → Type 0) (keeps : KeepsTo m IsSound) (fits : is_configuration config ≡ true) (d : Course) (taken : Taken)
       (lost : ℕ) (xs : List (code.BoxActor L)) (here : List L) (t : RanTurns m v config ops base turns polls values det here taken d xs)
-      (lost_is : lost ≡ lost_by xs) (given : there ≡ here ++ map (λ x. x.link) xs) where
+      (few : length d.events ≤ turns * turn_in config) (lost_is : lost ≡ lost_by xs) (given : there ≡ here ++ map (λ x. x.link) xs) where
     abbrev boxed : Boxed
     boxed = record { turns = taken.turns; lost = lost; stray = d.stray; done = taken.done }
 
@@ -195,6 +205,7 @@ module _ {S L : Type 0} (m : Meaning S) (v : LinkView L) (config : Configuration
       safely = runs_are_safe m IsSound keeps config d.events happened fits t.led.fit t.led.is;
       done = t.done ∙ ap (λ (n : ℕ). n == length ops) t.led.accepts;
       spent = t.spent;
+      few = let most : turns * turn_in config ≤ turns * most_of_turn = mul-le-mul_left turns (turn_few config fits) in omega (arith, few, most);
       nodes = xs;
       back = given ∙ ap (λ (ls : List L). ls ++ map (λ x. x.link) xs) t.given;
       places = t.places;
@@ -206,21 +217,37 @@ module _ {S L : Type 0} (m : Meaning S) (v : LinkView L) (config : Configuration
     abbrev written : List ℕ
     written = cluster_text config d.events d.text d.world taken.turns lost d.stray
 
+    -- the schedule is read as this run
+    replays : IsTrue (gives 1 config) → LinesMean d.events → ReplaysWithin m v config ops base turns d.events happened boxed
+    unfolding cluster_text transcript_of
+    replays form mean room =
+        let header : is_header (record { form = 1; config = config }) ≡ true = and_from (gives 1 config) (is_configuration config) form fits in
+        let read = prints_again m 1 config d.events happened header t.led.is mean room in
+        record {
+          read = read;
+          parts = ap (λ (o : Output). printed 1 config d.events ++ (o.text ++ served_line taken.turns lost d.stray)) (sym read.written);
+        }
+
     same_text : written ≡ cluster_text config d.events (lines_text t.led.lines) d.world taken.turns lost d.stray
     same_text = ap (λ (ls : List ℕ). cluster_text config d.events ls d.world taken.turns lost d.stray) t.led.text
 
-    pub run_ends : (r : Result Boxed ClusterError) (before now : Option (List ℕ)) → WritesRun written boxed r before now
-        → EndsWith m v config ops base turns polls values det there r before now
+    all_mean : All IsReadBack d.events → LinesMean d.events
+    unfolding IsReadBack
+    all_mean read = recursion_from_All LineMeans d.events read
+
+    abbrev Done : Option (List ℕ) → Option (List ℕ) → Boxed → Type 0
+    Done before now b = EndsWith m v config ops base turns polls values det there (Ok b) before now
+
+    pub run_ends : IsTrue (gives 1 config) → (r : Result Boxed ClusterError) (before now : Option (List ℕ)) → OnOk r (All IsReadBack d.events)
+        → WritesRun written boxed r before now → EndsWith m v config ops base turns polls values det there r before now
     unfolding ran
-    run_ends (Ok told_box) before now w =
-        let whole : (x : Ran m v config ops base turns polls values det there boxed)
-        × Appends before now (text_of m v config ops base turns x.events x.happened boxed) =
-        (ran, subst (λ (ls : List ℕ). Appends before now ls) same_text w.1) in
-        subst (λ (b : Boxed). (x : Ran m v config ops base turns polls values det there b)
-        × Appends before now (text_of m v config ops base turns x.events x.happened b)) (sym w.0) whole
-    run_ends (Err errors.LinkFault) before now w = absurd w
-    run_ends (Err errors.WriteFault) before now w = (boxed, ran, subst (λ (ls : List ℕ). AppendsPrefix before now ls) same_text w)
-    run_ends (Err errors.NoMemory) before now w = inr (boxed, ran, subst (λ (ls : List ℕ). WrotePrefix ls before now) same_text w)
+    run_ends form (Ok told_box) before now mean w =
+        let whole : Done before now boxed =
+        (ran, subst (Appends before now) same_text w.1, replays form (all_mean mean)) in
+        subst (Done before now) (sym w.0) whole
+    run_ends form (Err errors.LinkFault) before now mean w = absurd w
+    run_ends form (Err errors.WriteFault) before now mean w = (boxed, ran, subst (λ (ls : List ℕ). AppendsPrefix before now ls) same_text w)
+    run_ends form (Err errors.NoMemory) before now mean w = inr (boxed, ran, subst (λ (ls : List ℕ). WrotePrefix ls before now) same_text w)
 
   -- before anything was written
   pub ends_early : (e : DeviceError) (x : ClusterError) (held : Option (List ℕ)) → x ≡ error_of e

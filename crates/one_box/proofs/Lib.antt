@@ -1,5 +1,6 @@
 pub mod AttachingLemmas
 pub mod ClusterLemmas
+pub mod Counting
 pub mod FiringLemmas
 pub mod LeadingLemmas
 pub mod PollingLemmas

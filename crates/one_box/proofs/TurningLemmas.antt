@@ -7,12 +7,18 @@ use Rattle.nop_types.specs.Meaning.{Meaning}
 use Rattle.one_box.specs.declared.node.BoxActor as code
 use Rattle.one_box.specs.ClusterRun.{Course, BoxActor, node_turn, turn}
 use Rattle.outside.specs.Causes.{Rose}
-use Rattle.udp_node.specs.declared.address.Address.{Address}
 use Rattle.outside.specs.declared.errors.DeviceError.{DeviceError}
 use Rattle.outside.specs.declared.errors.DeviceError.TheVariants.{Failed, NoMemory}
 use Rattle.one_box.specs.Showing.{LinkView, Shows, ReachesIf, Serves, AllShow, AllReach, AllReachIf, Turns, HasFault}
 use Rattle.one_box.specs.Showing.{LostFits, AllLostFit, place_of}
 use Rattle.one_box.specs.Progress.{TurningOn}
+
+-- what is the same of one element before and after is the same of all
+pub map_set : {A B : Type 0} (f : A → B) (ys : List A) (i : ℕ) (x z : A) → slice_get ys i ≡ Some x → f z ≡ f x
+    → map f (slice_set ys i z) ≡ map f ys
+map_set {B = B} f [] i x z found same = absurd cc
+map_set {B = B} f (y ∷ ys) zero x z found same = let here : y ≡ x = cc in ap (λ (p : B). p ∷ map f ys) (same ∙ sym (ap f here))
+map_set {B = B} f (y ∷ ys) (suc i) x z found same = ap (λ (ps : List B). f y ∷ ps) (map_set f ys i x z found same)
 
 module _ {L : Type 0} (v : LinkView L) where
   pub shown_length : (ns : List BoxActor) (xs : List (code.BoxActor L)) → AllShow v ns xs → length ns ≡ length xs
@@ -150,11 +156,7 @@ module _ {S L : Type 0} (m : Meaning S) (v : LinkView L) (ops : List (List ℕ))
 module _ {L : Type 0} (v : LinkView L) where
   pub same_places : (ys : List (code.BoxActor L)) (i : ℕ) (x z : code.BoxActor L) → slice_get ys i ≡ Some x → place_of v z ≡ place_of v x
       → map (place_of v) (slice_set ys i z) ≡ map (place_of v) ys
-  same_places [] i x z found same = absurd cc
-  same_places (y ∷ ys) zero x z found same =
-      let here : y ≡ x = cc in
-      ap (λ (p : Address × ℕ). p ∷ map (place_of v) ys) (same ∙ sym (ap (place_of v) here))
-  same_places (y ∷ ys) (suc i) x z found same = ap (λ (ps : List (Address × ℕ)). place_of v y ∷ ps) (same_places ys i x z found same)
+  same_places ys i x z found same = map_set (place_of v) ys i x z found same
 
   -- one actor's losses stay counted, and so do all
   pub lost_set : (ys : List (code.BoxActor L)) (i : ℕ) (x z : code.BoxActor L) → slice_get ys i ≡ Some x → (LostFits v x → LostFits v z)

@@ -1,14 +1,17 @@
 -- How a cluster in one process ends.
-use Rattle.std.specs.Prelude.{◌≡◌, ◌≤◌, ◌++◌, ◌==◌, ◌⊎◌, ℕ, List, length, map, sum, count_by, false, ⊤, Option, Some, None, Result, Ok, Err}
+use Rattle.std.specs.Prelude.{◌≡◌, ◌≤◌, ◌+◌, ◌*◌, ◌++◌, ◌==◌, ◌⊎◌, ℕ, List, length, map, sum, count_by, true, false, ⊤, Option, Some, None, Result, Ok, Err}
 use Rattle.std.specs.Io.KnownBytes.{Appends}
 use Rattle.nop_types.specs.Configuration.{Configuration}
 use Rattle.nop_types.specs.Meaning.{Meaning}
+use Rattle.nop_types.specs.declared.limits.TheConstants.{MAX_LINES}
 use Rattle.outside.specs.Causes.{Rose}
 use Rattle.outside.specs.Prefixes.{AppendsPrefix}
 use Rattle.outside.specs.declared.errors.DeviceError.{DeviceError}
 use Rattle.outside.specs.declared.errors.DeviceError.TheVariants.{Failed}
 use Rattle.outside.specs.declared.errors.DeviceError.TheVariants as devices
 use Rattle.outside.specs.declared.link.PollAnswer.{PollAnswer}
+use Rattle.replay.specs.Output.{output}
+use Rattle.printed_runs.specs.Printing.{IsReadAs, printed}
 use Rattle.safety.specs.Safe.{SafelyPassed}
 use Rattle.schedule_text.specs.declared.event.Event.{Event}
 use Rattle.transcript_text.specs.Transcript.{lines_text}
@@ -23,9 +26,10 @@ use Rattle.one_box.specs.declared.serving.Taken.{Taken}
 use Rattle.one_box.specs.Actors.{actors_of}
 use Rattle.one_box.specs.Attaching.{place_for, lost_by}
 use Rattle.one_box.specs.ClusterRun.{Course, ClusterRun, all_accepted, cluster_run}
+use Rattle.one_box.specs.Counting.{most_of_turn}
 use Rattle.one_box.specs.Running.{IsRunIf}
 use Rattle.one_box.specs.Showing.{LinkView, AllShow, AllLostFit, HasFault, IsLedTo, place_of}
-use Rattle.one_box.specs.Text.{cluster_text}
+use Rattle.one_box.specs.Text.{cluster_text, served_line}
 
 -- a port that has no link and a poll that failed are told alike
 abbrev pub error_of : DeviceError → ClusterError
@@ -40,6 +44,13 @@ WritesRun text boxed (Ok given) before now = (given ≡ boxed) × Appends before
 WritesRun text boxed (Err LinkFault) before now = ⊥
 WritesRun text boxed (Err WriteFault) before now = AppendsPrefix before now text
 WritesRun text boxed (Err NoMemory) before now = WrotePrefix text before now
+
+-- The schedule that was written has no bad line, and is read as the run of these events. So what was written is the schedule, what a replay
+-- writes for it, and the last line.
+pub record Replays {S : Type 0} (m : Meaning S) (c : Configuration) (es : List Event) (h : Happened) (boxed : Boxed) (written : List ℕ)
+    : Type 0 where
+  pub read : IsReadAs m 1 c es h (printed 1 c es)
+  pub parts : written ≡ printed 1 c es ++ ((output m true (printed 1 c es)).text ++ served_line boxed.turns boxed.lost boxed.stray)
 
 -- ---- the run
 
@@ -100,8 +111,9 @@ module _ {S L : Type 0} (m : Meaning S) (v : LinkView L) (c : Configuration) (op
   ReportsOf (Some polls) None events boxed xs = ⊤
   ReportsOf (Some polls) (Some values) events boxed xs = Reports values polls events boxed xs
 
-  -- The events that were kept are not refused, and what they lead to is safe. Each actor had a link at its port, which was given
-  -- back, and the failed sends of all links are told: no more than the links counted, whatever they tell.
+  -- The events that were kept are not refused, and what they lead to is safe; there are no more of them than so many turns may have. Each
+  -- actor had a link at its port, which was given back, and the failed sends of all links are told: no more than the links counted, whatever
+  -- they tell.
   pub record Ran (polls : Option (List (List PollAnswer))) (values : Option (List ℕ)) (given_back given_back_now : List L) (boxed : Boxed)
       : Type 0 where
     pub events : List Event
@@ -110,6 +122,7 @@ module _ {S L : Type 0} (m : Meaning S) (v : LinkView L) (c : Configuration) (op
     pub safely : SafelyPassed m c events happened
     pub done : boxed.done ≡ (count_by is_accept happened.lines == length ops)
     pub spent : boxed.done ≡ false → boxed.turns ≡ turns
+    pub few : length events ≤ turns * most_of_turn
     pub nodes : List (code_node.BoxActor L)
     pub back : given_back_now ≡ given_back ++ map (λ x. x.link) nodes
     pub places : map (place_of v) nodes ≡ map (place_for base c) (actors_of c)
@@ -122,11 +135,17 @@ module _ {S L : Type 0} (m : Meaning S) (v : LinkView L) (c : Configuration) (op
   text_of events happened boxed =
       cluster_text c events (lines_text happened.lines) happened.world boxed.turns boxed.lost boxed.stray
 
-  -- by how the call ended: with a run whose text was written, or a front of it, or before anything was written
+  -- the same where the schedule has no more lines than one may have
+  abbrev pub ReplaysWithin : List Event → Happened → Boxed → Type 0
+  ReplaysWithin events happened boxed =
+      1 + length events ≤ MAX_LINES → Replays m c events happened boxed (text_of events happened boxed)
+
+  -- by how the call ended: with a run whose text was written, which replays, or a front of it, or before anything was written
   abbrev pub EndsWith : Option (List (List PollAnswer)) → Option (List ℕ) → List L → List L → Result Boxed ClusterError
       → Option (List ℕ) → Option (List ℕ) → Type 0
   EndsWith polls values given_back given_back_now (Ok boxed) before now =
       (r : Ran polls values given_back given_back_now boxed) × Appends before now (text_of r.events r.happened boxed)
+      × ReplaysWithin r.events r.happened boxed
   EndsWith polls values given_back given_back_now (Err LinkFault) before now = now ≡ before
   EndsWith polls values given_back given_back_now (Err WriteFault) before now =
       (boxed : Boxed) × (r : Ran polls values given_back given_back_now boxed) × AppendsPrefix before now (text_of r.events r.happened boxed)

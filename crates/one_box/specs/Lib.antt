@@ -2,6 +2,7 @@ pub mod Actors
 pub mod Attaching
 pub mod Boxing
 pub mod ClusterRun
+pub mod Counting
 pub mod Firing
 pub mod Progress
 pub mod Running

@@ -16,6 +16,7 @@ ghost use Rattle.one_box.specs.Attaching.{
   lost_by,
   ports_side,
 };
+ghost use Rattle.one_box.specs.Counting.{part_in, part_of};
 ghost use Rattle.one_box.specs.Showing.{links_of};
 
 use crate::node::BoxActor;
@@ -220,6 +221,8 @@ pub(crate) fn attach_all<H: Host, P: Ports>(
         (ports_side (P.to_come ports.old) (P.attached ports.old) (P.detached ports.old))
         (ports_side (P.to_come ports.new) (P.attached ports.new) (P.detached ports.new))
         nodes.new.items) }
+    ensures parts { OnOk result (map part_of nodes.new.items
+        ≡ map (part_in world.now.state) actors.now) }
     ensures holds { Holds (P.attached ports.old) (P.detached ports.old) (P.attached ports.new)
         (P.detached ports.new) nodes.new.items }
     ensures room { HasRoom (P.attached ports.new) (P.detached ports.new) nodes.new.items }

@@ -1,9 +1,10 @@
-ghost use Rattle.std.specs.Prelude.{◌≡◌, ◌+◌, ◌⊎◌, [], length, IsTrue, IsErrOf};
+ghost use Rattle.std.specs.Prelude.{◌≡◌, ◌≤◌, ◌+◌, ◌*◌, ◌⊎◌, [], length, IsTrue, IsErrOf, OnOk};
 ghost use Rattle.nop_types.specs.Headers.{gives};
 ghost use Rattle.outside.specs.Causes.{CountsFor, Rose};
 ghost use Rattle.one_box.specs.Attaching.{HasRoom, Holds};
 ghost use Rattle.one_box.specs.Boxing.{error_of, EndsWith, IsNoRun, PollFailed, RunsOr};
 ghost use Rattle.one_box.specs.ClusterRun.{opening_course};
+ghost use Rattle.one_box.specs.Counting.{turn_in};
 ghost use Rattle.one_box.specs.Showing.{course_of, links_of};
 ghost use Rattle.one_box.specs.declared.errors.ClusterError.TheVariants as errors;
 ghost use Rattle.outside.specs.declared.errors.DeviceError.TheVariants as devices;
@@ -39,6 +40,7 @@ fn run_turns<H: Host, P: Ports, C: Clock>(
         (P.fault_count ports.old) (P.fault_count ports.new)
         (P.detached ports.old) (P.detached ports.new) result (course_of course.new)
         nodes.new.items }
+    ensures few { OnOk result (length course.new.events.items ≤ turns * turn_in config) }
     ensures holds { Holds (P.attached ports.old) (P.detached ports.old) (P.attached ports.new)
         (P.detached ports.new) nodes.new.items }
     ensures room { HasRoom (P.attached ports.new) (P.detached ports.new) nodes.new.items }

@@ -1,5 +1,6 @@
 ghost use Rattle.std.specs.Prelude.{◌≡◌, ◌+◌, ◌++◌, ◌∷◌, [], IfOk, OnOk};
 ghost use Rattle.one_box.specs.ClusterRun.{opening_course};
+ghost use Rattle.one_box.specs.Counting.{AtMost};
 ghost use Rattle.one_box.specs.Showing.{course_of};
 
 use nop_types::{Config, Host, NoMemory};
@@ -44,11 +45,12 @@ impl<H: Host> Course<H> {
 
     /// Keeps an event that happened, and its lines.
     pub(crate) fn keep(&mut self, event: Event, lines: Lines) -> Result<(), NoMemory>
-        ensures { OnOk result (course_of self.new ≡ record (course_of self.old) {
+        ensures kept { OnOk result (course_of self.new ≡ record (course_of self.old) {
           events = self.old.events.items ++ event ∷ [];
           text = self.old.text.items ++ lines.text;
           accepts = self.old.accepts + lines.accepts;
         }) }
+        ensures few { AtMost 1 self.old.events.items self.new.events.items }
     {
         self.accepts = raised(self.accepts, lines.accepts)?;
         self.text.extend_from_slice(lines.text.as_slice())?;

@@ -2,6 +2,7 @@ ghost use Rattle.std.specs.Prelude.{◌≡◌, ◌<◌, IfOk, OnOk, Some};
 ghost use Rattle.std.specs.Prelude.{length, nat_le, option_map, slice_get};
 ghost use Rattle.one_box.specs.ClusterRun.{fire_due, fire_if};
 ghost use Rattle.one_box.specs.Firing.{next_after, next_event, tick_event, timer_event};
+ghost use Rattle.one_box.specs.Counting.{AtMost};
 ghost use Rattle.one_box.specs.Showing.{course_of, links_of, Acts, place_of};
 
 use crate::course::Course;
@@ -115,6 +116,7 @@ fn fire<H: Host, L: Link>(
     ensures acts { OnOk result (Acts (links_of L.Link) H.meaning
         (λ c n. fire_if H.meaning ops.now (nat_le timer.due now) c n timer.tick)
         (course_of course.old) node.old (course_of course.new) node.new) }
+    ensures few { AtMost 1 course.old.events.items course.new.events.items }
     ensures timers { node.new.timers.items ≡ node.old.timers.items }
     ensures place { place_of (links_of L.Link) node.new ≡ place_of (links_of L.Link) node.old }
 {
@@ -136,6 +138,8 @@ pub(crate) fn fire_due<H: Host, L: Link>(
     ensures acts { OnOk result (Acts (links_of L.Link) H.meaning
         (λ c n. fire_due H.meaning ops.now now n.timers c n)
         (course_of course.old) node.old (course_of course.new) node.new) }
+    ensures few { OnOk result (AtMost (length node.old.timers.items) course.old.events.items
+        course.new.events.items) }
     ensures timers { node.new.timers.items ≡ node.old.timers.items }
     ensures place { place_of (links_of L.Link) node.new ≡ place_of (links_of L.Link) node.old }
 {

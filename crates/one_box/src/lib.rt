@@ -7,7 +7,10 @@
 //! and what they lead to is safe (`SafelyPassed`). Each actor had a link at its port, which was
 //! given back. The sink has the schedule of these events, its transcript, and the line
 //! `served TURNS lost LOST stray STRAY`, where LOST is at most what all links together counted as
-//! lost; a proper prefix of that on WriteFault, and nothing on LinkFault.
+//! lost; a proper prefix of that on WriteFault, and nothing on LinkFault. The schedule that was
+//! written at Ok has no bad line, and is read as these events; what `replay` writes for it is the
+//! transcript behind it (`Replays`). That holds where it has no more lines than a schedule may have,
+//! so after any 10,000 turns: a turn has at most 92 events (`few`; `specs/Counting`).
 //!
 //! Over observable ports and clock the events are those of `cluster_run`, with its turns and
 //! strays, and the calls on each link are those of its actor, in order, without the sends that

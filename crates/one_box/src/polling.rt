@@ -1,5 +1,6 @@
 ghost use Rattle.std.specs.Prelude.{◌≡◌, OnOk};
 ghost use Rattle.one_box.specs.ClusterRun.{deliver, poll};
+ghost use Rattle.one_box.specs.Counting.{AtMost, part_of};
 ghost use Rattle.one_box.specs.Showing.{course_of, links_of, Acts, Serves, place_of};
 ghost use Rattle.network.specs.Finding.{first_index};
 
@@ -20,6 +21,8 @@ fn deliver<H: Host, L: Link>(
     ensures acts { OnOk result (Acts (links_of L.Link) H.meaning
         (λ c n. deliver H.meaning (first_index datagram.now c.world.sent) c n)
         (course_of course.old) node.old (course_of course.new) node.new) }
+    ensures few { AtMost 1 course.old.events.items course.new.events.items }
+    ensures timers { node.new.timers.items ≡ node.old.timers.items }
     ensures place { place_of (links_of L.Link) node.new ≡ place_of (links_of L.Link) node.old }
 {
     match course.world.find(datagram) {
@@ -39,6 +42,8 @@ pub(crate) fn poll<H: Host, L: Link>(
 ) -> Result<(), LinkError>
     ensures serves { Serves (links_of L.Link) H.meaning (λ c n. poll H.meaning now c n) result
         (course_of course.old) node.old (course_of course.new) node.new }
+    ensures few { AtMost 1 course.old.events.items course.new.events.items }
+    ensures part { part_of node.new ≡ part_of node.old }
     ensures place { place_of (links_of L.Link) node.new ≡ place_of (links_of L.Link) node.old }
 {
     rearm_due(&mut node.timers, now);

@@ -1,5 +1,6 @@
-ghost use Rattle.std.specs.Prelude.{◌≡◌, map};
+ghost use Rattle.std.specs.Prelude.{◌≡◌, ◌*◌, map, OnOk};
 ghost use Rattle.one_box.specs.ClusterRun.{all_accepted};
+ghost use Rattle.one_box.specs.Counting.{AtMost, turn_of};
 ghost use Rattle.one_box.specs.Running.{Runs, RunsObserved};
 ghost use Rattle.one_box.specs.Showing.{course_of, links_of, place_of};
 
@@ -37,6 +38,8 @@ pub(crate) fn take_turns<H: Host, L: Link, C: Clock>(
     ensures runs { Runs (links_of L.Link) H.meaning
         ops.now turns result (course_of course.old) nodes.old.items (course_of course.new)
         nodes.new.items }
+    ensures few { OnOk result (AtMost (turns * turn_of nodes.old.items) course.old.events.items
+        course.new.events.items) }
     ensures places { map (place_of (links_of L.Link)) nodes.new.items
         ≡ map (place_of (links_of L.Link)) nodes.old.items }
 {

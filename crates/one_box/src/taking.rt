@@ -1,5 +1,6 @@
 ghost use Rattle.std.specs.Prelude.{◌≡◌, OnOk, OnErr};
 ghost use Rattle.one_box.specs.ClusterRun.{take};
+ghost use Rattle.one_box.specs.Counting.{AtMost};
 ghost use Rattle.one_box.specs.Showing.{
   course_of,
   links_of,
@@ -36,6 +37,7 @@ fn keep_step<H: Host>(course: &mut Course<H>, event: Event) -> Result<(), NoMemo
     ensures steps { OnOk result (Steps H.meaning event (course_of course.old)
         (course_of course.new)) }
     ensures goes { OnOk result (GoesOn H.meaning (course_of course.old) (course_of course.new)) }
+    ensures few { AtMost 1 course.old.events.items course.new.events.items }
 {
     match course.world.step(&event) {
         Ok(lines) => course.keep(event, lines),
@@ -52,6 +54,7 @@ pub(crate) fn take<H: Host, L: Link>(
     requires { IsNoJunk event }
     ensures acts { OnOk result (Acts (links_of L.Link) H.meaning (λ c n. take H.meaning c n event)
         (course_of course.old) node.old (course_of course.new) node.new) }
+    ensures few { AtMost 1 course.old.events.items course.new.events.items }
     ensures timers { node.new.timers.items ≡ node.old.timers.items }
     ensures place { place_of (links_of L.Link) node.new ≡ place_of (links_of L.Link) node.old }
 {

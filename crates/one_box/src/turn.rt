@@ -1,5 +1,6 @@
-ghost use Rattle.std.specs.Prelude.{◌≡◌, map};
+ghost use Rattle.std.specs.Prelude.{◌≡◌, map, OnOk};
 ghost use Rattle.one_box.specs.ClusterRun.{node_turn, turn};
+ghost use Rattle.one_box.specs.Counting.{AtMost, part_of, turn_of};
 ghost use Rattle.one_box.specs.Showing.{course_of, links_of, Serves, Turns, place_of};
 
 use crate::course::Course;
@@ -19,6 +20,9 @@ fn node_turn<H: Host, L: Link>(
     ensures serves { Serves (links_of L.Link) H.meaning
         (λ c n. node_turn H.meaning ops.now now c n) result
         (course_of course.old) node.old (course_of course.new) node.new }
+    ensures few { OnOk result (AtMost (part_of node.old) course.old.events.items
+        course.new.events.items) }
+    ensures part { part_of node.new ≡ part_of node.old }
     ensures place { place_of (links_of L.Link) node.new ≡ place_of (links_of L.Link) node.old }
 {
     match fire_due(course, node, ops, now) {
@@ -37,6 +41,9 @@ pub(crate) fn turn<H: Host, L: Link>(
     ensures turns { Turns (links_of L.Link) H.meaning
         (λ c ns. turn H.meaning ops.now now c ns) result
         (course_of course.old) nodes.old.items (course_of course.new) nodes.new.items }
+    ensures few { OnOk result (AtMost (turn_of nodes.old.items) course.old.events.items
+        course.new.events.items) }
+    ensures parts { map part_of nodes.new.items ≡ map part_of nodes.old.items }
     ensures places { map (place_of (links_of L.Link)) nodes.new.items
         ≡ map (place_of (links_of L.Link)) nodes.old.items }
 {

@@ -5,7 +5,8 @@ ghost use Rattle.one_box.specs.Boxing.{WritesRun};
 ghost use Rattle.one_box.specs.declared.errors.ClusterError.TheVariants as errors;
 ghost use Rattle.std.specs.List.{All, flat_map};
 ghost use Rattle.schedule_text.specs.EventText.{HasLine};
-ghost use Rattle.one_box.specs.Text.{cluster_text, event_line, header_line, line_of, served_line};
+ghost use Rattle.printed_runs.specs.Printing.{event_line};
+ghost use Rattle.one_box.specs.Text.{cluster_text, line_of, served_line, IsReadBack};
 
 use crate::boxed::Boxed;
 use crate::course::Course;
@@ -15,6 +16,7 @@ use nop_types::{Config, Host, NoMemory};
 use outside::{Sink, WriteError, write_all};
 use schedule_text::{Event, event_line};
 use std::alloc::Global;
+use trace_text::header_line;
 use transcript_text::transcript_line;
 use world::final_lines;
 
@@ -54,25 +56,10 @@ fn put_line(
     Ok(())
 }
 
-/// Line 1 of the schedule, in form 1.
-#[tactic(auto, unfolding(crate::specs::Text::header_of))]
-fn put_header(config: Config, to: &mut Vec<u8>) -> Result<(), NoMemory>
-    ensures { OnOk result (to.new.items ≡ to.old.items ++ header_line config) }
-{
-    put_line(
-        b"nopaxos 1 replicas ",
-        u64::from(config.replicas()),
-        b" sequencers ",
-        u64::from(config.sequencers()),
-        b" clients ",
-        u64::from(config.clients()),
-        to,
-    )
-}
-
 fn put_events(events: &[Event], to: &mut Vec<u8>) -> Result<(), NoMemory>
     requires { All HasLine events.now }
-    ensures { OnOk result (to.new.items ≡ to.old.items ++ flat_map event_line events.now) }
+    ensures ok { OnOk result (to.new.items ≡ to.old.items ++ flat_map event_line events.now) }
+    ensures means { OnOk result (All IsReadBack events.now) }
 {
     for event in events {
         event_line(event, to)?;
@@ -98,11 +85,12 @@ fn put_all<H: Host>(
 ) -> Result<(), NoMemory>
     requires form { IsTrue (gives 1 config) }
     requires lines { All HasLine course.now.events.items }
-    ensures { OnOk result (to.new.items ≡ to.old.items ++ cluster_text config
+    ensures ok { OnOk result (to.new.items ≡ to.old.items ++ cluster_text config
         course.now.events.items course.now.text.items course.now.world.state turns lost
         course.now.stray) }
+    ensures means { OnOk result (All IsReadBack course.now.events.items) }
 {
-    put_header(config, to)?;
+    header_line(1, config, to)?;
     put_events(&course.events, to)?;
     transcript_line(1, config, to)?;
     to.extend_from_slice(&course.text)?;
@@ -131,6 +119,7 @@ pub(crate) fn write_run<H: Host, K: Sink>(
           done = taken.done;
         })
         result (K.held sink.old) (K.held sink.new) }
+    ensures means { OnOk result (All IsReadBack course.now.events.items) }
     ensures count { CountsFor (K.fault_count sink.old) (K.fault_count sink.new)
         errors.WriteFault result }
 {

@@ -97,14 +97,16 @@ fn accounts_len(clients: &[SavedClient]) -> usize
 
 fn checkpoint_len(checkpoint: &Checkpoint) -> usize
     ensures exact { result ≡ length (checkpoint_bytes checkpoint.now) }
-    ensures small { result ≤ 8 + MAX_HOST_BYTES + MAX_SERVED * (13 + WINDOW * (10 + MAX_RESULT_BYTES)) }
+    ensures small { result ≤ 8 + MAX_HOST_BYTES
+        + MAX_SERVED * (13 + WINDOW * (10 + MAX_RESULT_BYTES)) }
 {
     4 + checkpoint.host().as_slice().len() + accounts_len(checkpoint.clients())
 }
 
 fn optional_len(checkpoint: Option<&Checkpoint>) -> usize
     ensures exact { result ≡ length (optional_bytes (option_copied checkpoint.entry)) }
-    ensures small { result ≤ 8 + MAX_HOST_BYTES + MAX_SERVED * (13 + WINDOW * (10 + MAX_RESULT_BYTES)) }
+    ensures small { result ≤ 8 + MAX_HOST_BYTES
+        + MAX_SERVED * (13 + WINDOW * (10 + MAX_RESULT_BYTES)) }
 {
     match checkpoint {
         Some(checkpoint) => checkpoint_len(checkpoint),
@@ -116,7 +118,8 @@ fn optional_len(checkpoint: Option<&Checkpoint>) -> usize
 fn log_len(log: LogRef<'_>) -> usize
     requires { length log.entries.now ≤ MAX_SLOTS }
     ensures exact { result ≡ length (log_bytes (log_of log.entry)) }
-    ensures small { result ≤ 16 + MAX_HOST_BYTES + MAX_SERVED * (13 + WINDOW * (10 + MAX_RESULT_BYTES))
+    ensures small { result ≤ 16 + MAX_HOST_BYTES
+        + MAX_SERVED * (13 + WINDOW * (10 + MAX_RESULT_BYTES))
         + MAX_SLOTS * (15 + MAX_OP_BYTES) }
 {
     4 + optional_len(log.checkpoint) + entries_len(log.entries)
@@ -125,7 +128,8 @@ fn log_len(log: LogRef<'_>) -> usize
 #[tactic(auto, using(crate::proofs::SpelledLengths::body_lens))]
 fn body_len(body: &Body) -> usize
     ensures exact { result ≡ length (body_bytes body.now) }
-    ensures small { result ≤ 36 + MAX_HOST_BYTES + MAX_SERVED * (13 + WINDOW * (10 + MAX_RESULT_BYTES))
+    ensures small { result ≤ 36 + MAX_HOST_BYTES
+        + MAX_SERVED * (13 + WINDOW * (10 + MAX_RESULT_BYTES))
         + MAX_SLOTS * (15 + MAX_OP_BYTES) }
 {
     match body {
@@ -153,7 +157,8 @@ pub fn spelled_len(message: &Peer) -> usize
 pub fn log_body_len(body: LogBody<'_>) -> usize
     requires { length (log_in body).entries ≤ MAX_SLOTS }
     ensures exact { result ≡ length (body_bytes (with_log body.entry)) }
-    ensures small { result ≤ 36 + MAX_HOST_BYTES + MAX_SERVED * (13 + WINDOW * (10 + MAX_RESULT_BYTES))
+    ensures small { result ≤ 36 + MAX_HOST_BYTES
+        + MAX_SERVED * (13 + WINDOW * (10 + MAX_RESULT_BYTES))
         + MAX_SLOTS * (15 + MAX_OP_BYTES) }
 {
     match body {

@@ -38,6 +38,17 @@ polls nothing answer";
 /// What it writes.
 const READ_LINES: &str = "read c0 1 o0 6b\nanswer c0 1 o0 0 6e6f6e65\nserved 2 lost 0\n";
 
+/// A sequencer that writes a trace.
+const TRACED: &str = "\
+nopaxos sequencer --id 0 --replicas 3 --sequencers 1 --turns 1 --trace
+polls request";
+
+/// What it writes.
+const TRACED_LINES: &str = "\
+in s0 packet 4e4f030100000000000000000000000100075000016b000176
+out s0 send r* 4e4f03020000000000000001000000000000000100000000000000000000000100075000016b000176
+";
+
 /// Nodes of the other kinds, to which nothing comes.
 const NODES: [&str; 4] = [
     "nopaxos node --id 2 --replicas 3 --sequencers 1 --turns 3",
@@ -110,6 +121,7 @@ fn each_write_fails(rt: HostRuntime) {
     check_writes(&rt, rt.alloc(), REPLAY, TRANSCRIPT);
     check_writes(&rt, rt.alloc(), CLIENT, CLIENT_LINES);
     check_writes(&rt, rt.alloc(), READ, READ_LINES);
+    check_writes(&rt, rt.alloc(), TRACED, TRACED_LINES);
     let text = format!(in rt.alloc(); "{LINES}served 3 lost 0 stray 0\n").expect(&rt, "memory");
     check_writes(&rt, rt.alloc(), SMALL, &text);
     let given = failing(&rt, rt.alloc(), REPLAY, "writes 0", 0);

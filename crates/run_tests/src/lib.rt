@@ -10,3 +10,5 @@ mod faults;
 mod outcomes;
 #[cfg(test)]
 mod runs;
+#[cfg(test)]
+mod traces;

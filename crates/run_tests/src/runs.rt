@@ -44,6 +44,61 @@ writes 16 2
 => WriteFault
 transcript 1 rep|
 ----
+nopaxos audit
+reads 82
+writes 1
+schedule
+nopaxos 1 replicas 1 sequencers 1 clients 1
+in c0 submit 5000016b000176
+out c0 submit 1 5000016b000176
+out c0 send s* 4e4f030100000000000000000000000100075000016b000176
+in s0 packet 4e4f030100000000000000000000000100075000016b000176
+out s0 send r* 4e4f03020000000000000001000000000000000100000000000000000000000100075000016b000176
+=> Done
+nopaxos 1 replicas 1 sequencers 1 clients 1
+submit c0 5000016b000176
+deliver 0 s0
+audited 2
+|
+----
+nopaxos audit
+reads 7
+writes 16
+schedule
+nopaxos 1 replicas 1 sequencers 1 clients 1
+in c0 submit 5000016b000176
+out c0 submit 1 5000016b000176
+out c0 send s* 4e4f030100000000000000000000000100075000016b000176
+in s0 packet 4e4f030100000000000000000000000100075000016b000177
+out s0 send r* 4e4f03020000000000000001000000000000000100000000000000000000000100075000016b000176
+=> Refuted
+audit line 5 fault 3
+|
+----
+nopaxos audit
+reads 82 3
+schedule
+nopaxos 1 replicas 1 sequencers 1 clients 1
+in c0 submit 5000016b000176
+out c0 submit 1 5000016b000176
+out c0 send s* 4e4f030100000000000000000000000100075000016b000176
+in s0 packet 4e4f030100000000000000000000000100075000016b000176
+out s0 send r* 4e4f03020000000000000001000000000000000100000000000000000000000100075000016b000176
+=> ReadFault
+|
+----
+nopaxos audit
+writes 16 2
+schedule
+nopaxos 1 replicas 1 sequencers 1 clients 1
+in c0 submit 5000016b000176
+out c0 submit 1 5000016b000176
+out c0 send s* 4e4f030100000000000000000000000100075000016b000176
+in s0 packet 4e4f030100000000000000000000000100075000016b000176
+out s0 send r* 4e4f03020000000000000001000000000000000100000000000000000000000100075000016b000176
+=> WriteFault
+nopaxos 1 replic|
+----
 nopaxos check
 reads 82
 writes 16
@@ -383,7 +438,7 @@ read c0 1 o0 6b
 /// How words end that are not taken.
 const USAGE: &str = "\
 Usage
-usage: nopaxos replay | gen | node | sequencer | controller | client | cluster | check | observer | read
+usage: nopaxos replay | gen | node | sequencer | controller | client | cluster | check | observer | read | audit
 |
 ";
 
@@ -432,6 +487,10 @@ nopaxos cluster --replicas 3 --sequencers 1 --clients 17 50
 nopaxos cluster --replicas 3 --sequencers 1 --clients 1 --turns 0 50
 nopaxos cluster --replicas 3 --sequencers 1 --clients 1 --turns 10001 50
 nopaxos cluster --replicas 3 --sequencers 1 --clients 1 --observers 1 50
+nopaxos node --id 0 --replicas 3 --sequencers 1 --trace --trace
+nopaxos node --id 0 --replicas 3 --sequencers 1 --trace=1
+nopaxos node --id 0 --replicas 3 --sequencers 1 --trace true
+nopaxos cluster --replicas 3 --sequencers 1 --clients 1 --trace 50
 nopaxos node --id 0 --replicas 3 --sequencers 1 --observers
 nopaxos node --id 0 --replicas 3 --sequencers 1 --observers 5
 nopaxos node --id 0 --replicas 3 --sequencers 1 --observers 1 --observers 1
@@ -454,7 +513,7 @@ nopaxos read --id 0 --observer 0 --replicas 3 --sequencers 1 6b 6b
 nopaxos read --id 0 --observer 0 --replicas 3 --sequencers 1 6b6b6b6b6b6b6b6b6b6b6b6b6b6b6b6b6b6b6b6b6b6b6b6b6b6b6b6b6b6b6b6b6b6b6b6b6b6b6b6b6b6b6b6b6b6b6b6b6b6b6b6b6b6b6b6b6b6b6b6b6b6b6b6b6b";
 
 /// A run of the table. Where it has no schedule, the source has the one put.
-fn check_run(rt: &impl Abort, alloc: Global, run: &str) {
+pub fn check_run(rt: &impl Abort, alloc: Global, run: &str) {
     let (head, wanted) = run.split_once("=> ").expect(rt, "a run");
     let (head, schedule) = head.split_once("schedule\n").unwrap_or((head, ONE_PUT));
     check_outcome(rt, alloc, head, schedule, wanted);

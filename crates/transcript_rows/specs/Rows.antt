@@ -1,5 +1,5 @@
 -- The text of a row, and the ranges of its numbers.
-use Rattle.std.specs.Prelude.{◌≡◌, ℕ, ◌<◌, ◌≤◌, ◌^◌, ⊤, List, [], ◌∷◌, length, codes, decimal, Bool, true, ◌&&◌, nat_lt, nat_le}
+use Rattle.std.specs.Prelude.{◌≡◌, ℕ, ◌<◌, ◌≤◌, ◌^◌, ⊤, List, [], ◌∷◌, length, codes, decimal, Bool, true, false, ◌&&◌, nat_lt, nat_le}
 use Rattle.hex.specs.Hex.{IsBytes}
 use Rattle.nop_types.specs.declared.limits.TheConstants.{MAX_CLIENTS, MAX_KEY_BYTES, MAX_OP_BYTES, MAX_REPLICAS, MAX_RESULT_BYTES}
 use Rattle.nop_types.specs.declared.limits.TheConstants.{MAX_SEQUENCERS, MAX_CONTROLLERS, MAX_OBSERVERS}
@@ -63,6 +63,15 @@ row_fields End = []
 -- with the end of the line
 unfoldable pub row_text : Row → List ℕ
 row_text row = line_of (row_word row) (row_fields row)
+
+-- how an actor stands at the end, what its log has, the history, and the last row
+abbrev pub is_final : Row → Bool
+is_final (State replica crashed status view len sync_point) = true
+is_final (Slot replica slot entry) = true
+is_final (Watching observer crashed position) = true
+is_final (Member place request) = true
+is_final End = true
+is_final _ = false
 
 -- ---- its ranges
 

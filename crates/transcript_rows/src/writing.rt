@@ -1,5 +1,5 @@
-ghost use Rattle.std.specs.Prelude.{◌≡◌, ◌++◌, OnOk, OnErr};
-ghost use Rattle.transcript_rows.specs.Rows.{row_text};
+ghost use Rattle.std.specs.Prelude.{◌≡◌, ◌++◌, IsTrue, OnOk, OnErr};
+ghost use Rattle.transcript_rows.specs.Rows.{is_final, row_text};
 ghost use Rattle.transcript_rows.specs.declared.row.Row.TheVariants as rows;
 
 use crate::row::Row;
@@ -117,8 +117,40 @@ fn put_slot(replica: u8, slot: u32, entry: &Entry, to: &mut Vec<u8>) -> Result<(
     }
 }
 
+/// Appends the line of a row of the end of a run.
+#[tactic(auto, unfolding(crate::specs::Rows::row_text, transcript_text::specs::Transcript::history_line, transcript_text::specs::Transcript::end_line))]
+fn write_final_row(row: &Row, to: &mut Vec<u8>) -> Result<(), NoMemory>
+    requires { IsTrue (is_final row.now) }
+    ensures ok { OnOk result (to.new.items ≡ to.old.items ++ row_text row.now) }
+    ensures err { OnErr result (to.new.items ≡ to.old.items) }
+{
+    match row {
+        Row::State {
+            replica,
+            crashed,
+            status,
+            view,
+            len,
+            sync_point,
+        } => put_state(*replica, *crashed, *status, *view, *len, *sync_point, to),
+        Row::Slot {
+            replica,
+            slot,
+            entry,
+        } => put_slot(*replica, *slot, entry, to),
+        Row::Watching {
+            observer,
+            crashed,
+            position,
+        } => put_watching(*observer, *crashed, *position, to),
+        Row::Member { place, request } => history_line(*place, request, to),
+        Row::End => end_line(to),
+        _ => unreachable!(),
+    }
+}
+
 /// Appends the line of a row, by the writers of transcripts.
-#[tactic(auto, unfolding(crate::specs::Rows::row_text, transcript_text::specs::Transcript::dead_line, transcript_text::specs::Transcript::submit_line, transcript_text::specs::Transcript::accept_line, transcript_text::specs::Transcript::busy_line, transcript_text::specs::Transcript::read_line, transcript_text::specs::Transcript::history_line, transcript_text::specs::Transcript::end_line))]
+#[tactic(auto, unfolding(crate::specs::Rows::row_text, transcript_text::specs::Transcript::dead_line, transcript_text::specs::Transcript::submit_line, transcript_text::specs::Transcript::accept_line, transcript_text::specs::Transcript::busy_line, transcript_text::specs::Transcript::read_line))]
 pub fn write_row(row: &Row, to: &mut Vec<u8>) -> Result<(), NoMemory>
     ensures ok { OnOk result (to.new.items ≡ to.old.items ++ row_text row.now) }
     ensures err { OnErr result (to.new.items ≡ to.old.items) }
@@ -148,25 +180,6 @@ pub fn write_row(row: &Row, to: &mut Vec<u8>) -> Result<(), NoMemory>
             kind,
             len,
         } => put_sent(*index, *from, *dest, *kind, *len, to),
-        Row::State {
-            replica,
-            crashed,
-            status,
-            view,
-            len,
-            sync_point,
-        } => put_state(*replica, *crashed, *status, *view, *len, *sync_point, to),
-        Row::Slot {
-            replica,
-            slot,
-            entry,
-        } => put_slot(*replica, *slot, entry, to),
-        Row::Watching {
-            observer,
-            crashed,
-            position,
-        } => put_watching(*observer, *crashed, *position, to),
-        Row::Member { place, request } => history_line(*place, request, to),
-        Row::End => end_line(to),
+        _ => write_final_row(row, to),
     }
 }

@@ -1,10 +1,10 @@
 -- Effects one after another.
 use Rattle.std.proofs.Common.{◌≡◌, ℕ, zero, suc, ◌+◌, ◌<◌, List, [], ◌∷◌, ◌++◌, map, length, get_or, take, drop}
-use Rattle.std.proofs.Common.{Option, Some, None, Result, Ok, Err, refl, ap, sym, ◌∙◌, append_assoc, append-nil, arith}
+use Rattle.std.proofs.Common.{true, false, Option, Some, None, Result, Ok, Err, refl, ap, sym, ◌∙◌, append_assoc, append-nil, arith}
 use Rattle.std.proofs.KnownBytes.{Appends-trans}
 use Rattle.std.specs.Io.KnownBytes.{Appends}
+use Rattle.std.specs.List.{flat_map}
 use Rattle.std.proofs.lemmas.List.{take_more, take-append-drop}
-use Rattle.nop_types.specs.declared.output.Dest.{Dest}
 use Rattle.nop_types.specs.declared.output.Out.TheVariants as outs
 use Rattle.udp_node.specs.Ports.{datagrams_to}
 use Rattle.nop_types.specs.declared.output.Out.{Out}
@@ -14,7 +14,8 @@ use Rattle.outside.specs.declared.link.LinkCall.{LinkCall}
 use Rattle.outside.specs.declared.link.LinkCall.TheVariants.{Polled}
 use Rattle.udp_node.specs.declared.address.Address.{Address}
 use Rattle.udp_node.specs.Effects.{Effect, Call, Line, effects, effects_of, calls, lines, first_line, Done, Stopped, StoppedInLine, Stops}
-use Rattle.udp_node.specs.Effects.{Act, act_effects, effects_by, Carries, Writes}
+use Rattle.udp_node.specs.Effects.{Act, Polling, Stepping, Step, act_effects, effects_by, step_effects, step_text, steps_in, sends_of, sends_in}
+use Rattle.udp_node.specs.Effects.{Carries, Writes}
 use Rattle.udp_node.specs.Sends.{LinkSide, Sends, SendsPrefix}
 use Rattle.udp_node.proofs.SendLemmas.{sends_then, no_sends}
 
@@ -47,11 +48,6 @@ first_line_map (d ∷ ds) = refl
 pub Appends_none : (s : Option (List ℕ)) → Appends s s []
 Appends_none None = tt
 Appends_none (Some xs) = sym (append-nil xs)
-
-pub effects_append : (at : Address) (xs ys : List Out) → effects at (xs ++ ys) ≡ effects at xs ++ effects at ys
-effects_append at [] ys = refl
-effects_append at (x ∷ xs) ys =
-    ap (λ es. effects_of at x ++ es) (effects_append at xs ys) ∙ sym (append_assoc (effects_of at x) (effects at xs) (effects at ys))
 
 pub done_then : (xs ys : List Effect) (a b c : LinkSide) (h i j : Option (List ℕ)) → Done xs a b h i → Done ys b c i j
     → Done (xs ++ ys) a c h j
@@ -144,33 +140,38 @@ stops_more xs ys Failed a b h i one =
     one.stopped.lines one.below
 stops_more xs ys NoMemory a b h i one = stopped_more xs ys a b h i one
 
+pub carries_then : {T : Type 0} (xs ys : List Effect) (r : Result T DeviceError) (a b c : LinkSide) (h i j : Option (List ℕ))
+    → Done xs a b h i → Carries ys r b c i j → Carries (xs ++ ys) r a c h j
+carries_then xs ys (Ok t) a b c h i j one two = done_then xs ys a b c h i j one two
+carries_then xs ys (Err e) a b c h i j one two = stops_then xs ys e a b c h i j one two
+
 -- ---- acts in order
 
-pub acts_append : (at : Address) (xs ys : List Act) → effects_by at (xs ++ ys) ≡ effects_by at xs ++ effects_by at ys
-acts_append at [] ys = refl
-acts_append at (x ∷ xs) ys =
-    ap (λ es. act_effects at x ++ es) (acts_append at xs ys)
-    ∙ sym (append_assoc (act_effects at x) (effects_by at xs) (effects_by at ys))
+pub acts_append : (asks : Step → List Effect) (xs ys : List Act) → effects_by asks (xs ++ ys) ≡ effects_by asks xs ++ effects_by asks ys
+acts_append asks [] ys = refl
+acts_append asks (x ∷ xs) ys =
+    ap (λ es. act_effects asks x ++ es) (acts_append asks xs ys)
+    ∙ sym (append_assoc (act_effects asks x) (effects_by asks xs) (effects_by asks ys))
 
-pub acts_done : (at : Address) (xs ys : List Act) (a b c : LinkSide) (h i j : Option (List ℕ)) → Done (effects_by at xs) a b h i
-    → Done (effects_by at ys) b c i j → Done (effects_by at (xs ++ ys)) a c h j
-acts_done at xs ys a b c h i j one two =
-    rw (acts_append at xs ys) (done_then (effects_by at xs) (effects_by at ys) a b c h i j one two)
+pub acts_done : (asks : Step → List Effect) (xs ys : List Act) (a b c : LinkSide) (h i j : Option (List ℕ)) → Done (effects_by asks xs) a b h i
+    → Done (effects_by asks ys) b c i j → Done (effects_by asks (xs ++ ys)) a c h j
+acts_done asks xs ys a b c h i j one two =
+    rw (acts_append asks xs ys) (done_then (effects_by asks xs) (effects_by asks ys) a b c h i j one two)
 
-pub acts_stopped : (at : Address) (xs ys : List Act) (a b c : LinkSide) (h i j : Option (List ℕ)) → Done (effects_by at xs) a b h i
-    → Stopped (effects_by at ys) b c i j → Stopped (effects_by at (xs ++ ys)) a c h j
-acts_stopped at xs ys a b c h i j one two =
-    rw (acts_append at xs ys) (stopped_then (effects_by at xs) (effects_by at ys) a b c h i j one two)
+pub acts_stopped : (asks : Step → List Effect) (xs ys : List Act) (a b c : LinkSide) (h i j : Option (List ℕ)) → Done (effects_by asks xs) a b h i
+    → Stopped (effects_by asks ys) b c i j → Stopped (effects_by asks (xs ++ ys)) a c h j
+acts_stopped asks xs ys a b c h i j one two =
+    rw (acts_append asks xs ys) (stopped_then (effects_by asks xs) (effects_by asks ys) a b c h i j one two)
 
-pub acts_stop : (at : Address) (xs ys : List Act) (e : DeviceError) (a b c : LinkSide) (h i j : Option (List ℕ))
-    → Done (effects_by at xs) a b h i → Stops (effects_by at ys) e b c i j → Stops (effects_by at (xs ++ ys)) e a c h j
-acts_stop at xs ys e a b c h i j one two =
-    rw (acts_append at xs ys) (stops_then (effects_by at xs) (effects_by at ys) e a b c h i j one two)
+pub acts_stop : (asks : Step → List Effect) (xs ys : List Act) (e : DeviceError) (a b c : LinkSide) (h i j : Option (List ℕ))
+    → Done (effects_by asks xs) a b h i → Stops (effects_by asks ys) e b c i j → Stops (effects_by asks (xs ++ ys)) e a c h j
+acts_stop asks xs ys e a b c h i j one two =
+    rw (acts_append asks xs ys) (stops_then (effects_by asks xs) (effects_by asks ys) e a b c h i j one two)
 
-pub acts_stop_more : (at : Address) (xs ys : List Act) (e : DeviceError) (a b : LinkSide) (h i : Option (List ℕ))
-    → Stops (effects_by at xs) e a b h i → Stops (effects_by at (xs ++ ys)) e a b h i
-acts_stop_more at xs ys e a b h i one =
-    rw (acts_append at xs ys) (stops_more (effects_by at xs) (effects_by at ys) e a b h i one)
+pub acts_stop_more : (asks : Step → List Effect) (xs ys : List Act) (e : DeviceError) (a b : LinkSide) (h i : Option (List ℕ))
+    → Stops (effects_by asks xs) e a b h i → Stops (effects_by asks (xs ++ ys)) e a b h i
+acts_stop_more asks xs ys e a b h i one =
+    rw (acts_append asks xs ys) (stops_more (effects_by asks xs) (effects_by asks ys) e a b h i one)
 
 -- ---- one output
 
@@ -203,12 +204,6 @@ wrote_line line (Err NoMemory) a h i one =
 pub nothing_done : (es : List Effect) (a : LinkSide) (h : Option (List ℕ)) → Stopped es a a h h
 nothing_done es a h = record { prefix = []; rest = es; split = refl; count = 0; sends = no_sends a; lines = Appends_none h }
 
-pub posted_as : (at : Address) (out : Out) (dest : Dest) (shown bytes : List ℕ) (a b : LinkSide) (h : Option (List ℕ))
-    → out ≡ outs.Send dest bytes → shown ≡ bytes → Sends (datagrams_to at dest shown) a b → Done (effects_of at out) a b h h
-posted_as at out dest shown bytes a b h is same sends =
-    let here : Sends (datagrams_to at dest bytes) a b = rw same at sends in
-    rw is (posted (datagrams_to at dest bytes) a b h here)
-
 -- the link was polled
 pub polled_done : (a b : LinkSide) (h : Option (List ℕ)) → Sends (Polled ∷ []) a b → Done (Call Polled ∷ []) a b h h
 polled_done a b h sends = record { sends = sends; lines = Appends_none h }
@@ -221,29 +216,81 @@ done_quiet es a b c h i one two =
 
 -- ---- outputs in order
 
-effects_more : (at : Address) (os : List Out) (o : Out) → effects at (os ++ o ∷ []) ≡ effects at os ++ effects_of at o
-effects_more at os o =
-    let one : effects_of at o ++ [] ≡ effects_of at o = append-nil (effects_of at o) in
-    effects_append at os (o ∷ []) ∙ rw one refl
+module _ (f : Out → List Effect) where
+  pub each_append : (xs ys : List Out) → flat_map f (xs ++ ys) ≡ flat_map f xs ++ flat_map f ys
+  each_append [] ys = refl
+  each_append (x ∷ xs) ys = ap (λ es. f x ++ es) (each_append xs ys) ∙ sym (append_assoc (f x) (flat_map f xs) (flat_map f ys))
 
-effects_next : (at : Address) (os : List Out) (i : ℕ) (o : Out) → i < length os → o ≡ get_or os i o
-    → effects at (take (i + 1) os) ≡ effects at (take i os) ++ effects_of at o
-effects_next at os i o within is =
-    let e : take (i + 1) os ≡ take i os ++ o ∷ [] = rw (← is) at (take_more os i o within) in
-    rw e (effects_more at (take i os) o)
+  each_more : (os : List Out) (o : Out) → flat_map f (os ++ o ∷ []) ≡ flat_map f os ++ f o
+  each_more os o =
+      let one : f o ++ [] ≡ f o = append-nil (f o) in
+      each_append os (o ∷ []) ∙ rw one refl
 
-pub out_done : (at : Address) (os : List Out) (i : ℕ) (o : Out) (a b c : LinkSide) (h j k : Option (List ℕ)) → i < length os
-    → o ≡ get_or os i o → Done (effects at (take i os)) a b h j → Done (effects_of at o) b c j k
-    → Done (effects at (take (i + 1) os)) a c h k
-out_done at os i o a b c h j k within is one two =
-    rw (effects_next at os i o within is) (done_then (effects at (take i os)) (effects_of at o) a b c h j k one two)
+  each_next : (os : List Out) (i : ℕ) (o : Out) → i < length os → o ≡ get_or os i o
+      → flat_map f (take (i + 1) os) ≡ flat_map f (take i os) ++ f o
+  each_next os i o within is =
+      let e : take (i + 1) os ≡ take i os ++ o ∷ [] = rw (← is) at (take_more os i o within) in
+      rw e (each_more (take i os) o)
 
-pub out_stopped : (e : DeviceError) (at : Address) (os : List Out) (i : ℕ) (o : Out) (a b c : LinkSide) (h j k : Option (List ℕ))
-    → i < length os → o ≡ get_or os i o → Done (effects at (take i os)) a b h j → Stops (effects_of at o) e b c j k
-    → Stops (effects at os) e a c h k
-out_stopped e at os i o a b c h j k within is one two =
-    let all : effects at os ≡ (effects at (take i os) ++ effects_of at o) ++ effects at (drop (i + 1) os) =
-    ap (effects at) (sym (take-append-drop (i + 1) os)) ∙ effects_append at (take (i + 1) os) (drop (i + 1) os)
-    ∙ ap (λ es. es ++ effects at (drop (i + 1) os)) (effects_next at os i o within is) in
-    rw all (stops_more (effects at (take i os) ++ effects_of at o) (effects at (drop (i + 1) os)) e a c h k
-    (stops_then (effects at (take i os)) (effects_of at o) e a b c h j k one two))
+  pub out_done : (os : List Out) (i : ℕ) (o : Out) (a b c : LinkSide) (h j k : Option (List ℕ)) → i < length os
+      → o ≡ get_or os i o → Done (flat_map f (take i os)) a b h j → Done (f o) b c j k
+      → Done (flat_map f (take (i + 1) os)) a c h k
+  out_done os i o a b c h j k within is one two =
+      rw (each_next os i o within is) (done_then (flat_map f (take i os)) (f o) a b c h j k one two)
+
+  pub out_stopped : (e : DeviceError) (os : List Out) (i : ℕ) (o : Out) (a b c : LinkSide) (h j k : Option (List ℕ))
+      → i < length os → o ≡ get_or os i o → Done (flat_map f (take i os)) a b h j → Stops (f o) e b c j k
+      → Stops (flat_map f os) e a c h k
+  out_stopped e os i o a b c h j k within is one two =
+      let all : flat_map f os ≡ (flat_map f (take i os) ++ f o) ++ flat_map f (drop (i + 1) os) =
+      ap (flat_map f) (sym (take-append-drop (i + 1) os)) ∙ each_append (take (i + 1) os) (drop (i + 1) os)
+      ∙ ap (λ es. es ++ flat_map f (drop (i + 1) os)) (each_next os i o within is) in
+      rw all (stops_more (flat_map f (take i os) ++ f o) (flat_map f (drop (i + 1) os)) e a c h k
+      (stops_then (flat_map f (take i os)) (f o) e a b c h j k one two))
+
+-- ---- traced or not, the same is sent
+
+calls_of_sends : (at : Address) (o : Out) → calls (sends_of at o) ≡ calls (effects_of at o)
+calls_of_sends at (outs.Send dest bytes) = refl
+calls_of_sends at _ = refl
+
+calls_of_all : (at : Address) (os : List Out) → calls (sends_in at os) ≡ calls (effects at os)
+calls_of_all at [] = refl
+calls_of_all at (o ∷ os) =
+    rw (calls_append (sends_of at o), calls_append (effects_of at o), calls_of_sends at o, calls_of_all at os) refl
+
+act_calls : (at : Address) (x : Act) → calls (act_effects (step_effects true at) x) ≡ calls (act_effects (step_effects false at) x)
+act_calls at Polling = refl
+act_calls at (Stepping x) = calls_of_all at x.outs
+
+pub same_calls : (at : Address) (acts : List Act)
+    → calls (effects_by (step_effects true at) acts) ≡ calls (effects_by (step_effects false at) acts)
+same_calls at [] = refl
+same_calls at (x ∷ xs) =
+    rw (
+      calls_append (act_effects (step_effects true at) x),
+      calls_append (act_effects (step_effects false at) x),
+      act_calls at x,
+      same_calls at xs,
+    ) refl
+
+-- ---- the lines of a node that is traced
+
+no_lines : (at : Address) (o : Out) → lines (sends_of at o) ≡ []
+no_lines at (outs.Send dest bytes) = lines_map (datagrams_to at dest bytes)
+no_lines at _ = refl
+
+no_lines_in : (at : Address) (os : List Out) → lines (sends_in at os) ≡ []
+no_lines_in at [] = refl
+no_lines_in at (o ∷ os) = rw (lines_append (sends_of at o), no_lines at o, no_lines_in at os) refl
+
+pub traced_lines : (at : Address) (acts : List Act)
+    → lines (effects_by (step_effects true at) acts) ≡ flat_map (step_text at.own) (steps_in acts)
+traced_lines at [] = refl
+traced_lines at (Polling ∷ xs) = traced_lines at xs
+traced_lines at (Stepping x ∷ xs) =
+    rw (
+      lines_append (sends_in at x.outs),
+      no_lines_in at x.outs,
+      traced_lines at xs,
+    ) refl

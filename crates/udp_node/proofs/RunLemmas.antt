@@ -12,11 +12,10 @@ use Rattle.outside.specs.declared.link.PollAnswer.{PollAnswer}
 use Rattle.outside.specs.declared.link.PollAnswer.TheVariants.{Failure}
 use Rattle.outside.specs.Causes.{next_count}
 use Rattle.outside.specs.declared.link.LinkCall.{LinkCall}
-use Rattle.udp_node.specs.declared.address.Address.{Address}
 use Rattle.udp_node.specs.declared.errors.ServeError.{ServeError}
 use Rattle.udp_node.specs.declared.errors.ServeError.TheVariants.{LinkFault, WriteFault, NoMemory}
 use Rattle.udp_node.specs.declared.firing.Timer.{Timer}
-use Rattle.udp_node.specs.Effects.{Act, effects_by, Done, Stops}
+use Rattle.udp_node.specs.Effects.{Effect, Act, Step, effects_by, Done, Stops}
 use Rattle.udp_node.specs.Folding.{folded, taking, Ran}
 use Rattle.udp_node.specs.NodeRun.{NodeRun, turns_from, node_run, turn_then, after_turn, with_acts, ServesRun, ServesObserved, ServesAfter}
 use Rattle.udp_node.specs.NodeRun.{ServedRun, Broke}
@@ -69,7 +68,7 @@ counted_is n (Found k ∷ ts) most =
 
 -- ---- runs
 
-module _ {S : Type 0} (next : S → Given → S × List Out) (is_done : S → Bool) (at : Address) where
+module _ {S : Type 0} (next : S → Given → S × List Out) (is_done : S → Bool) (asks : Step → List Effect) where
   -- the state after a turn, and the acts of it
   abbrev after : S → ℕ → List Timer → PollAnswer → S × List Act
   after s now ts answer = turn_of next s now ts answer
@@ -89,7 +88,7 @@ module _ {S : Type 0} (next : S → Given → S × List Out) (is_done : S → Bo
 
   pub going_start : (timers : List (Tick × ℕ)) (turns : ℕ) (s : S) (o : Option (List PollAnswer)) (v w : Option (List ℕ)) (ts : List Timer)
       (now : ℕ) (a : LinkSide) (h : Option (List ℕ)) → ReadsTime v w now → ts ≡ map (armed now) timers
-      → Going next is_done at timers turns s o v 0 s ts now o w a a h h
+      → Going next is_done asks timers turns s o v 0 s ts now o w a a h h
   going_start timers turns s None v w ts now a h time first = tt
   going_start timers turns s (Some answers) None w ts now a h time first = tt
   going_start timers turns s (Some answers) (Some values) w ts now a h time first =
@@ -145,22 +144,22 @@ module _ {S : Type 0} (next : S → Given → S × List Out) (is_done : S → Bo
   outs_prefix false true os r = ([], sym (append-nil os))
   outs_prefix false false os r = (r.acts, refl)
 
-  done_more : (outs os : List Act) (a b c : LinkSide) (h i j : Option (List ℕ)) → Done (effects_by at outs) a b h i
-      → Done (effects_by at os) b c i j → Done (effects_by at (outs ++ os)) a c h j
-  done_more outs os a b c h i j one two = acts_done at outs os a b c h i j one two
+  done_more : (outs os : List Act) (a b c : LinkSide) (h i j : Option (List ℕ)) → Done (effects_by asks outs) a b h i
+      → Done (effects_by asks os) b c i j → Done (effects_by asks (outs ++ os)) a c h j
+  done_more outs os a b c h i j one two = acts_done asks outs os a b c h i j one two
 
   going_on : (r : NodeRun) (turns taken : ℕ) (s t : S) (ts us : List Timer) (now then time : ℕ) (o later : Option (List PollAnswer))
       (v w : Option (List ℕ)) (a b c : LinkSide) (h i j : Option (List ℕ))
-      → GoingOn next is_done at r taken (turns - taken) s ts now o v a b h i → taken < turns → Turned next at s t now ts us o later b c i j
+      → GoingOn next is_done asks r taken (turns - taken) s ts now o v a b h i → taken < turns → Turned next asks s t now ts us o later b c i j
       → is_done t ≡ false → ReadsTime v w time → then ≡ max now time
-      → GoingOn next is_done at r (taken + 1) (turns - (taken + 1)) t us then later w a c h j
+      → GoingOn next is_done asks r (taken + 1) (turns - (taken + 1)) t us then later w a c h j
   going_on r turns taken s t ts us now then time o later v w a b c h i j g within turned goes clock greatest =
       let some : 0 < turns - taken = omega (arith, within) in
       let left : turns - (taken + 1) ≡ turns - taken - 1 = omega (arith, within) in
       let took : Takes (Some g.answers) later turned.answer = rw g.answers_observed at turned.taken in
       let observed : ReadsTime (Some g.values) w time = rw g.values_observed at clock in
       let state : t ≡ (after s now ts (next_poll g.answers)).0 = rw took.0 at turned.state in
-      let done : Done (effects_by at (after s now ts (next_poll g.answers)).1) b c i j = rw took.0 at turned.done in
+      let done : Done (effects_by asks (after s now ts (next_poll g.answers)).1) b c i j = rw took.0 at turned.done in
       let works : is_failure (next_poll g.answers) ≡ false = rw took.0 at turned.works in
       let open_ : is_done (after s now ts (next_poll g.answers)).0 ≡ false = rw state at goes in
       record {
@@ -177,9 +176,9 @@ module _ {S : Type 0} (next : S → Given → S × List Out) (is_done : S → Bo
 
   pub going_turn : (timers : List (Tick × ℕ)) (turns : ℕ) (s0 : S) (o0 : Option (List PollAnswer)) (v0 : Option (List ℕ)) (taken : ℕ)
       (s t : S) (ts us : List Timer) (now then time : ℕ) (o later : Option (List PollAnswer)) (v w : Option (List ℕ)) (a b c : LinkSide)
-      (h i j : Option (List ℕ)) → Going next is_done at timers turns s0 o0 v0 taken s ts now o v a b h i → taken < turns
-      → Turned next at s t now ts us o later b c i j → is_done t ≡ false → ReadsTime v w time → then ≡ max now time
-      → Going next is_done at timers turns s0 o0 v0 (taken + 1) t us then later w a c h j
+      (h i j : Option (List ℕ)) → Going next is_done asks timers turns s0 o0 v0 taken s ts now o v a b h i → taken < turns
+      → Turned next asks s t now ts us o later b c i j → is_done t ≡ false → ReadsTime v w time → then ≡ max now time
+      → Going next is_done asks timers turns s0 o0 v0 (taken + 1) t us then later w a c h j
   going_turn timers turns s0 None v0 taken s t ts us now then time o later v w a b c h i j g within turned goes clock greatest = tt
   going_turn timers turns s0 (Some x) None taken s t ts us now then time o later v w a b c h i j g within turned goes clock greatest = tt
   going_turn timers turns s0 (Some x) (Some y) taken s t ts us now then time o later v w a b c h i j g within turned goes clock greatest =
@@ -195,10 +194,10 @@ module _ {S : Type 0} (next : S → Given → S × List Out) (is_done : S → Bo
         turns = n;
         done = d;
         broken = false;
-      } → Done (effects_by at outs) a c h i → record b {
+      } → Done (effects_by asks outs) a c h i → record b {
         lost =
             c.lost;
-      } ≡ c → ServedRun at r (record { turns = n; lost = c.lost; done = d }) a (record b { lost = c.lost }) h i
+      } ≡ c → ServedRun asks r (record { turns = n; lost = c.lost; done = d }) a (record b { lost = c.lost }) h i
   served_run r outs n d a b c h i e done same = record {
     turns = sym (ap (λ x. x.turns) e);
     done = sym (ap (λ x. x.done) e);
@@ -208,14 +207,14 @@ module _ {S : Type 0} (next : S → Given → S × List Out) (is_done : S → Bo
 
   served_done : (r : NodeRun) (turns taken : ℕ) (s t : S) (ts us : List Timer) (now : ℕ) (o later : Option (List PollAnswer))
       (v : Option (List ℕ)) (a b c d : LinkSide) (h i j : Option (List ℕ))
-      → GoingOn next is_done at r taken (turns - taken) s ts now o v a b h i → taken < turns → Turned next at s t now ts us o later b c i j
+      → GoingOn next is_done asks r taken (turns - taken) s ts now o v a b h i → taken < turns → Turned next asks s t now ts us o later b c i j
       → is_done t ≡ true → record d { lost = c.lost } ≡ c
-      → ServedRun at r (record { turns = taken + 1; lost = c.lost; done = true }) a (record d { lost = c.lost }) h j
+      → ServedRun asks r (record { turns = taken + 1; lost = c.lost; done = true }) a (record d { lost = c.lost }) h j
   served_done r turns taken s t ts us now o later v a b c d h i j g within turned ends same =
       let some : 0 < turns - taken = omega (arith, within) in
       let took : Takes (Some g.answers) later turned.answer = rw g.answers_observed at turned.taken in
       let state : t ≡ (after s now ts (next_poll g.answers)).0 = rw took.0 at turned.state in
-      let done : Done (effects_by at (after s now ts (next_poll g.answers)).1) b c i j = rw took.0 at turned.done in
+      let done : Done (effects_by asks (after s now ts (next_poll g.answers)).1) b c i j = rw took.0 at turned.done in
       let works : is_failure (next_poll g.answers) ≡ false = rw took.0 at turned.works in
       let closed : is_done (after s now ts (next_poll g.answers)).0 ≡ true = rw state at ends in
       served_run r (g.so_far ++ (after s now ts (next_poll g.answers)).1) (taken + 1) true a d c h j
@@ -224,9 +223,9 @@ module _ {S : Type 0} (next : S → Given → S × List Out) (is_done : S → Bo
 
   pub serves_done : (timers : List (Tick × ℕ)) (turns : ℕ) (s0 : S) (o0 : Option (List PollAnswer)) (v0 : Option (List ℕ)) (taken : ℕ)
       (s t : S) (ts us : List Timer) (now : ℕ) (o later : Option (List PollAnswer)) (v : Option (List ℕ)) (a b c d : LinkSide)
-      (h i j : Option (List ℕ)) → Going next is_done at timers turns s0 o0 v0 taken s ts now o v a b h i → taken < turns
-      → Turned next at s t now ts us o later b c i j → is_done t ≡ true → record d { lost = c.lost } ≡ c
-      → ServesObserved next is_done timers at turns s0 o0 v0 (Ok (record { turns = taken + 1; lost = c.lost; done = true })) a d h j
+      (h i j : Option (List ℕ)) → Going next is_done asks timers turns s0 o0 v0 taken s ts now o v a b h i → taken < turns
+      → Turned next asks s t now ts us o later b c i j → is_done t ≡ true → record d { lost = c.lost } ≡ c
+      → ServesObserved next is_done timers asks turns s0 o0 v0 (Ok (record { turns = taken + 1; lost = c.lost; done = true })) a d h j
   serves_done timers turns s0 None v0 taken s t ts us now o later v a b c d h i j g within turned ends same = tt
   serves_done timers turns s0 (Some x) None taken s t ts us now o later v a b c d h i j g within turned ends same = tt
   serves_done timers turns s0 (Some x) (Some y) taken s t ts us now o later v a b c d h i j g within turned ends same =
@@ -243,9 +242,9 @@ module _ {S : Type 0} (next : S → Given → S × List Out) (is_done : S → Bo
 
   pub serves_last : (timers : List (Tick × ℕ)) (turns : ℕ) (s0 : S) (o0 : Option (List PollAnswer)) (v0 : Option (List ℕ)) (taken : ℕ)
       (s : S) (ts : List Timer) (now : ℕ) (o : Option (List PollAnswer)) (v : Option (List ℕ)) (a b d : LinkSide) (h i : Option (List ℕ))
-      (done : Bool) → Going next is_done at timers turns s0 o0 v0 taken s ts now o v a b h i → turns ≤ taken → done ≡ is_done s
+      (done : Bool) → Going next is_done asks timers turns s0 o0 v0 taken s ts now o v a b h i → turns ≤ taken → done ≡ is_done s
       → record d { lost = b.lost } ≡ b
-      → ServesObserved next is_done timers at turns s0 o0 v0 (Ok (record { turns = taken; lost = b.lost; done = done })) a d h i
+      → ServesObserved next is_done timers asks turns s0 o0 v0 (Ok (record { turns = taken; lost = b.lost; done = done })) a d h i
   serves_last timers turns s0 None v0 taken s ts now o v a b d h i done g all is same = tt
   serves_last timers turns s0 (Some x) None taken s ts now o v a b d h i done g all is same = tt
   serves_last timers turns s0 (Some x) (Some y) taken s ts now o v a b d h i done g all is same =
@@ -256,25 +255,25 @@ module _ {S : Type 0} (next : S → Given → S × List Out) (is_done : S → Bo
   -- what stops a turn stops the run
   stops_run : (r : NodeRun) (turns taken : ℕ) (s : S) (ts : List Timer) (now : ℕ) (o : Option (List PollAnswer)) (v : Option (List ℕ))
       (e : DeviceError) (a b c : LinkSide) (h i j : Option (List ℕ)) (answer : PollAnswer)
-      → GoingOn next is_done at r taken (turns - taken) s ts now o v a b h i → taken < turns → Gives o answer
-      → Stops (effects_by at (after s now ts answer).1) e b c i j → Stops (effects_by at r.acts) e a c h j
+      → GoingOn next is_done asks r taken (turns - taken) s ts now o v a b h i → taken < turns → Gives o answer
+      → Stops (effects_by asks (after s now ts answer).1) e b c i j → Stops (effects_by asks r.acts) e a c h j
   stops_run r turns taken s ts now o v e a b c h i j answer g within gives stops =
       let some : 0 < turns - taken = omega (arith, within) in
       let gave : Gives (Some g.answers) answer = rw g.answers_observed at gives in
-      let here : Stops (effects_by at (after s now ts (next_poll g.answers)).1) e b c i j = rw gave at stops in
+      let here : Stops (effects_by asks (after s now ts (next_poll g.answers)).1) e b c i j = rw gave at stops in
       let prefix =
       outs_prefix (is_failure (next_poll g.answers)) (is_done (after s now ts (next_poll g.answers)).0)
       (after s now ts (next_poll g.answers)).1 (rest_of (turns - taken - 1) s ts now g.answers g.values) in
       let is : r.acts ≡ g.so_far ++ ((after s now ts (next_poll g.answers)).1 ++ prefix.0) =
       ap (λ x. x.acts) (this_turn r g.so_far taken (turns - taken) s ts now g.answers g.values some g.is) ∙ ap (λ os. g.so_far ++ os) prefix.1 in
       rw is
-      (acts_stop at g.so_far ((after s now ts (next_poll g.answers)).1 ++ prefix.0) e a b c h i j g.done
-      (acts_stop_more at (after s now ts (next_poll g.answers)).1 prefix.0 e b c i j here))
+      (acts_stop asks g.so_far ((after s now ts (next_poll g.answers)).1 ++ prefix.0) e a b c h i j g.done
+      (acts_stop_more asks (after s now ts (next_poll g.answers)).1 prefix.0 e b c i j here))
 
   -- a poll that failed ends the run
   breaks_run : (r : NodeRun) (turns taken : ℕ) (s : S) (ts : List Timer) (now : ℕ) (o : Option (List PollAnswer)) (v : Option (List ℕ))
-      (a b c : LinkSide) (h i j : Option (List ℕ)) → GoingOn next is_done at r taken (turns - taken) s ts now o v a b h i → taken < turns
-      → PollFailed next at s now ts o b c i j → Broke at r a c h j
+      (a b c : LinkSide) (h i j : Option (List ℕ)) → GoingOn next is_done asks r taken (turns - taken) s ts now o v a b h i → taken < turns
+      → PollFailed next asks s now ts o b c i j → Broke asks r a c h j
   breaks_run r turns taken s ts now o v a b c h i j g within failed =
       let some : 0 < turns - taken = omega (arith, within) in
       let gave : Failure ≡ next_poll g.answers = rw g.answers_observed at failed.gives in
@@ -282,7 +281,7 @@ module _ {S : Type 0} (next : S → Given → S × List Out) (is_done : S → Bo
       let is : r ≡ after_turns g.so_far taken
       (turn_then true (is_done (after s now ts Failure).0) (after s now ts Failure).1
       (rest_of (turns - taken - 1) s ts now g.answers g.values)) = rw (← gave) at one in
-      let done : Done (effects_by at (after s now ts Failure).1) b c i j = failed.done in
+      let done : Done (effects_by asks (after s now ts Failure).1) b c i j = failed.done in
       record {
         broken = ap (λ x. x.broken) is;
         effects = rw is (done_more g.so_far (after s now ts Failure).1 a b c h i j g.done done);
@@ -290,9 +289,9 @@ module _ {S : Type 0} (next : S → Given → S × List Out) (is_done : S → Bo
 
   pub serves_err : (timers : List (Tick × ℕ)) (turns : ℕ) (s0 : S) (o0 : Option (List PollAnswer)) (v0 : Option (List ℕ)) (taken : ℕ)
       (s t : S) (ts us : List Timer) (now : ℕ) (o later : Option (List PollAnswer)) (v : Option (List ℕ)) (e : ServeError)
-      (a b c d : LinkSide) (h i j : Option (List ℕ)) → Going next is_done at timers turns s0 o0 v0 taken s ts now o v a b h i
-      → taken < turns → TurnEnds next at {T = Unit {0}} s t now ts us o later (Err e) b c i j → record d { lost = c.lost } ≡ c
-      → ServesObserved next is_done timers at turns s0 o0 v0 (Err e) a d h j
+      (a b c d : LinkSide) (h i j : Option (List ℕ)) → Going next is_done asks timers turns s0 o0 v0 taken s ts now o v a b h i
+      → taken < turns → TurnEnds next asks {T = Unit {0}} s t now ts us o later (Err e) b c i j → record d { lost = c.lost } ≡ c
+      → ServesObserved next is_done timers asks turns s0 o0 v0 (Err e) a d h j
   serves_err timers turns s0 None v0 taken s t ts us now o later v e a b c d h i j g within ends same = tt
   serves_err timers turns s0 (Some x) None taken s t ts us now o later v e a b c d h i j g within ends same = tt
   serves_err timers turns s0 (Some x) (Some y) taken s t ts us now o later v LinkFault a b c d h i j g within ends same =
@@ -314,16 +313,16 @@ module _ {S : Type 0} (next : S → Given → S × List Out) (is_done : S → Bo
 
   pub serves_none : (timers : List (Tick × ℕ)) (turns : ℕ) (s0 : S) (o0 : Option (List PollAnswer)) (v0 : Option (List ℕ))
       (a d : LinkSide) (h : Option (List ℕ)) → record d { lost = a.lost } ≡ a
-      → ServesObserved next is_done timers at turns s0 o0 v0 (Err NoMemory) a d h h
+      → ServesObserved next is_done timers asks turns s0 o0 v0 (Err NoMemory) a d h h
   serves_none timers turns s0 None v0 a d h same = tt
   serves_none timers turns s0 (Some x) None a d h same = tt
   serves_none timers turns s0 (Some x) (Some y) a d h same =
-      (a.lost, rw same (nothing_done (effects_by at (node_run next is_done timers turns s0 x y).acts) a h))
+      (a.lost, rw same (nothing_done (effects_by asks (node_run next is_done timers turns s0 x y).acts) a h))
 
   -- ---- after some inputs
 
   after_run : (os : List Act) (r : NodeRun) (result : Result Served ServeError) (a b d : LinkSide) (h i j : Option (List ℕ))
-      → Done (effects_by at os) a b h i → ServesRun at r result b d i j → ServesRun at (with_acts os r) result a d h j
+      → Done (effects_by asks os) a b h i → ServesRun asks r result b d i j → ServesRun asks (with_acts os r) result a d h j
   after_run os r (Ok served) a b d h i j one two = record {
     turns = two.turns;
     done = two.done;
@@ -339,40 +338,40 @@ module _ {S : Type 0} (next : S → Given → S × List Out) (is_done : S → Bo
   )
   after_run os r (Err WriteFault) a b d h i j one two = (
     two.0,
-    (acts_stop at os r.acts writes.Failed
+    (acts_stop asks os r.acts writes.Failed
         a b (record d { lost = two.0 }) h i j one two.1),
   )
   after_run os r (Err NoMemory) a b d h i j one two = (
     two.0,
-    (acts_stop at os r.acts writes.NoMemory
+    (acts_stop asks os r.acts writes.NoMemory
         a b (record d { lost = two.0 }) h i j one two.1),
   )
 
   pub serves_after : (first : List Given) (timers : List (Tick × ℕ)) (turns : ℕ) (s t : S)
       (o p : Option (List PollAnswer)) (v : Option (List ℕ)) (result : Result Served ServeError)
-      (a b d : LinkSide) (h i j : Option (List ℕ)) → Ran next at s t first a b h i → Stays o p
-      → ServesObserved next is_done timers at turns t p v result b d i j
-      → ServesAfter next is_done first timers at turns s o v result a d h j
+      (a b d : LinkSide) (h i j : Option (List ℕ)) → Ran next asks s t first a b h i → Stays o p
+      → ServesObserved next is_done timers asks turns t p v result b d i j
+      → ServesAfter next is_done first timers asks turns s o v result a d h j
   serves_after first timers turns s t None p v result a b d h i j ran stays serves = tt
   serves_after first timers turns s t (Some x) p None result a b d h i j ran stays serves = tt
   serves_after first timers turns s t (Some x) p (Some y) result a b d h i j ran stays serves =
-      let observed : ServesObserved next is_done timers at turns (folded next s first).0 (Some x) (Some y) result b d i j =
+      let observed : ServesObserved next is_done timers asks turns (folded next s first).0 (Some x) (Some y) result b d i j =
       rw (stays, ran.state) at serves in
       after_run (taking next s first) (node_run next is_done timers turns (folded next s first).0 x y) result
       a b d h i j ran.done observed
 
   stops_first : (os : List Act) (r : NodeRun) (e : DeviceError) (a b d : LinkSide) (h i : Option (List ℕ))
-      → Stops (effects_by at os) e a b h i → record d { lost = b.lost } ≡ b
-      → ServesRun at (with_acts os r) (Err (error_of e)) a d h i
+      → Stops (effects_by asks os) e a b h i → record d { lost = b.lost } ≡ b
+      → ServesRun asks (with_acts os r) (Err (error_of e)) a d h i
   stops_first os r writes.Failed a b d h i stops same =
-      (b.lost, rw same (acts_stop_more at os r.acts writes.Failed a b h i stops))
+      (b.lost, rw same (acts_stop_more asks os r.acts writes.Failed a b h i stops))
   stops_first os r writes.NoMemory a b d h i stops same =
-      (b.lost, rw same (acts_stop_more at os r.acts writes.NoMemory a b h i stops))
+      (b.lost, rw same (acts_stop_more asks os r.acts writes.NoMemory a b h i stops))
 
   pub serves_stopped : (first : List Given) (timers : List (Tick × ℕ)) (turns : ℕ) (s : S)
       (o : Option (List PollAnswer)) (v : Option (List ℕ)) (e : DeviceError) (a b d : LinkSide) (h i : Option (List ℕ))
-      → Stops (effects_by at (taking next s first)) e a b h i → record d { lost = b.lost } ≡ b
-      → ServesAfter next is_done first timers at turns s o v (Err (error_of e)) a d h i
+      → Stops (effects_by asks (taking next s first)) e a b h i → record d { lost = b.lost } ≡ b
+      → ServesAfter next is_done first timers asks turns s o v (Err (error_of e)) a d h i
   serves_stopped first timers turns s None v e a b d h i stops same = tt
   serves_stopped first timers turns s (Some x) None e a b d h i stops same = tt
   serves_stopped first timers turns s (Some x) (Some y) e a b d h i stops same =

@@ -1,8 +1,9 @@
 -- What a node does outside, in order: the calls on its link, and the lines that it writes.
-use Rattle.std.specs.Prelude.{◌≡◌, ℕ, ◌<◌, List, [], ◌∷◌, ◌++◌, length, map, take, Option, Result, Ok, Err}
-use Rattle.std.specs.List.{flat_map}
+use Rattle.std.specs.Prelude.{◌≡◌, ℕ, ◌<◌, List, [], ◌∷◌, ◌++◌, length, map, take, Bool, true, false, Option, Result, Ok, Err}
+use Rattle.std.specs.List.{concat, flat_map}
 use Rattle.std.specs.Io.KnownBytes.{Appends}
 use Rattle.nop_types.specs.Given.{Given}
+use Rattle.nop_types.specs.declared.output.Actor.{Actor}
 use Rattle.nop_types.specs.declared.output.Out.{Out}
 use Rattle.nop_types.specs.declared.output.Out.TheVariants as outs
 use Rattle.outside.specs.Prefixes.{AppendsPrefix}
@@ -10,6 +11,7 @@ use Rattle.outside.specs.declared.errors.DeviceError.{DeviceError}
 use Rattle.outside.specs.declared.errors.DeviceError.TheVariants.{Failed, NoMemory}
 use Rattle.outside.specs.declared.link.LinkCall.{LinkCall}
 use Rattle.outside.specs.declared.link.LinkCall.TheVariants.{Polled}
+use Rattle.trace_text.specs.Traces.{trace_lines}
 use Rattle.transcript_text.specs.Transcript.{submit_line, accept_line, read_line, answer_line}
 use Rattle.udp_node.specs.declared.address.Address.{Address}
 use Rattle.udp_node.specs.Ports.{datagrams_to}
@@ -30,6 +32,7 @@ Writes line (Ok t) before now = Appends before now line
 Writes line (Err Failed) before now = AppendsPrefix before now line
 Writes line (Err NoMemory) before now = WrotePrefix line before now
 
+-- a call on the link, or a text that is written: a line, or all lines of a step
 pub data Effect : Type 0 where
   Call : LinkCall → Effect
   Line : List ℕ → Effect
@@ -46,10 +49,27 @@ effects_of at _ = []
 abbrev pub effects : Address → List Out → List Effect
 effects at os = flat_map (effects_of at) os
 
+-- the sends alone
+abbrev pub sends_of : Address → Out → List Effect
+sends_of at (outs.Send dest bytes) = map Call (datagrams_to at dest bytes)
+sends_of at _ = []
+
+abbrev pub sends_in : Address → List Out → List Effect
+sends_in at os = flat_map (sends_of at) os
+
 -- a step of the core: what it took, and what it gave
 pub record Step : Type 0 where
   pub given : Given
   pub outs : List Out
+
+-- the lines of a step in a trace, as one text
+abbrev pub step_text : Actor → Step → List ℕ
+step_text own x = concat (trace_lines own x.given x.outs)
+
+-- What a step asks of the outside. A node that is traced writes all lines of the step in place of the others, and sends then.
+abbrev pub step_effects : (trace : Bool) → Address → Step → List Effect
+step_effects false at x = effects at x.outs
+step_effects true at x = Line (step_text at.own x) ∷ sends_in at x.outs
 
 -- an act of a node: it polls its link, or its core takes a step
 pub data Act : Type 0 where
@@ -62,13 +82,13 @@ steps_in [] = []
 steps_in (Polling ∷ acts) = steps_in acts
 steps_in (Stepping x ∷ acts) = x ∷ steps_in acts
 
--- what an act asks of the outside
-abbrev pub act_effects : Address → Act → List Effect
-act_effects at Polling = Call Polled ∷ []
-act_effects at (Stepping x) = effects at x.outs
+-- what an act asks of the outside, by what a step asks
+abbrev pub act_effects : (Step → List Effect) → Act → List Effect
+act_effects asks Polling = Call Polled ∷ []
+act_effects asks (Stepping x) = asks x
 
-abbrev pub effects_by : Address → List Act → List Effect
-effects_by at acts = flat_map (act_effects at) acts
+abbrev pub effects_by : (Step → List Effect) → List Act → List Effect
+effects_by asks acts = flat_map (act_effects asks) acts
 
 -- the calls on the link, in order
 abbrev pub calls : List Effect → List LinkCall

@@ -4,8 +4,7 @@ use Rattle.std.specs.Prelude.{◌≡◌, ℕ, List, [], ◌∷◌, ◌++◌, map
 use Rattle.nop_types.specs.Given.{Given, Packet, Ticked}
 use Rattle.nop_types.specs.declared.output.Out.{Out}
 use Rattle.outside.specs.declared.errors.DeviceError.{DeviceError}
-use Rattle.udp_node.specs.declared.address.Address.{Address}
-use Rattle.udp_node.specs.Effects.{Act, Stepping, Step, effects, effects_by, lines, Done, Stops}
+use Rattle.udp_node.specs.Effects.{Effect, Act, Stepping, Step, effects_by, lines, Done, Stops}
 use Rattle.udp_node.specs.Sends.{LinkSide}
 
 -- an input from outside is a packet or a tick
@@ -30,19 +29,19 @@ module _ {S : Type 0} (next : S → Given → S × List Out) where
   taking s inputs = map Stepping (steps_of s inputs)
 
   -- the inputs were taken, and what they gave was done
-  pub record Ran (at : Address) (s t : S) (inputs : List Given) (a b : LinkSide) (before now : Option (List ℕ)) : Type 0 where
+  pub record Ran (asks : Step → List Effect) (s t : S) (inputs : List Given) (a b : LinkSide) (before now : Option (List ℕ)) : Type 0 where
     pub state : t ≡ (folded s inputs).0
-    pub done : Done (effects_by at (taking s inputs)) a b before now
+    pub done : Done (effects_by asks (taking s inputs)) a b before now
 
-  abbrev pub Runs : {T : Type 0} → Address → S → S → List Given → Result T DeviceError → LinkSide → LinkSide → Option (List ℕ)
-      → Option (List ℕ) → Type 0
-  Runs at s t inputs (Ok r) a b before now = Ran at s t inputs a b before now
-  Runs at s t inputs (Err e) a b before now = Stops (effects_by at (taking s inputs)) e a b before now
+  abbrev pub Runs : {T : Type 0} → (Step → List Effect) → S → S → List Given → Result T DeviceError → LinkSide → LinkSide
+      → Option (List ℕ) → Option (List ℕ) → Type 0
+  Runs asks s t inputs (Ok r) a b before now = Ran asks s t inputs a b before now
+  Runs asks s t inputs (Err e) a b before now = Stops (effects_by asks (taking s inputs)) e a b before now
 
-  -- whatever the link and the clock tell: the core took the first inputs and then some packets and ticks, and the lines of what it gave
+  -- whatever the link and the clock tell: the core took the first inputs and then some packets and ticks, and the lines of its steps
   -- were written
-  pub record TookSome (at : Address) (first : List Given) (s t : S) (before now : Option (List ℕ)) : Type 0 where
+  pub record TookSome (asks : Step → List Effect) (first : List Given) (s t : S) (before now : Option (List ℕ)) : Type 0 where
     pub inputs : List Given
     pub outside : AllOutside inputs
     pub state : t ≡ (folded s (first ++ inputs)).0
-    pub written : Appends before now (lines (effects at (folded s (first ++ inputs)).1))
+    pub written : Appends before now (lines (effects_by asks (taking s (first ++ inputs))))

@@ -7,12 +7,11 @@ use Rattle.nop_types.specs.declared.output.Out.{Out}
 use Rattle.outside.specs.Clocks.{next_value, later_values}
 use Rattle.outside.specs.Links.{next_poll}
 use Rattle.outside.specs.declared.link.PollAnswer.{PollAnswer}
-use Rattle.udp_node.specs.declared.address.Address.{Address}
 use Rattle.udp_node.specs.declared.errors.ServeError.{ServeError}
 use Rattle.udp_node.specs.declared.errors.ServeError.TheVariants.{LinkFault, WriteFault, NoMemory}
 use Rattle.udp_node.specs.declared.firing.Timer.{Timer}
 use Rattle.udp_node.specs.declared.serving.Served.{Served}
-use Rattle.udp_node.specs.Effects.{Act, effects_by, Done, Stopped, StoppedInLine}
+use Rattle.udp_node.specs.Effects.{Effect, Act, Step, effects_by, Done, Stopped, StoppedInLine}
 use Rattle.udp_node.specs.Folding.{folded, taking}
 use Rattle.udp_node.specs.Sends.{LinkSide}
 use Rattle.udp_node.specs.Timing.{armed, rearmed, is_failure}
@@ -65,38 +64,40 @@ first_inputs None = []
 first_inputs (Some input) = input ∷ []
 
 -- how the run was served
-pub record ServedRun (at : Address) (r : NodeRun) (served : Served) (a b : LinkSide) (h i : Option (List ℕ)) : Type 0 where
+pub record ServedRun (asks : Step → List Effect) (r : NodeRun) (served : Served) (a b : LinkSide) (h i : Option (List ℕ)) : Type 0 where
   pub turns : served.turns ≡ r.turns
   pub done : served.done ≡ r.done
   pub works : r.broken ≡ false
-  pub effects : Done (effects_by at r.acts) a b h i
+  pub effects : Done (effects_by asks r.acts) a b h i
 
 -- a poll failed
-pub record Broke (at : Address) (r : NodeRun) (a b : LinkSide) (h i : Option (List ℕ)) : Type 0 where
+pub record Broke (asks : Step → List Effect) (r : NodeRun) (a b : LinkSide) (h i : Option (List ℕ)) : Type 0 where
   pub broken : r.broken ≡ true
-  pub effects : Done (effects_by at r.acts) a b h i
+  pub effects : Done (effects_by asks r.acts) a b h i
 
 -- by how the call ended; at an error any number of losses was counted
-abbrev pub ServesRun : Address → NodeRun → Result Served ServeError → LinkSide → LinkSide → Option (List ℕ) → Option (List ℕ) → Type 0
-ServesRun at r (Ok served) a b h i = ServedRun at r served a (record b { lost = served.lost }) h i
-ServesRun at r (Err LinkFault) a b h i = (lost : ℕ) × Broke at r a (record b { lost = lost }) h i
-ServesRun at r (Err WriteFault) a b h i = (lost : ℕ) × StoppedInLine (effects_by at r.acts) a (record b { lost = lost }) h i
-ServesRun at r (Err NoMemory) a b h i = (lost : ℕ) × Stopped (effects_by at r.acts) a (record b { lost = lost }) h i
+abbrev pub ServesRun : (Step → List Effect) → NodeRun → Result Served ServeError → LinkSide → LinkSide → Option (List ℕ) → Option (List ℕ) → Type 0
+ServesRun asks r (Ok served) a b h i = ServedRun asks r served a (record b { lost = served.lost }) h i
+ServesRun asks r (Err LinkFault) a b h i = (lost : ℕ) × Broke asks r a (record b { lost = lost }) h i
+ServesRun asks r (Err WriteFault) a b h i = (lost : ℕ) × StoppedInLine (effects_by asks r.acts) a (record b { lost = lost }) h i
+ServesRun asks r (Err NoMemory) a b h i = (lost : ℕ) × Stopped (effects_by asks r.acts) a (record b { lost = lost }) h i
 
 -- where the link and the clock are observable, it is the run over it
-abbrev pub ServesObserved : {S : Type 0} → (S → Given → S × List Out) → (S → Bool) → List (Tick × ℕ) → Address → ℕ → S
+abbrev pub ServesObserved : {S : Type 0} → (S → Given → S × List Out) → (S → Bool) → List (Tick × ℕ)
+    → (Step → List Effect) → ℕ → S
     → Option (List PollAnswer) → Option (List ℕ) → Result Served ServeError → LinkSide → LinkSide → Option (List ℕ) → Option (List ℕ)
     → Type 0
-ServesObserved next is_done timers at turns s None values result a b h i = ⊤
-ServesObserved next is_done timers at turns s (Some answers) None result a b h i = ⊤
-ServesObserved next is_done timers at turns s (Some answers) (Some values) result a b h i =
-    ServesRun at (node_run next is_done timers turns s answers values) result a b h i
+ServesObserved next is_done timers asks turns s None values result a b h i = ⊤
+ServesObserved next is_done timers asks turns s (Some answers) None result a b h i = ⊤
+ServesObserved next is_done timers asks turns s (Some answers) (Some values) result a b h i =
+    ServesRun asks (node_run next is_done timers turns s answers values) result a b h i
 
 -- the same, after some inputs
-abbrev pub ServesAfter : {S : Type 0} → (S → Given → S × List Out) → (S → Bool) → List Given → List (Tick × ℕ) → Address → ℕ → S
+abbrev pub ServesAfter : {S : Type 0} → (S → Given → S × List Out) → (S → Bool) → List Given → List (Tick × ℕ)
+    → (Step → List Effect) → ℕ → S
     → Option (List PollAnswer) → Option (List ℕ) → Result Served ServeError → LinkSide → LinkSide → Option (List ℕ) → Option (List ℕ)
     → Type 0
-ServesAfter next is_done first timers at turns s None values result a b h i = ⊤
-ServesAfter next is_done first timers at turns s (Some answers) None result a b h i = ⊤
-ServesAfter next is_done first timers at turns s (Some answers) (Some values) result a b h i =
-    ServesRun at (run_after next is_done first timers turns s answers values) result a b h i
+ServesAfter next is_done first timers asks turns s None values result a b h i = ⊤
+ServesAfter next is_done first timers asks turns s (Some answers) None result a b h i = ⊤
+ServesAfter next is_done first timers asks turns s (Some answers) (Some values) result a b h i =
+    ServesRun asks (run_after next is_done first timers turns s answers values) result a b h i

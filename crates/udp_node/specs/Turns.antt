@@ -6,11 +6,10 @@ use Rattle.outside.specs.declared.errors.DeviceError.{DeviceError}
 use Rattle.outside.specs.declared.errors.DeviceError.TheVariants as writes
 use Rattle.outside.specs.declared.link.PollAnswer.{PollAnswer}
 use Rattle.outside.specs.declared.link.PollAnswer.TheVariants.{Failure}
-use Rattle.udp_node.specs.declared.address.Address.{Address}
 use Rattle.udp_node.specs.declared.errors.ServeError.{ServeError}
 use Rattle.udp_node.specs.declared.errors.ServeError.TheVariants.{LinkFault, WriteFault, NoMemory}
 use Rattle.udp_node.specs.declared.firing.Timer.{Timer}
-use Rattle.udp_node.specs.Effects.{Act, Polling, effects_by, Done, Stopped, StoppedInLine}
+use Rattle.udp_node.specs.Effects.{Effect, Act, Step, Polling, effects_by, Done, Stopped, StoppedInLine}
 use Rattle.udp_node.specs.Folding.{folded, taking}
 use Rattle.udp_node.specs.Sends.{LinkSide}
 use Rattle.udp_node.specs.Timing.{rearmed, due_ticks, packet_of, is_failure, Gives, Takes}
@@ -32,7 +31,7 @@ module _ {S : Type 0} (next : S → Given → S × List Out) where
   abbrev pub turn_of : S → ℕ → List Timer → PollAnswer → S × List Act
   turn_of s now ts answer = ((polled (ticked s now ts).0 answer).0, (ticked s now ts).1 ++ (polled (ticked s now ts).0 answer).1)
 
-module _ {S : Type 0} (next : S → Given → S × List Out) (at : Address) where
+module _ {S : Type 0} (next : S → Given → S × List Out) (asks : Step → List Effect) where
   -- the core took the ticks that were due and the packet, and what it gave was done
   pub record Turned (s t : S) (now : ℕ) (ts us : List Timer) (answers later : Option (List PollAnswer)) (a b : LinkSide)
       (h i : Option (List ℕ)) : Type 0 where
@@ -41,27 +40,27 @@ module _ {S : Type 0} (next : S → Given → S × List Out) (at : Address) wher
     pub works : is_failure answer ≡ false
     pub timers : us ≡ map (rearmed now) ts
     pub state : t ≡ (turn_of next s now ts answer).0
-    pub done : Done (effects_by at (turn_of next s now ts answer).1) a b h i
+    pub done : Done (effects_by asks (turn_of next s now ts answer).1) a b h i
 
   -- the poll failed; what the ticks gave was done before
   pub record PollFailed (s : S) (now : ℕ) (ts : List Timer) (answers : Option (List PollAnswer)) (a b : LinkSide)
       (h i : Option (List ℕ)) : Type 0 where
     pub gives : Gives answers Failure
-    pub done : Done (effects_by at ((ticked next s now ts).1 ++ Polling ∷ [])) a b h i
+    pub done : Done (effects_by asks ((ticked next s now ts).1 ++ Polling ∷ [])) a b h i
 
   -- a line was not written whole
   pub record TurnInLine (s : S) (now : ℕ) (ts : List Timer) (answers : Option (List PollAnswer)) (a b : LinkSide)
       (h i : Option (List ℕ)) : Type 0 where
     pub answer : PollAnswer
     pub gives : Gives answers answer
-    pub stopped : StoppedInLine (effects_by at (turn_of next s now ts answer).1) a b h i
+    pub stopped : StoppedInLine (effects_by asks (turn_of next s now ts answer).1) a b h i
 
   -- memory ran out
   pub record TurnStopped (s : S) (now : ℕ) (ts : List Timer) (answers : Option (List PollAnswer)) (a b : LinkSide)
       (h i : Option (List ℕ)) : Type 0 where
     pub answer : PollAnswer
     pub gives : Gives answers answer
-    pub stopped : Stopped (effects_by at (turn_of next s now ts answer).1) a b h i
+    pub stopped : Stopped (effects_by asks (turn_of next s now ts answer).1) a b h i
 
   abbrev pub TurnEnds : {T : Type 0} → S → S → ℕ → List Timer → List Timer → Option (List PollAnswer) → Option (List PollAnswer)
       → Result T ServeError → LinkSide → LinkSide → Option (List ℕ) → Option (List ℕ) → Type 0

@@ -1,7 +1,7 @@
 ghost use Rattle.std.specs.Prelude.{◌≡◌, ◌≤◌, ◌+◌, ◌-◌, ◌^◌, min, length, false, option_map, IfOk, OnOk};
 ghost use Rattle.nop_types.specs.Given.{given};
 ghost use Rattle.outside.specs.Causes.{CountsFor};
-ghost use Rattle.udp_node.specs.Effects.{WroteText};
+ghost use Rattle.udp_node.specs.Effects.{step_effects, WroteText};
 ghost use Rattle.udp_node.specs.NodeRun.{first_inputs, ServesAfter};
 ghost use Rattle.udp_node.specs.Nodes.{CountsTurns, Faults, Same, TakesTurns};
 ghost use Rattle.udp_node.specs.Folding.{TookSome};
@@ -64,7 +64,8 @@ impl<C: Core, L: Link, W: Sink> Node<'_, '_, '_, C, L, W> {
 
 /// Serves a core for at most `turns` turns, and until it is done. Where a first input is given, the core takes it
 /// before all turns, and its outputs come first. A poll or a write that fails ends it, a send that fails is
-/// counted.
+/// counted. With `trace` it writes what each step takes and gives in place of its other lines, all of a step
+/// before its first send.
 pub fn serve<C: Core, L: Link, K: Clock, W: Sink>(
     alloc: Global,
     core: &mut C,
@@ -74,17 +75,20 @@ pub fn serve<C: Core, L: Link, K: Clock, W: Sink>(
     clock: &mut K,
     turns: u64,
     sink: &mut W,
+    trace: bool,
 ) -> Result<Served, ServeError>
     requires timers { length C.timers ≤ 255 }
     ensures run { ServesAfter C.next C.is_done
-        (first_inputs (option_map given first.entry)) C.timers at turns (C.state core.old)
+        (first_inputs (option_map given first.entry)) C.timers (step_effects trace at) turns
+        (C.state core.old)
         (L.answers link.old) (K.values clock.old) result
         (side_of L.Link link.old 0) (side_of L.Link link.new 0)
         (W.held sink.old) (W.held sink.new) }
     ensures turns { IfOk result (λ served. served.turns ≤ turns) }
     ensures done { IfOk result (λ served. served.done ≡ C.is_done (C.state core.new)) }
     ensures spent { IfOk result (λ served. served.done ≡ false → served.turns ≡ turns) }
-    ensures took { OnOk result (TookSome C.next at (first_inputs (option_map given first.entry))
+    ensures took { OnOk result (TookSome C.next (step_effects trace at)
+        (first_inputs (option_map given first.entry))
         (C.state core.old) (C.state core.new) (W.held sink.old) (W.held sink.new)) }
     ensures wrote { WroteText (W.held sink.old) (W.held sink.new) }
     ensures lost { IfOk result (λ served.
@@ -99,6 +103,7 @@ pub fn serve<C: Core, L: Link, K: Clock, W: Sink>(
         alloc,
         core,
         at,
+        trace,
         link,
         sink,
         lost: 0,

@@ -142,7 +142,8 @@ impl<H: Host> Actors<H> {
             (stimulus_of self.old.config self.old.network event.now)
             ≡ Ok (carried (world_of self.old) actor (did_of outs)
             (moved_out actor (did_of outs) (world_of self.new)))) }
-        ensures err { IfErr result (λ e. Refuses e (step_of H.meaning (world_of self.old) (who actor)
+        ensures err { IfErr result (λ e. Refuses e
+            (step_of H.meaning (world_of self.old) (who actor)
             (stimulus_of self.old.config self.old.network event.now))
             (world_of self.new ≡ world_of self.old)) }
     {

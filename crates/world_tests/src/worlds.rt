@@ -186,6 +186,27 @@ fn outputs_as_values(rt: HostRuntime) {
     assert!(rt; given_by(&rt, &mut world, &crash).is_none());
 }
 
+/// So many events of the put, the last of which moves the entry out of the leader's log.
+const UNTIL_TRIMMED: usize = 10;
+
+#[test]
+fn trimmed_entries_are_no_outputs(rt: HostRuntime) {
+    let config = Config::new(3, 1, 1, 1, 0).expect(&rt, "a group");
+    let events = events_of(&rt, rt.alloc(), ONE_PUT);
+    let world = World::new(rt.alloc(), config);
+    let mut world: World<KvHost> = world.ok().expect(&rt, "memory");
+    let mut count = 0;
+    for event in events.iter().take(UNTIL_TRIMMED) {
+        let given = given_by(&rt, &mut world, event).expect(&rt, "outputs");
+        for out in given.as_slice() {
+            assert!(rt; !matches!(out, Out::Trimmed { .. }));
+        }
+        count = given.as_slice().len();
+    }
+    assert!(rt; count == 1);
+    check_slots(&rt, &world);
+}
+
 /// Two controllers move to one sequencer. Controller 0 is told the greater session of the other one, and goes on in an epoch above it.
 const TWO_CONTROLLERS: &str = "\
 nopaxos 2 replicas 3 sequencers 2 clients 1 controllers 2

@@ -10,14 +10,16 @@ returns-then-boxed-clause-ends g c =
     finishes g.H.Host.meaning
     (links_of g.P.L.Link) (ports_of g.P.Ports c.args.ports.now c.serve_all.new.ports)
     (g.T.Clock.values c.args.clock.now) c.args.site.now c.deref.result.now c.args.ops (c.deref.ensures.value ∙ c.into_vec-ops.ensures)
-    c.in-Ok.boxed true (g.K.Sink.held c.args.sink.now) (g.K.Sink.held c.serve_all.new.sink) (search rules) c.in-Ok.ensures.ends
+    c.in-Ok.boxed true (g.K.Sink.held c.args.sink.now) (g.K.Sink.held c.serve_all.new.sink) c.requires.turns (search rules)
+    c.in-Ok.ensures.ends
 
 pub returns-in-Ok-clause-ends : goal.returns-in-Ok-clause-ends
 returns-in-Ok-clause-ends g c =
     finishes g.H.Host.meaning
     (links_of g.P.L.Link) (ports_of g.P.Ports c.args.ports.now c.serve_all.new.ports)
     (g.T.Clock.values c.args.clock.now) c.args.site.now c.deref.result.now c.args.ops (c.deref.ensures.value ∙ c.into_vec-ops.ensures)
-    c.in-Ok.boxed false (g.K.Sink.held c.args.sink.now) (g.K.Sink.held c.serve_all.new.sink) (search rules) c.in-Ok.ensures.ends
+    c.in-Ok.boxed false (g.K.Sink.held c.args.sink.now) (g.K.Sink.held c.serve_all.new.sink) c.requires.turns (search rules)
+    c.in-Ok.ensures.ends
 
 pub returns-in-Err-WriteFault-clause-ends : goal.returns-in-Err-WriteFault-clause-ends
 returns-in-Err-WriteFault-clause-ends g c =

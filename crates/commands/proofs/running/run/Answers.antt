@@ -1,6 +1,7 @@
 use Rattle.std.proofs.Common.{◌+◌, length, refl, inl}
 use Rattle.outside.proofs.Counts.{counts_none}
 use Rattle.commands.proofs.AnswerLemmas.{no_answers}
+use Rattle.commands.proofs.AuditLemmas.{never_refuted, unaudited}
 use Rattle.commands.proofs.CheckLemmas.{unchecked}
 use Rattle.commands.proofs.ClusterLemmas.{not_served}
 use Rattle.commands.proofs.CommandLemmas.{no_drawing, no_prefix, no_usage, not_begun}
@@ -17,6 +18,12 @@ returns-in-Err-clause-usage g c = λ refused. no_usage c.args.program.now (g.K.S
 
 pub returns-in-Err-clause-check : goal.returns-in-Err-clause-check
 returns-in-Err-clause-check g c = λ is. unchecked g.H.Host.meaning (g.S.Source.left c.args.source.now) (g.K.Sink.held c.args.sink.now)
+
+pub returns-in-Err-clause-audit : goal.returns-in-Err-clause-audit
+returns-in-Err-clause-audit g c = λ is. unaudited g.H.Host.meaning (g.S.Source.left c.args.source.now) (g.K.Sink.held c.args.sink.now)
+
+pub returns-in-Err-clause-audited : goal.returns-in-Err-clause-audited
+returns-in-Err-clause-audited g c = λ is. never_refuted g.H.Host.meaning (g.S.Source.left c.args.source.now)
 
 pub returns-in-Err-clause-ends : goal.returns-in-Err-clause-ends
 returns-in-Err-clause-ends g c =

@@ -14,7 +14,7 @@ loop-entries-preserved g c =
     let old = c.loop-entries.undos.items in
     let log = c.args.log.now in
     let begun = beginning m log.checkpoint in
-    let pushed : c.push.new.self.items ≡ c.loop-entries.undos.items ++ c.in_ok-slot_undo.slot_undo ∷ [] = search rules in
+    let pushed : c.push_reserved.new.self.items ≡ c.loop-entries.undos.items ++ c.in_ok-slot_undo.slot_undo ∷ [] = search rules in
     let len : length c.loop-entries.undos.items ≡ c.len-in-loop-entries.result = search rules in
     let at : slice_get log.entries (length c.loop-entries.undos.items) ≡ Some c.index-entries-len.result =
     rw len (slice_get_read log.entries (length log.entries) c.len-in-loop-entries.result c.index-entries-len.result refl (omega arith)

@@ -1,9 +1,11 @@
 use Rattle.std.proofs.Common.{◌≡◌, ◌∙◌, refl, sym, subst, ap, arith, length, map, Some, Err}
 use Rattle.std.specs.Prelude.{slice_get}
 use Rattle.outside.proofs.Counts.{counts_none}
+use Rattle.one_box.specs.Counting.{part_of}
 use Rattle.one_box.specs.Showing.{links_of, AllLostFit, place_of}
 use Rattle.one_box.proofs.AttachingLemmas.{attaching_first, attaching_more, attached_all, places_more, places_all, lost_push}
 use Rattle.one_box.proofs.AttachingLemmas.{room_stays, room_more, holds_stays, holds_more}
+use Rattle.one_box.proofs.Counting.{parts_all, parts_more}
 use Rattle.one_box.proofs.attaching.attach_all.Goals as goal
 
 pub loop-i-init : goal.loop-i-init
@@ -14,6 +16,7 @@ loop-i-init g c =
       on = attaching_first v
           c.args.base c.args.config c.args.now (g.P.Ports.to_come c.args.ports.now) c.args.nodes.now.items c.requires.empty;
       places = ap (map (place_of v)) c.requires.empty;
+      parts = ap (map part_of) c.requires.empty;
       lost = subst (AllLostFit v) (sym c.requires.empty) tt;
       holds = omega (arith, none);
       room = λ some. absurd (omega (arith, some, none));
@@ -55,6 +58,9 @@ loop-i-preserved g c =
       places = places_more v
           c.args.base c.args.config c.args.now actors i a (g.P.Ports.to_come c.loop-i.ports) (g.P.Ports.to_come c.attach_actor.new.ports)
           c.loop-i.nodes.items c.attach_actor.new.nodes.items _ there one c.loop-i.invariant.places;
+      parts = parts_more v c.args.world.now.state actors _ c.args.now i a (g.P.Ports.to_come c.loop-i.ports)
+          (g.P.Ports.to_come c.attach_actor.new.ports) c.loop-i.nodes.items c.attach_actor.new.nodes.items there one
+          c.loop-i.invariant.parts;
       lost = lost_push v c.loop-i.nodes.items c.attach_actor.new.nodes.items one.node one.added one.fresh.lost c.loop-i.invariant.lost;
       holds = holds_more (g.P.Ports.attached c.args.ports.now) (g.P.Ports.attached c.loop-i.ports)
           (g.P.Ports.attached c.attach_actor.new.ports) (g.P.Ports.detached c.args.ports.now) (g.P.Ports.detached c.loop-i.ports)
@@ -81,6 +87,11 @@ returns-clause-attaches g c =
       given = c.loop-i.invariant.given;
       lost = c.loop-i.invariant.lost;
     }
+
+pub returns-clause-parts : goal.returns-clause-parts
+returns-clause-parts g c =
+    parts_all (links_of g.P.L.Link) c.args.world.now.state c.args.actors.now c.loop-i.i c.loop-i.nodes.items c.loop-i-test.false
+    c.loop-i.invariant.parts
 
 pub returns-clause-holds : goal.returns-clause-holds
 returns-clause-holds g c = c.loop-i.invariant.holds

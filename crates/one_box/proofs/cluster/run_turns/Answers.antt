@@ -1,7 +1,12 @@
-use Rattle.std.proofs.Common.{subst, ◌∙◌, ap, List, map}
+use Rattle.std.proofs.Common.{◌≡◌, subst, ◌∙◌, ap, List, map}
+use Rattle.std.specs.Prelude.{sum}
 use Rattle.nop_types.specs.declared.output.Actor.{Actor}
 use Rattle.one_box.specs.Attaching.{AttachesAll, place_for}
+use Rattle.one_box.specs.ClusterRun.{Course}
+use Rattle.one_box.specs.Counting.{part_in, turn_of}
 use Rattle.one_box.specs.Showing.{course_of, links_of}
+use Rattle.one_box.proofs.Counting.{opening_few}
+use Rattle.world.specs.WorldSteps.{WorldState, opening}
 use Rattle.one_box.proofs.ClusterLemmas.{turns_run, unattached, attaches_same, holds_same, room_same, holds_none, room_none}
 use Rattle.one_box.proofs.cluster.run_turns.Goals as goal
 
@@ -19,6 +24,15 @@ returns-in-Ok-attached-clause-runs g c =
     (g.P.Ports.detached c.args.ports.now) (g.P.Ports.detached c.attach_all-attached.new.ports) c.take_turns.ensures.observed
     c.take_turns.ensures.runs attached.lost
     (c.take_turns.ensures.places ∙ attached.places ∙ ap (map (place_for c.args.base c.args.config)) actors) attached.given
+
+pub returns-in-Ok-attached-clause-few : goal.returns-in-Ok-attached-clause-few
+returns-in-Ok-attached-clause-few g c =
+    let world : c.args.course.now.world.state ≡ opening c.args.config = ap (λ (x : Course). x.world) c.requires.opens in
+    let actors = c.deref.ensures.value ∙ c.in-Ok.ensures in
+    opening_few c.take_turns.result c.args.config c.args.turns (turn_of c.attach_all-attached.new.nodes.items) c.args.course.now.events.items
+    c.take_turns.new.course.events.items (ap (λ (x : Course). x.events) c.requires.opens)
+    (ap sum (c.in-Ok-attached.ensures.parts ∙ ap (λ (w : WorldState). map (part_in w) c.deref.result.now) world
+    ∙ ap (map (part_in (opening c.args.config))) actors)) c.take_turns.ensures.few
 
 pub returns-in-Ok-attached-clause-holds : goal.returns-in-Ok-attached-clause-holds
 returns-in-Ok-attached-clause-holds g c =

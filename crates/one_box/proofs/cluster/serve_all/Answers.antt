@@ -15,8 +15,9 @@ returns-in-Ok-ran-clause-ends g c =
     run_ends g.H.Host.meaning v c.args.config c.args.ops.now c.args.base c.args.turns (g.P.Ports.to_come c.args.ports.now)
     (g.C.Clock.values c.args.clock.now) (g.P.Ports.detached c.args.ports.now) (g.P.Ports.detached c.detach_all.new.ports)
     g.H.Host.is_sound keeps c.replicas.ensures.limits (course_of c.run_turns-ran.new.course) c.in-Ok-ran.taken c.lost_by-lost.result xs
-    (g.P.Ports.detached c.run_turns-ran.new.ports) c.in-Ok-ran.ensures.runs lost_is c.detach_all.ensures.detached c.write_run.result
-    (g.K.Sink.held c.args.sink.now) (g.K.Sink.held c.write_run.new.sink) c.write_run.ensures.writes
+    (g.P.Ports.detached c.run_turns-ran.new.ports) c.in-Ok-ran.ensures.runs c.in-Ok-ran.ensures.few lost_is c.detach_all.ensures.detached
+    c.requires.form c.write_run.result (g.K.Sink.held c.args.sink.now) (g.K.Sink.held c.write_run.new.sink) c.write_run.ensures.means
+    c.write_run.ensures.writes
 
 pub returns-in-Ok-ran-clause-link : goal.returns-in-Ok-ran-clause-link
 returns-in-Ok-ran-clause-link g c = λ is. absurd (never_link _ _ c.write_run.result _ _ c.write_run.ensures.writes is)

@@ -14,6 +14,8 @@ loop-i-init g c =
           c.args.ops.now c.args.now c.args.node.now.timers.items (course_of c.args.course.now) n c.args.node.now shown;
       goes = λ config led. led;
       lost = λ fits. fits;
+      few = omega arith;
+      within = omega arith;
       timers = refl;
       place = refl;
     }
@@ -32,6 +34,8 @@ loop-i-preserved g c =
       goes = goes_through g.H.Host.meaning (course_of c.args.course.now) (course_of c.loop-i.course) (course_of c.fire.new.course) i.goes
           c.in_ok-fire.ensures.acts.goes;
       lost = λ fits. c.in_ok-fire.ensures.acts.lost (i.lost fits);
+      few = omega (arith, i.few, c.fire.ensures.few);
+      within = omega (arith, c.loop-i-test.true, c.len-i-end.ensures, c.args.node.now.timers.ok.0);
       timers = c.fire.ensures.timers ∙ i.timers;
       place = c.fire.ensures.place ∙ i.place;
     }
@@ -46,6 +50,9 @@ returns-clause-acts g c =
       goes = c.loop-i.invariant.goes;
       lost = c.loop-i.invariant.lost;
     }
+
+pub returns-clause-few : goal.returns-clause-few
+returns-clause-few g c = omega (arith, c.loop-i.invariant.few, c.loop-i.invariant.within)
 
 pub returns-clause-timers : goal.returns-clause-timers
 returns-clause-timers g c = c.loop-i.invariant.timers

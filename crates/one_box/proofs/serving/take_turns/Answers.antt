@@ -1,5 +1,7 @@
-use Rattle.std.proofs.Common.{◌≡◌, ◌∙◌, sym, arith, rules, max}
+use Rattle.std.proofs.Common.{◌≡◌, ◌∙◌, ◌+◌, sym, arith, rules, max}
+use Rattle.one_box.specs.Counting.{turn_of}
 use Rattle.one_box.specs.Showing.{course_of, links_of}
+use Rattle.one_box.proofs.Counting.{a_turn_more, turns_within}
 use Rattle.one_box.proofs.LeadingLemmas.{goes_through}
 use Rattle.one_box.proofs.RunningLemmas.{run_stops, turn_done, going_on, turns_over, runs_fail}
 use Rattle.one_box.proofs.serving.take_turns.Goals as goal
@@ -38,6 +40,10 @@ loop-taken-preserved g c =
           c.loop-taken.invariant.goes c.in_default.ensures.turns.goes;
       lost = λ fits. c.in_default.ensures.turns.lost (c.loop-taken.invariant.lost fits);
       places = c.turn.ensures.places ∙ c.loop-taken.invariant.places;
+      few = a_turn_more c.args.nodes.now.items c.loop-taken.nodes.items c.loop-taken.invariant.parts c.loop-taken.taken
+          c.args.course.now.events.items c.loop-taken.course.events.items c.turn.new.course.events.items c.loop-taken.invariant.few
+          c.in_default.ensures.few;
+      parts = c.turn.ensures.parts ∙ c.loop-taken.invariant.parts;
       within = omega (arith, c.loop-taken-test.true);
     }
 
@@ -78,6 +84,20 @@ returns-clause-runs g c = record {
   goes = c.loop-taken.invariant.goes;
   lost = c.loop-taken.invariant.lost;
 }
+
+pub returns-then-all_accepted-clause-few : goal.returns-then-all_accepted-clause-few
+returns-then-all_accepted-clause-few g c =
+    let n = turn_of c.args.nodes.now.items in
+    turns_within n (c.loop-taken.taken + 1) c.args.turns c.args.course.now.events.items c.turn.new.course.events.items
+    (omega (arith, c.loop-taken-test.true))
+    (a_turn_more c.args.nodes.now.items c.loop-taken.nodes.items c.loop-taken.invariant.parts c.loop-taken.taken
+    c.args.course.now.events.items c.loop-taken.course.events.items c.turn.new.course.events.items c.loop-taken.invariant.few
+    c.in_default.ensures.few)
+
+pub returns-clause-few : goal.returns-clause-few
+returns-clause-few g c =
+    turns_within (turn_of c.args.nodes.now.items) c.loop-taken.taken c.args.turns c.args.course.now.events.items
+    c.loop-taken.course.events.items c.loop-taken.invariant.within c.loop-taken.invariant.few
 
 pub returns-clause-places : goal.returns-clause-places
 returns-clause-places g c = c.loop-taken.invariant.places

@@ -1,4 +1,5 @@
-use Rattle.std.proofs.Common.{◌≡◌, ◌≤◌, ◌-◌, map}
+use Rattle.std.proofs.Common.{◌≡◌, ◌≤◌, ◌-◌, ◌*◌, map}
+use Rattle.one_box.specs.Counting.{AtMost, part_of, turn_of}
 use Rattle.one_box.specs.Running.{Going}
 use Rattle.one_box.specs.Showing.{course_of, links_of, AllLostFit, GoesOn, place_of}
 use Rattle.one_box.proofs.serving.take_turns.Given as goal
@@ -16,6 +17,8 @@ invariant-loop-taken g l = record {
       l.nodes.items
       ≡ map (place_of (links_of g.L.Link))
       l.fn.nodes.items;
+  few : AtMost (l.taken * turn_of l.fn.nodes.items) l.fn.course.events.items l.course.events.items;
+  parts : map part_of l.nodes.items ≡ map part_of l.fn.nodes.items;
   within : l.taken ≤ l.turns;
 }
 

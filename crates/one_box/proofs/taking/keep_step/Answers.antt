@@ -7,12 +7,12 @@ use Rattle.one_box.proofs.taking.keep_step.Goals as goal
 pub returns-in-Ok-clause-steps : goal.returns-in-Ok-clause-steps
 returns-in-Ok-clause-steps g c =
     kept_steps g.H.Host.meaning (course_of c.args.course.now) (course_of c.keep.new.self) c.args.event c.step.new.self.state c.in-Ok.lines
-    c.in-Ok.ensures.ok c.keep.result c.keep.ensures
+    c.in-Ok.ensures.ok c.keep.result c.keep.ensures.kept
 
 pub returns-in-Ok-clause-goes : goal.returns-in-Ok-clause-goes
 returns-in-Ok-clause-goes g c =
     kept_goes g.H.Host.meaning (course_of c.args.course.now) (course_of c.keep.new.self) c.args.event c.step.new.self.state c.in-Ok.lines
-    c.in-Ok.ensures.ok c.keep.result c.keep.ensures c.in-Ok.ensures.fits c.requires
+    c.in-Ok.ensures.ok c.keep.result c.keep.ensures.kept c.in-Ok.ensures.fits c.requires
 
 pub returns-in-Err-clause-steps : goal.returns-in-Err-clause-steps
 returns-in-Err-clause-steps g c =

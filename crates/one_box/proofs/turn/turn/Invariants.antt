@@ -1,5 +1,7 @@
-use Rattle.std.proofs.Common.{◌≡◌, length, map, List}
+use Rattle.std.proofs.Common.{◌≡◌, length, map, take, List}
+use Rattle.std.specs.Prelude.{sum}
 use Rattle.one_box.specs.ClusterRun.{BoxActor}
+use Rattle.one_box.specs.Counting.{AtMost, part_of}
 use Rattle.one_box.specs.Progress.{TurningOn}
 use Rattle.one_box.specs.Showing.{course_of, links_of, AllLostFit, AllShow, GoesOn, place_of}
 use Rattle.one_box.proofs.turn.turn.Given as goal
@@ -18,5 +20,7 @@ invariant-loop-i g l = record {
       l.nodes.items
       ≡ map (place_of (links_of g.L.Link))
       l.fn.nodes.items;
+  few : AtMost (sum (take l.i (map part_of l.fn.nodes.items))) l.fn.course.events.items l.course.events.items;
+  parts : map part_of l.nodes.items ≡ map part_of l.fn.nodes.items;
   len : length l.nodes.items ≡ length l.fn.nodes.items;
 }

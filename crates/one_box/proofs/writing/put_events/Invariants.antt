@@ -1,9 +1,11 @@
-use Rattle.std.proofs.Common.{◌≡◌, ◌++◌, drop}
-use Rattle.std.specs.List.{flat_map}
-use Rattle.one_box.specs.Text.{event_line}
+use Rattle.std.proofs.Common.{◌≡◌, ◌++◌, take}
+use Rattle.std.specs.List.{All, flat_map}
+use Rattle.printed_runs.specs.Printing.{event_line}
+use Rattle.one_box.specs.Text.{IsReadBack}
 use Rattle.one_box.proofs.writing.put_events.Given as goal
 
--- what was put and what is left are all
+-- so many events were put, and the line of each means it
 abbrev pub invariant-loop-event : goal.invariant-loop-event
-invariant-loop-event l = l.to.items ++ flat_map event_line (drop l.event-index l.events) ≡ l.initial.to.items
-    ++ flat_map event_line l.events
+invariant-loop-event l =
+    (l.to.items ≡ l.initial.to.items ++ flat_map event_line (take l.event-index l.events))
+    × All IsReadBack (take l.event-index l.events)

@@ -2,6 +2,7 @@ use Rattle.std.proofs.Common.{rules, ◌≤◌, ◌+◌, min, option_map, arith,
 use Rattle.std.specs.Result.{IfOk}
 use Rattle.std.proofs.lemmas.Result.{IfOk-weaker, on_ok_weaker}
 use Rattle.nop_types.specs.Given.{given}
+use Rattle.udp_node.specs.Effects.{step_effects}
 use Rattle.udp_node.specs.NodeRun.{first_inputs}
 use Rattle.udp_node.specs.Sends.{side_of, last_count}
 use Rattle.outside.proofs.Counts.{counts_then}
@@ -15,15 +16,15 @@ use Rattle.udp_node.proofs.serving.serve.Goals as goal
 pub returns-in-Ok-clause-run : goal.returns-in-Ok-clause-run
 returns-in-Ok-clause-run g c =
     let run =
-    serves_after g.C.Core.next g.C.Core.is_done c.args.at (first_inputs (option_map given c.args.first)) g.C.Core.timers c.args.turns _ _
+    serves_after g.C.Core.next g.C.Core.is_done (step_effects c.args.trace c.args.at) (first_inputs (option_map given c.args.first)) g.C.Core.timers c.args.turns _ _
     (g.L.Link.answers c.args.link.now) _ (g.K.Clock.values c.args.clock.now) c.take_turns.result _ _ _ _ _ _
-    c.in-Ok.ensures.runs c.in-Ok.ensures.unpolled.answers (rw c.in-Ok.ensures.same.at at c.take_turns.ensures.turns.run) in
+    c.in-Ok.ensures.runs c.in-Ok.ensures.unpolled.answers (rw (c.in-Ok.ensures.same.at, c.in-Ok.ensures.same.trace) at c.take_turns.ensures.turns.run) in
     search (rules, run)
 
 pub returns-in-Err-clause-run : goal.returns-in-Err-clause-run
 returns-in-Err-clause-run g c =
     let run =
-    serves_stopped g.C.Core.next g.C.Core.is_done c.args.at (first_inputs (option_map given c.args.first)) g.C.Core.timers c.args.turns _
+    serves_stopped g.C.Core.next g.C.Core.is_done (step_effects c.args.trace c.args.at) (first_inputs (option_map given c.args.first)) g.C.Core.timers c.args.turns _
     (g.L.Link.answers c.args.link.now) (g.K.Clock.values c.args.clock.now) c.in-Err.e _ _
     (side_of g.L.Link c.take_first.new.self.link.now 0) _ _
     c.in-Err.ensures.runs refl in
@@ -50,7 +51,7 @@ returns-in-Err-clause-wrote g c =
 pub returns-in-Ok-clause-took : goal.returns-in-Ok-clause-took
 returns-in-Ok-clause-took g c =
     let all = on_ok_weaker c.take_turns.result (took_after _ _ _ _ _ _ _ _ _ _ _ c.in-Ok.ensures.runs)
-    (rw c.in-Ok.ensures.same.at at c.take_turns.ensures.turns.took) in
+    (rw (c.in-Ok.ensures.same.at, c.in-Ok.ensures.same.trace) at c.take_turns.ensures.turns.took) in
     search (rules, all)
 
 pub returns-in-Ok-clause-polls : goal.returns-in-Ok-clause-polls

@@ -5,6 +5,7 @@ use Rattle.nop_types.specs.declared.checkpoint.Answered.{Answered}
 use Rattle.nop_types.specs.declared.limits.TheConstants.{WINDOW}
 use Rattle.nop_types.specs.Tables.{Account, without}
 use Rattle.nop_types.specs.Checkpoints.{is_kept}
+use Rattle.client_table.specs.Dropping.{results_of}
 use Rattle.client_table.specs.Table.{account_before}
 use Rattle.client_table.specs.Removing.{removed_of}
 use Rattle.client_table.proofs.AccountLemmas.{kept_fit}
@@ -17,9 +18,9 @@ put_front-requires c =
     subst (λ (a : Account). IsTrue (is_kept (account_before a c.args.id (removed_of c.args.removed)))) (sym c.self.view_is) c.requires in
     let few : length (account_before old c.args.id (removed_of c.args.removed)).kept ≤ WINDOW =
     kept_fit (account_before old c.args.id (removed_of c.args.removed)) fits in
-    let both : length (c.args.removed.dropped ++ without c.args.id c.self.inside.kept.items)
-    ≡ length c.args.removed.dropped + length (without c.args.id c.self.inside.kept.items) =
-    length-append c.args.removed.dropped (without c.args.id c.self.inside.kept.items) in
+    let both : length (results_of c.args.removed.dropped ++ without c.args.id c.self.inside.kept.items)
+    ≡ length (results_of c.args.removed.dropped) + length (without c.args.id c.self.inside.kept.items) =
+    length-append (results_of c.args.removed.dropped) (without c.args.id c.self.inside.kept.items) in
     let left : length c.take_out.new.kept.items ≡ length (without c.args.id c.self.inside.kept.items) = ap length c.take_out.ensures.items in
     let same = c.take_out.ensures.capacity in
     let room = c.self.invariant.1 in
@@ -31,8 +32,8 @@ invariant_of-self c =
     let old : Account = record { greatest = c.self.inside.greatest; kept = c.self.inside.kept.items } in
     let fits : IsTrue (is_kept (account_before old c.args.id (removed_of c.args.removed))) =
     subst (λ (a : Account). IsTrue (is_kept (account_before a c.args.id (removed_of c.args.removed)))) (sym c.self.view_is) c.requires in
-    let items : c.put_front.new.kept.items ≡ c.args.removed.dropped ++ without c.args.id c.self.inside.kept.items =
-    c.put_front.ensures.items ∙ ap (λ (l : List Answered). c.args.removed.dropped ++ l) c.take_out.ensures.items in
+    let items : c.put_front.new.kept.items ≡ results_of c.args.removed.dropped ++ without c.args.id c.self.inside.kept.items =
+    c.put_front.ensures.items ∙ ap (λ (l : List Answered). results_of c.args.removed.dropped ++ l) c.take_out.ensures.items in
     let whole : record { greatest = c.args.removed.greatest; kept = c.put_front.new.kept.items }
     ≡ account_before old c.args.id (removed_of c.args.removed) =
     λ i. record { greatest = c.args.removed.greatest; kept = items i } in
@@ -44,8 +45,8 @@ invariant_of-self c =
 pub returns : goal.returns
 returns c =
     let old : Account = record { greatest = c.self.inside.greatest; kept = c.self.inside.kept.items } in
-    let items : c.put_front.new.kept.items ≡ c.args.removed.dropped ++ without c.args.id c.self.inside.kept.items =
-    c.put_front.ensures.items ∙ ap (λ (l : List Answered). c.args.removed.dropped ++ l) c.take_out.ensures.items in
+    let items : c.put_front.new.kept.items ≡ results_of c.args.removed.dropped ++ without c.args.id c.self.inside.kept.items =
+    c.put_front.ensures.items ∙ ap (λ (l : List Answered). results_of c.args.removed.dropped ++ l) c.take_out.ensures.items in
     let whole : record { greatest = c.args.removed.greatest; kept = c.put_front.new.kept.items }
     ≡ account_before old c.args.id (removed_of c.args.removed) =
     λ i. record { greatest = c.args.removed.greatest; kept = items i } in

@@ -1,0 +1,5 @@
+pub mod Auditing
+pub mod Outcome
+pub mod Steps
+pub mod Telling
+pub mod Traces

@@ -1,0 +1,4 @@
+pub mod HeaderTexts
+pub mod Places
+pub mod Printing
+pub mod WholeLines

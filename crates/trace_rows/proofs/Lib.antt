@@ -1,0 +1,5 @@
+pub mod Each
+pub mod Fitting
+pub mod NameTexts
+pub mod RowTexts
+pub mod TracedLines
