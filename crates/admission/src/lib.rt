@@ -16,7 +16,7 @@
 //! Calls: `Greeting::read` and `to_bytes`; `Registry::new` and `answer`; `Admission::new`, `turn`, `hear`, `standing` and `others`.
 //!
 //! To read in this order: `greeting`, `actors`, `claim`, `registry`, `own`, `others`, `asking`, `laws`; then `specs/Greetings`,
-//! `Actors`, `Registries`, `Rounds`, `Questions`, `Asked`. No program uses it yet.
+//! `Actors`, `Registries`, `Rounds`, `Questions`, `Asked`.
 #![tactic(auto)]
 
 mod actors;

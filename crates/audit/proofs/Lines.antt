@@ -7,7 +7,7 @@ use Rattle.std.proofs.KnownBytes.{Consumes-nil, Consumes-trans}
 use Rattle.std.proofs.lemmas.Bool.{false≢true}
 use Rattle.line_reader.specs.Cutting.{lines_of}
 use Rattle.line_reader.specs.Deciding.{Follows, cut_of}
-use Rattle.line_reader.specs.Reading.{IsEnd, IsFirst, Reaches, Reading, TakesFrom, lines_before}
+use Rattle.line_reader.specs.Reading.{IsEnd, IsFirst, Reaches, Reading, TakesFrom}
 use Rattle.line_reader.specs.Reading as lines
 use Rattle.line_reader.specs.declared.first_line.FirstLine.{FirstLine}
 use Rattle.nop_types.specs.Meaning.{Meaning}

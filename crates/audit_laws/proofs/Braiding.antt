@@ -1,7 +1,7 @@
 -- Each order of a run's steps that keeps each actor's own, and delivers only what was sent, is a run.
-use Rattle.std.proofs.Common.{◌≡◌, ℕ, ◌<◌, Bool, true, false, cond, List, [], ◌∷◌, ◌++◌, map, length, Some, Result, Ok, refl, sym, ap, subst}
+use Rattle.std.proofs.Common.{◌≡◌, ℕ, ◌<◌, Bool, true, false, cond, List, [], ◌∷◌, ◌++◌, map, length, Ok, refl, sym, ap, subst}
 use Rattle.std.proofs.Common.{◌∙◌, append_assoc}
-use Rattle.std.specs.Prelude.{◌==◌, slice_get, slice_set}
+use Rattle.std.specs.Prelude.{◌==◌, slice_set}
 use Rattle.std.specs.List.{flat_map}
 use Rattle.std.proofs.lemmas.Bool.{ltb-true}
 use Rattle.std.proofs.lemmas.List.{append-nil, map-append}
@@ -21,15 +21,15 @@ use Rattle.network.specs.Network.{Sent, Outputs, sends_of, lines_from}
 use Rattle.trace_rows.specs.declared.row.Gave.{Gave}
 use Rattle.trace_rows.specs.declared.row.Taken.{Taken}
 use Rattle.world.specs.Others.{Kind, Sequencers, Clients, Controllers, State, next, Others, seats, with_seat, count, Who, AReplica, Another, AnObserver, who, actor_at}
-use Rattle.world.specs.Refusals.{is_one_of, is_actor}
+use Rattle.world.specs.Refusals.{is_actor}
 use Rattle.world.specs.Seats.{Seated, Takes, seated}
 use Rattle.world.specs.WorldSteps.{WorldState, Happened, opening, opening_client, step, step_of, at_replica, at_other, at_observer}
-use Rattle.audit_laws.specs.Audits.{Step, AllSay, IsStep, Follows, Ends, Goes, event_of}
-use Rattle.audit_laws.specs.Braids.{own, sent_by, sends_in, IsThere, IsCausal, RunsSo, OrdersRun, RunsAreCausal}
+use Rattle.audit_laws.specs.Audits.{Step, AllSay, IsStep, Follows, Ends, Goes}
+use Rattle.audit_laws.specs.Braids.{own, sends_in, IsThere, IsCausal, OrdersRun, RunsAreCausal}
 use Rattle.audit_laws.specs.Names.{same_actor}
 use Rattle.audit_laws.proofs.Naming.{same_actor-refl}
 use Rattle.audit_laws.proofs.Saying.{all_sent, said_from}
-use Rattle.audit_laws.proofs.Seating.{SeatsAre, Found, after, found, givens, one_moves, opening_are, others_stay, own-append, state_after}
+use Rattle.audit_laws.proofs.Seating.{SeatsAre, after, found, givens, one_moves, opening_are, others_stay, own-append, state_after}
 use Rattle.audit_laws.proofs.Taking.{IsEventFor, MayTake, event_has, event_is, given_of, may_take, was_there}
 
 -- ---- actors of different kinds are apart

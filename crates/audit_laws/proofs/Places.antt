@@ -1,6 +1,5 @@
 -- An event leaves the configuration as it was.
-use Rattle.std.proofs.Common.{◌≡◌, ℕ, Result, Ok, Err, sym, ap}
-use Rattle.nop_types.specs.Configuration.{Configuration}
+use Rattle.std.proofs.Common.{◌≡◌, Result, Ok, Err, sym, ap}
 use Rattle.nop_types.specs.Meaning.{Meaning}
 use Rattle.network.specs.Network.{Did}
 use Rattle.schedule_text.specs.declared.event.Event.{Event}

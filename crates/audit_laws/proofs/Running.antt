@@ -25,11 +25,11 @@ use Rattle.trace_rows.specs.declared.row.Taken.{Taken}
 use Rattle.trace_rows.specs.TracedRows.{name_as}
 use Rattle.world.specs.Refusals.{is_actor}
 use Rattle.world.specs.WorldSteps.{WorldState, Happened, Refusal, history, opening, run, run_from, step}
-use Rattle.audit_laws.specs.Audits.{AllSay, Audits, Claims, Ends, Follows, Goes, IsStep, Passes, SoFar, Step, audited, claims_in, claims_of}
-use Rattle.audit_laws.specs.Audits.{ends, event_of, gives, go_on, goes, goes_by, happened_in, is_none, row, says, starts, step_rows, takes}
+use Rattle.audit_laws.specs.Audits.{AllSay, Audits, Claims, Ends, Follows, Goes, Passes, SoFar, Step, audited, claims_in}
+use Rattle.audit_laws.specs.Audits.{ends, event_of, gives, go_on, goes, goes_by, happened_in, is_none, says, starts, step_rows, takes}
 use Rattle.audit_laws.specs.Names.{actor_in, same_actor}
 use Rattle.audit_laws.specs.declared.fault.Fault.{Fault}
-use Rattle.audit_laws.specs.declared.fault.Fault.TheVariants.{Misplaced, Unlike}
+use Rattle.audit_laws.specs.declared.fault.Fault.TheVariants.{Unlike}
 use Rattle.audit_laws.proofs.Naming.{actor_in_is, actor_in_of, same_actor-refl, same_actor-true}
 use Rattle.audit_laws.proofs.Places.{config_stays}
 use Rattle.audit_laws.proofs.Saying.{all_claimed, claiming-append}

@@ -27,9 +27,9 @@ use Rattle.trace_rows.specs.declared.row.Number.TheVariants.{Is, Past}
 use Rattle.trace_rows.specs.declared.row.Taken.{Taken}
 use Rattle.trace_rows.specs.declared.row.Taken.TheVariants.{Packet, Submit, Read, Install}
 use Rattle.trace_rows.specs.declared.row.Taken.TheVariants as takens
-use Rattle.world.specs.Seats.{Stimulus, Takes}
-use Rattle.world.specs.WorldSteps.{Refusal, NoSuchActor, actor_of, stimulus_of, tick_if, read_if}
-use Rattle.audit_laws.specs.Audits.{event_of, packet_event, found_event, read_event, install_event, tick_event}
+use Rattle.world.specs.Seats.{Takes}
+use Rattle.world.specs.WorldSteps.{actor_of, stimulus_of, tick_if, read_if}
+use Rattle.audit_laws.specs.Audits.{event_of, packet_event, found_event, read_event, install_event}
 use Rattle.audit_laws.specs.Braids.{IsThere}
 use Rattle.audit_laws.specs.Names.{number_within}
 use Rattle.audit_laws.specs.declared.fault.Fault.{Fault}

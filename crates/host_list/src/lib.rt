@@ -13,7 +13,7 @@
 //! Calls: `read`; `HostList::cluster`, `config`, `address_of`, `actor_of`, `digest`; `Refusal` and `Rule::number`.
 //!
 //! To read in this order: `rule`, `list`, `words`, `places`, `addresses`, `entry`, `found`, `counts`, `reading`, `digest`, `laws`;
-//! then `specs/Words`, `Addresses`, `Places`, `Reading`, `Lists`, `Digests`. No program uses it yet.
+//! then `specs/Words`, `Addresses`, `Places`, `Reading`, `Lists`, `Digests`.
 #![tactic(auto)]
 
 mod addresses;

@@ -3,13 +3,17 @@ ghost use Rattle.nop_types.specs.Parts.{IsPart};
 ghost use Rattle.nop_types.specs.declared.limits.TheConstants.{MAX_DATAGRAM_BYTES};
 ghost use Rattle.udp_ports.specs.Acks.{IsNoAck};
 ghost use Rattle.udp_ports.specs.Links.{AdmitsPart, HeedsAck};
+ghost use Rattle.udp_ports.specs.Places.{IsHeard};
 ghost use Rattle.udp_ports.specs.Receiving.{all_settled, recorded};
+ghost use Rattle.std.specs.Option.{option_copied};
 
 use crate::acks::Ack;
 use crate::flow::{Admission, MOST_IN_FLIGHT};
 use crate::flows::Flows;
+use crate::guard::Guard;
 use crate::lanes::LANES;
 use crate::parts::is_part;
+use crate::places::{Source, may_send, sender};
 use crate::receipts::Receipts;
 use crate::socket::{Patience, Socket};
 use nop_types::{Bytes, NoMemory};
@@ -20,13 +24,14 @@ use std::time::Clock;
 /// How many acknowledgements a poll reads at most: as many as it may have caused, with six parts to each of six ports.
 const MOST_ACKS: usize = MOST_IN_FLIGHT;
 
-/// A datagram socket at a port of the loopback address, with counts of its errors. The parts of a long message are sent while it
+/// A datagram socket at a port, with counts of its errors. The parts of a long message are sent while it
 /// is polled, as those before them are acknowledged.
 #[derive(Drop)]
 pub struct UdpLink<'a, R: Clock> {
     socket: Socket<'a, R>,
     port: u16,
     waits: bool,
+    guard: Option<Guard>,
     flows: Flows,
     receipts: Receipts,
     faults: u64,
@@ -94,9 +99,30 @@ fn acknowledge_rest<R: Clock>(socket: &Socket<'_, R>, receipts: &mut Receipts)
     }
 }
 
-/// The next datagram that is no acknowledgement.
+/// Takes a greeting, where a link has a guard. Whether the bytes are one.
+fn greet<R: Clock>(
+    guard: &mut Option<Guard>,
+    socket: &Socket<'_, R>,
+    source: Source,
+    bytes: &[u8],
+) -> bool {
+    match (guard, source) {
+        (Some(guard), Source::Known(from)) => guard.greet(socket, from, bytes),
+        _ => false,
+    }
+}
+
+/// Claims the own number at those that have not noted it, where a link has a guard.
+fn remind<R: Clock>(guard: &mut Option<Guard>, socket: &Socket<'_, R>) {
+    if let (Some(guard), Some(places)) = (guard, socket.places()) {
+        guard.remind(socket, places);
+    }
+}
+
+/// The next datagram that is no greeting and no acknowledgement, and that its sender may send.
 fn receive<R: Clock>(
     socket: &mut Socket<'_, R>,
+    guard: &mut Option<Guard>,
     flows: &mut Flows,
     receipts: &mut Receipts,
     patience: Patience,
@@ -104,6 +130,7 @@ fn receive<R: Clock>(
     ensures short { IfOk result (λ r. IfSome r (λ datagram. length datagram
         ≤ MAX_DATAGRAM_BYTES)) }
     ensures heeded { IfOk result (λ r. IfSome r IsNoAck) }
+    ensures heard { IfOk result (λ r. IfSome r (IsHeard (option_copied socket.old.places))) }
     ensures settled { result ≡ Ok None → receipts.new ≡ all_settled receipts.old }
     ensures recorded { IfOk result (λ r. IfSome r (λ datagram. IsPart datagram
         → (from : ℕ) × (receipts.new ≡ recorded from receipts.old))) }
@@ -113,11 +140,19 @@ fn receive<R: Clock>(
         let Some(received) = socket.receive(patience)? else {
             break;
         };
-        if !heed(flows, received.from, received.bytes.as_slice()) {
-            acknowledge_part(socket, receipts, received.from, received.bytes.as_slice());
+        patience = Patience::Returns;
+        let Some(from) = sender(received.source) else {
+            continue;
+        };
+        if greet(guard, socket, received.source, received.bytes.as_slice())
+            || heed(flows, from, received.bytes.as_slice())
+        {
+            continue;
+        }
+        if may_send(received.source, received.bytes.as_slice()) {
+            acknowledge_part(socket, receipts, from, received.bytes.as_slice());
             return Ok(Some(received.bytes));
         }
-        patience = Patience::Returns;
     }
     acknowledge_rest(socket, receipts);
     Ok(None)
@@ -130,6 +165,7 @@ impl<'a, R: Clock> UdpLink<'a, R> {
         socket: Socket<'a, R>,
         port: u16,
         waits: bool,
+        guard: Option<Guard>,
     ) -> UdpLink<'a, R>
         ensures port { result.port ≡ port }
         ensures faults { result.faults ≡ 0 }
@@ -139,6 +175,7 @@ impl<'a, R: Clock> UdpLink<'a, R> {
             socket,
             port,
             waits,
+            guard,
             flows: Flows::new(alloc),
             receipts: Receipts::new(),
             faults: 0,
@@ -180,9 +217,11 @@ impl<'a, R: Clock> Link for UdpLink<'a, R> {
     fn poll(&mut self) -> Result<Option<Bytes>, LinkError> {
         let failed = self.flows.begin_turn(&self.socket);
         self.losses = self.losses.saturating_add(failed);
+        remind(&mut self.guard, &self.socket);
         let patience = self.patience();
         let answer = receive(
             &mut self.socket,
+            &mut self.guard,
             &mut self.flows,
             &mut self.receipts,
             patience,

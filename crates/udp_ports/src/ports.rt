@@ -1,18 +1,21 @@
 ghost use Rattle.std.specs.Prelude.{◌≡◌, ◌≤◌, [], vec_len, vec_capacity};
 
 use crate::UdpLink;
+use crate::guard::{Guard, Home, admit};
+use crate::places::Place;
 use crate::socket::Socket;
 use outside::{AttachError, Ports};
 use std::alloc::Global;
 use std::net::Net;
 use std::time::Clock;
 
-/// The ports of the loopback address, with a count of the attaches that failed. Of the links that are attached together only the
-/// first waits when it is polled, so a turn of a cluster waits once and not for each of its actors.
+/// The ports of the loopback address, or those of a table of places, with a count of the attaches that failed. Of the links that are
+/// attached together only the first waits when it is polled, so a turn of a cluster waits once and not for each of its actors.
 #[derive(Drop)]
 pub struct UdpPorts<'a, R: Net + Clock> {
     net: &'a R,
     alloc: Global,
+    home: Option<Home<'a>>,
     attached: usize,
     detached: Vec<UdpLink<'a, R>>,
     faults: u64,
@@ -30,10 +33,52 @@ impl<'a, R: Net + Clock> UdpPorts<'a, R> {
         UdpPorts {
             net,
             alloc,
+            home: None,
             attached: 0,
             detached: Vec::new(alloc),
             faults: 0,
         }
+    }
+
+    /// Nothing is attached. Only the own port can be, at the address that the table of places has for it, and only where the others
+    /// say that the process may have its number. The link takes only what comes from an address of the table.
+    pub fn at_hosts(net: &'a R, alloc: Global, home: Home<'a>) -> UdpPorts<'a, R>
+        ensures attached { result.attached ≡ 0 }
+        ensures detached { result.detached.items ≡ [] }
+        ensures faults { result.faults ≡ 0 }
+    {
+        UdpPorts {
+            net,
+            alloc,
+            home: Some(home),
+            attached: 0,
+            detached: Vec::new(alloc),
+            faults: 0,
+        }
+    }
+
+    fn socket_at(
+        &self,
+        places: Option<&'a [Place]>,
+        port: u16,
+    ) -> Result<Socket<'a, R>, AttachError> {
+        match Socket::open(self.net, self.net, places, self.alloc, port) {
+            Ok(socket) => Ok(socket),
+            Err(_) => Err(AttachError::Failed),
+        }
+    }
+
+    /// A socket at a port; at that of a home, where the process may have its number.
+    fn open(&self, port: u16) -> Result<(Socket<'a, R>, Option<Guard>), AttachError> {
+        let Some(home) = self.home else {
+            return Ok((self.socket_at(None, port)?, None));
+        };
+        if port != home.port {
+            return Err(AttachError::Failed);
+        }
+        let mut socket = self.socket_at(Some(home.places), port)?;
+        let guard = admit(self.alloc, &mut socket, home)?;
+        Ok((socket, Some(guard)))
     }
 }
 
@@ -53,16 +98,16 @@ impl<'a, R: Net + Clock> Ports for UdpPorts<'a, R> {
     fn attach(&mut self, port: u16) -> Result<UdpLink<'a, R>, AttachError> {
         let others = self.attached - self.detached.len();
         self.detached.reserve(others + 1)?;
-        match Socket::open(self.net, self.net, self.alloc, port) {
-            Ok(socket) => {
-                self.attached += 1;
-                Ok(UdpLink::new(self.alloc, socket, port, others == 0))
-            }
-            Err(_) => {
+        let (socket, guard) = match self.open(port) {
+            Ok(opened) => opened,
+            Err(AttachError::NoMemory) => return Err(AttachError::NoMemory),
+            Err(AttachError::Failed) => {
                 self.faults = self.faults.saturating_add(1);
-                Err(AttachError::Failed)
+                return Err(AttachError::Failed);
             }
-        }
+        };
+        self.attached += 1;
+        Ok(UdpLink::new(self.alloc, socket, port, others == 0, guard))
     }
 
     /// What still waits at the link is sent.

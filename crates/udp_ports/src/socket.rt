@@ -1,12 +1,16 @@
 ghost use Rattle.std.specs.Prelude.{◌≡◌, ◌<◌, ◌≤◌, ◌/◌, ◌^◌, length, IfOk, IfSome, SomeIff};
 ghost use Rattle.std.specs.Duration.{as_nanos};
+ghost use Rattle.std.specs.Option.{option_copied};
+ghost use Rattle.std.specs.declared.net.socket_addr.SocketAddr.{SocketAddr};
+ghost use Rattle.udp_ports.specs.Places.{source_of};
 ghost use Rattle.nop_types.specs.declared.limits.TheConstants.{MAX_DATAGRAM_BYTES};
 
+use crate::places::{Place, Source, address_of, source_of};
 use nop_types::{Bytes, MAX_DATAGRAM_BYTES, NoMemory};
 use outside::LinkError;
 use std::alloc::Global;
 use std::io::ErrorKind;
-use std::net::{Ipv4Addr, Net, UdpSocket};
+use std::net::{Net, UdpSocket};
 use std::time::{Clock, Duration};
 use std::{io, mem, thread};
 
@@ -26,17 +30,18 @@ pub(crate) enum Patience {
     Returns,
 }
 
-/// A datagram that came, and the port that it came from. The address is taken for the loopback address.
+/// A datagram that came, and from whom.
 #[derive(Debug, Drop)]
 pub(crate) struct Received {
-    pub(crate) from: u16,
+    pub(crate) source: Source,
     pub(crate) bytes: Bytes,
 }
 
-/// A datagram socket at a port of the loopback address.
+/// A datagram socket at a port of the loopback address, or at the place that a table has for the port.
 #[derive(Drop)]
 pub(crate) struct Socket<'a, R: Clock> {
     clock: &'a R,
+    places: Option<&'a [Place]>,
     alloc: Global,
     socket: UdpSocket,
     // Whether the system lets a receive wait.
@@ -64,13 +69,18 @@ impl<'a, R: Clock> Socket<'a, R> {
     pub(crate) fn open<N: Net>(
         net: &N,
         clock: &'a R,
+        places: Option<&'a [Place]>,
         alloc: Global,
         port: u16,
     ) -> io::Result<Socket<'a, R>> {
-        let socket = UdpSocket::bind(net, (Ipv4Addr::LOCALHOST, port))?;
+        let Some(address) = address_of(places, port) else {
+            return Err(io::Error::from(ErrorKind::AddrNotAvailable));
+        };
+        let socket = UdpSocket::bind(net, address)?;
         socket.set_read_timeout(Some(Duration::from_millis(WAIT_MILLIS)))?;
         Ok(Socket {
             clock,
+            places,
             alloc,
             socket,
             is_waiting: true,
@@ -78,15 +88,18 @@ impl<'a, R: Clock> Socket<'a, R> {
         })
     }
 
-    /// Whether the system took the datagram, which goes to a port of the loopback address.
+    /// Whether the system took the datagram, which goes to the address of a port.
     pub(crate) fn has_sent(&self, port: u16, bytes: &[u8]) -> bool {
-        self.socket
-            .send_to(bytes, (Ipv4Addr::LOCALHOST, port))
-            .is_ok()
+        match address_of(self.places, port) {
+            Some(address) => self.socket.send_to(bytes, address).is_ok(),
+            None => false,
+        }
     }
 
     /// Lets a receive wait, or not. Where the system refuses, it stays as it was.
-    fn set_waiting(&mut self, is_waiting: bool) {
+    fn set_waiting(&mut self, is_waiting: bool)
+        ensures { self.new.places ≡ self.old.places }
+    {
         if is_waiting != self.is_waiting && self.socket.set_nonblocking(!is_waiting).is_ok() {
             self.is_waiting = is_waiting;
         }
@@ -94,7 +107,8 @@ impl<'a, R: Clock> Socket<'a, R> {
 
     /// What was received, in the space that was made for it.
     fn take_space(&mut self, received: &[u8]) -> Result<Bytes, NoMemory>
-        ensures { IfOk result (λ datagram. datagram ≡ received.now) }
+        ensures bytes { IfOk result (λ datagram. datagram ≡ received.now) }
+        ensures places { self.new.places ≡ self.old.places }
     {
         let mut bytes = mem::replace(&mut self.space, Vec::new(self.alloc));
         bytes.clear();
@@ -105,14 +119,18 @@ impl<'a, R: Clock> Socket<'a, R> {
     /// The next datagram, if one comes; of a longer one its first `MAX_DATAGRAM_BYTES` bytes. `NoMemory` where there is no space
     /// for one, before any is received.
     pub(crate) fn receive(&mut self, patience: Patience) -> Result<Option<Received>, LinkError>
-        ensures { IfOk result (λ r. IfSome r (λ it. length it.bytes ≤ MAX_DATAGRAM_BYTES)) }
+        ensures short { IfOk result (λ r. IfSome r (λ it. length it.bytes
+            ≤ MAX_DATAGRAM_BYTES)) }
+        ensures source { IfOk result (λ r. IfSome r (λ it. (from : SocketAddr)
+            × (it.source ≡ source_of (option_copied self.old.places) from))) }
+        ensures places { self.new.places ≡ self.old.places }
     {
         self.space.reserve(MAX_DATAGRAM_BYTES)?;
         self.set_waiting(patience == Patience::Waits);
         let mut buf = [0u8; MAX_DATAGRAM_BYTES];
         match self.socket.recv_from(&mut buf) {
             Ok((count, from)) => Ok(Some(Received {
-                from: from.port(),
+                source: source_of(self.places, from),
                 bytes: self.take_space(&buf[..count])?,
             })),
             Err(e) => {
@@ -125,6 +143,11 @@ impl<'a, R: Clock> Socket<'a, R> {
                 Ok(None)
             }
         }
+    }
+
+    /// The table of places, if there is one.
+    pub(crate) fn places(&self) -> Option<&'a [Place]> {
+        self.places
     }
 
     /// The time in microseconds from a start of the clock's own, where it can be read.

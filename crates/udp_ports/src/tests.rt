@@ -35,7 +35,7 @@ fn millis(clock: &impl std::time::Clock) -> u64 {
 }
 
 /// What the link receives within a second.
-fn received<R: std::time::Clock>(link: &mut UdpLink<'_, R>, clock: &R) -> Option<Bytes> {
+pub(crate) fn received<R: std::time::Clock>(link: &mut UdpLink<'_, R>, clock: &R) -> Option<Bytes> {
     let start = millis(clock);
     for _ in 0..100_000usize {
         if let Ok(Some(datagram)) = link.poll() {

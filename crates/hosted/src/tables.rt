@@ -1,0 +1,54 @@
+//! The table of places that a list of hosts gives.
+
+ghost use Rattle.std.specs.Prelude.{◌≡◌, ◌++◌, IfOk, OnOk};
+ghost use Rattle.hosted.specs.Tables.{place_of, places_of};
+
+use host_list::HostList;
+use nop_types::{
+    Actor, MAX_CLIENTS, MAX_CONTROLLERS, MAX_OBSERVERS, MAX_REPLICAS, MAX_SEQUENCERS, NoMemory,
+};
+use std::alloc::Global;
+use udp_node::Address;
+use udp_ports::Place;
+
+/// Adds the place of an actor, if the list has it.
+fn add(places: &mut Vec<Place>, list: &HostList, at: &Address, actor: Actor) -> Result<(), NoMemory>
+    ensures { OnOk result (places.new.items
+        ≡ places.old.items ++ place_of at.now.base list.now actor) }
+{
+    if let Some(address) = list.address_of(actor) {
+        places.push(Place {
+            port: at.port_of(actor),
+            actor,
+            address,
+        })?;
+    }
+    Ok(())
+}
+
+/// The places of all actors of a list, under the ports that nodes send to.
+pub(crate) fn places_of(
+    alloc: Global,
+    list: &HostList,
+    at: &Address,
+) -> Result<Vec<Place>, NoMemory>
+    ensures { IfOk result (λ places. places.items ≡ places_of at.now.base list.now) }
+{
+    let mut places = Vec::new(alloc);
+    for replica in 0..MAX_REPLICAS {
+        add(&mut places, list, at, Actor::Replica(replica))?;
+    }
+    for sequencer in 0..MAX_SEQUENCERS {
+        add(&mut places, list, at, Actor::Sequencer(sequencer))?;
+    }
+    for controller in 0..MAX_CONTROLLERS {
+        add(&mut places, list, at, Actor::Controller(controller))?;
+    }
+    for client in 0..MAX_CLIENTS {
+        add(&mut places, list, at, Actor::Client(u32::from(client)))?;
+    }
+    for observer in 0..MAX_OBSERVERS {
+        add(&mut places, list, at, Actor::Observer(observer))?;
+    }
+    Ok(places)
+}
