@@ -1,7 +1,7 @@
 -- An account as the code goes about it.
-use Rattle.std.proofs.Common.{◌≡◌, ℕ, zero, suc, ◌+◌, ◌<◌, ◌≤◌, Bool, true, false, cond, not, List, [], ◌∷◌, ◌++◌, length, max, Option, Some, None, Result, Ok, Err}
+use Rattle.std.proofs.Common.{◌≡◌, ℕ, zero, suc, ◌+◌, ◌<◌, ◌≤◌, Bool, true, false, cond, not, List, [], ◌∷◌, ◌++◌, length, max, Some, None}
 use Rattle.std.proofs.Common.{refl, sym, ap, ◌∙◌, arith}
-use Rattle.std.specs.Prelude.{◌==◌, ◌||◌, OnErr, count_by, drop, find, insert, is_some, nat_le, nat_lt, take}
+use Rattle.std.specs.Prelude.{◌==◌, ◌||◌, count_by, drop, find, insert, nat_le, nat_lt, take}
 use Rattle.std.specs.List.{list_any, position, position_from, slice_index_or}
 use Rattle.std.specs.Option.{option_map, unwrap_or}
 use Rattle.std.proofs.lemmas.Bool.{and_from, and_parts, or_parts, eqb-true, eq-eqb, ltb-true, ltb-false, lt-ltb}
@@ -15,7 +15,7 @@ use Rattle.nop_types.specs.Checkpoints.{is_kept, least_kept, runs_to}
 use Rattle.lemmas.proofs.Kept.{AscendFrom, ascends, far_first, few, goes_before, more_is_kept, most, within_with}
 use Rattle.client_table.specs.Accounts.{is_far}
 use Rattle.client_table.specs.Laws.{new_has_none}
-use Rattle.client_table.specs.Table.{Fresh, MayReturn, Removed, Same, verdict_by_result, verdict_on}
+use Rattle.client_table.specs.Table.{Fresh, Same, verdict_by_result, verdict_on}
 
 pub any_id : (kept : List Answered) (id : ℕ) → list_any (λ a. a.id == id) kept ≡ is_in (kept_ids kept) id
 any_id [] id = refl
@@ -243,17 +243,7 @@ keeps old x h new g n is count = (
         let low = ltb-true old.greatest (x.id + WINDOW) (and_parts (nat_lt old.greatest (x.id + WINDOW)) _ new).0 in
         lt-ltb top (x.id + WINDOW) (omega (arith, low))
 
--- ---- the result of a call
-
-pub as_err : {A E : Type 0} {P : Type 0} (r : Result A E) → P → OnErr r P
-as_err (Ok x) h = tt
-as_err (Err e) h = h
-
 -- ---- one result less
 
 pub kept_fit : (a : Account) → is_kept a ≡ true → length a.kept ≤ WINDOW
 kept_fit a h = let all = few a.greatest (least_kept a.greatest) a.kept h in omega (arith, all)
-
-pub account_there : (o : Option Account) (id : ℕ) (r : Removed) → MayReturn o id (Some r) → is_some o ≡ true
-account_there None id r h = absurd h
-account_there (Some a) id r h = refl

@@ -1,4 +1,4 @@
 pub mod AccountLemmas
+pub mod EntryLemmas
 pub mod RunLemmas
 pub mod SavedLemmas
-pub mod TableLemmas

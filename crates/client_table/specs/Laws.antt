@@ -30,7 +30,7 @@ pub kept_of_with_result : (table : Table) (client : ℕ) (a : Answered) (q : ℕ
     ≡ cond (eqb client q) (Some (account_with WINDOW (kept_for table client) a)) (kept_for table q)
 kept_of_with_result table client a q = kept_of_insert table client (account_with WINDOW (kept_for table client) a) q
 
-kept_of_remove : (table : Table) (client : ℕ) (q : ℕ)
+pub kept_of_remove : (table : Table) (client : ℕ) (q : ℕ)
     → kept_for (finite.remove table client) q ≡ cond (eqb client q) None (kept_for table q)
 kept_of_remove table client q =
     finite.get-remove nat_cmp_total table client q ∙ ap (λ (b : Bool). cond b None (kept_for table q)) (tie client q)
