@@ -10,7 +10,7 @@ nopaxos=$program
 needs "" kv_call
 
 . checks/nodes.bash
-base=$((20000 + $$ % 600 * 64))
+finds_ports
 nodes_of "$nopaxos" --replicas 3 --sequencers 1 --base "$base"
 
 # ends STATUS WANTED ARGUMENTS..: the program ends with this status, and writes what is wanted.
@@ -74,13 +74,15 @@ sees() {
         differs "the read at position $3: status $2, '$(head -c 600 "$folder/$1")'"
 }
 
+# is_answered NAME: there is an answer in this file.
+is_answered() {
+    answers "$1" | grep -q .
+}
+
 # waits NAME PROCESS POSITION RESULT: the client is answered, with this result, but not at this position, and goes on.
 waits() {
     made=$((made + 1))
-    for _ in $(seq 100); do
-        answers "$1" | grep -q . && break
-        sleep 0.1
-    done
+    awaits is_answered "$1"
     sleep 0.3
     kill -0 "$2" 2> /dev/null && answers "$1" | awk -v at="$3" -v result="$4" '$1 >= at || $2 != result { wrong = 1 } END { exit wrong || !NR }' ||
         differs "the read that waits for position $3: '$(head -c 600 "$folder/$1")'"
@@ -90,7 +92,7 @@ start s0 sequencer --id 0
 for i in 0 1 2; do start "r$i" node --id $i --observers 1; done
 start o0 observer --id 0
 start ctl controller --id 0
-sleep 0.5
+are_up s0 r0 r1 r2 o0 ctl
 called 0 none put k v
 called 1 '=v' get k
 called 2 yes compare-and-set k v 0x00
@@ -99,10 +101,19 @@ slotted 7 '=0x00' get k
 
 # Who knows the slot of a write reads it at once.
 slotted 20 none put m 0
-asks read 32 "$slot"
+asks read 48 "$slot"
 sees read $? "$slot" 3d30
-# No more slots are synchronised for now.
-later=$((slot + 3))
+# No more slots are synchronised for now: also what was sent again has its slot by the time that the position stands still.
+before=
+for client in $(seq 49 79); do
+    sleep 0.5
+    asks read "$client" 0
+    at=$(answers read | tail -n 1 | cut -d' ' -f1)
+    [ "$at" != "$before" ] || break
+    before=$at
+done
+later=$((at + 3))
+: > "$folder/waiting"
 asks waiting 31 "$later" &
 pids[waiting]=$!
 waits waiting "${pids[waiting]}" "$later" 3d30

@@ -18,6 +18,38 @@ needs() {
     [ -x "$program" ] || { echo "$check: there is no program file $program"; exit 1; }
 }
 
+# awaits COMMAND..: runs it until it succeeds, for a minute at most. Whether it did.
+awaits() {
+    local tries
+    for ((tries = 0; tries < 1200; tries++)); do
+        "$@" && return
+        sleep 0.05
+    done
+    return 1
+}
+
+# is_taken PORT COUNT: somebody has one of so many UDP ports from this one on, at any address.
+is_taken() {
+    local address port
+    while read -r _ address _; do
+        port=${address##*:}
+        if [[ $port =~ ^[0-9A-F]{4}$ ]] && ((16#$port >= $1 && 16#$port < $1 + $2)); then return 0; fi
+    done < <(cat /proc/net/udp /proc/net/udp6 2> /dev/null)
+    return 1
+}
+
+# finds_ports: $base is the first of 128 ports that nobody has. They are below 32768: from there on the system gives ports to programs that
+# ask for any.
+finds_ports() {
+    local tries
+    for ((tries = 0; tries < 176; tries++)); do
+        base=$((10240 + ($$ + tries) % 176 * 128))
+        is_taken "$base" 128 || return 0
+    done
+    echo "$check: there are no free ports"
+    exit 1
+}
+
 # differs WORDS..: one more difference.
 differs() {
     echo "$check: $*"

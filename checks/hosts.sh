@@ -10,7 +10,7 @@ needs "${HOSTS:-}" nopaxos_hosts
 . checks/nodes.bash
 nodes_of "$program"
 site=
-base=$((20000 + $$ % 600 * 64))
+finds_ports
 
 # list NUMBER: the list of hosts of a cluster with this number.
 list() {
@@ -26,29 +26,43 @@ list() {
 }
 nodes='r0 r1 r2 s0 s1 ctl1'
 
-# starts LIST WORDS..: all nodes of a list, the first controller with its order.
+# starts LIST WORDS..: all nodes of a list, the first controller with its order. The replicas write traces, from when they are admitted on.
 starts() {
     local name
-    for name in $nodes; do start "$name" "$@" "$name"; done
+    for name in $nodes; do
+        case $name in
+        r*) start "$name" "$@" "$name" --trace ;;
+        *) start "$name" "$@" "$name" ;;
+        esac
+    done
     start ctl "$@" ctl --install 0
 }
 
-# answered WANTED NAME OPS..: a new client is answered with this result, the last one where it has several ops.
+# are_admitted: waits until all replicas are. One that is late is admitted by most of all nodes, so not once host 1 is lost.
+are_admitted() {
+    local name
+    # shellcheck disable=SC2086
+    are_up $nodes ctl
+    for name in r0 r1 r2; do awaits test -s "$folder/$name" || differs "$name is not admitted"; done
+}
+
+# answered WANTED NAME OPS..: a new client is answered with these results, each after how often it came, in the order of the results.
 answered() {
-    local wanted=$1 status
+    local wanted=$1 status results
     shift
     made=$((made + 1))
     timeout 60 "$program" "$hosts" "$@" > "$folder/out" 2>&1
     status=$?
-    [ "$status" = 0 ] && [ "$(sed -n 's/^accept [^ ]* [^ ]* //p' "$folder/out" | tail -1)" = "$wanted" ] ||
-        differs "client $1: status $status, '$(head -c 300 "$folder/out")' in place of '$wanted'"
+    results=$(sed -n 's/^accept [^ ]* [^ ]* //p' "$folder/out" | LC_ALL=C sort | uniq -c | xargs)
+    [ "$status" = 0 ] && [ "$results" = "$wanted" ] ||
+        differs "client $1: status $status, '$results' in place of '$wanted', '$(head -c 300 "$folder/out")'"
 }
 
-# refused WORDS..: this ends with status 5, within a second.
+# refused WORDS..: this ends with status 5, long before the minute after which too few answered.
 refused() {
     local status
     made=$((made + 1))
-    timeout 1 "$program" "$@" > "$folder/out" 2>&1
+    timeout 20 "$program" "$@" > "$folder/out" 2>&1
     status=$?
     [ "$status" = 5 ] || differs "$*: status $status and not 5"
 }
@@ -77,21 +91,26 @@ ends 'a list that is none' 2 'error line 1 rule 4' "$folder/bad" r0
 put=5000016b000176
 get=4700016b
 starts "$hosts"
+are_admitted
+# The put that is stamped first finds nothing there, whichever it is.
 # shellcheck disable=SC2046
-answered 3d76 c0 $(for _ in {1..63}; do echo $put; done) $put
+answered '63 3d76 1 6e6f6e65' c0 $(for _ in {1..64}; do echo $put; done)
 killed='r0 s0 ctl'
 # shellcheck disable=SC2086
 kills $killed
 began=$(date +%s%N)
-answered 3d76 c1 "$get"
+answered '1 3d76' c1 "$get"
 made=$((made + 1))
 took=$((($(date +%s%N) - began) / 1000000))
-[ "$took" -le 4000 ] || differs "host 1 lost: answered after $took ms"
+# Four seconds, or more where more processes want a processor than there are.
+most=4000
+[ "$(cut -d. -f1 /proc/loadavg)" -lt "$(nproc)" ] || most=20000
+[ "$took" -le "$most" ] || differs "host 1 lost: answered after $took ms"
 for name in r0 s0 ctl; do refused "$hosts" "$name"; done
 for name in c0 c1; do refused "$hosts" "$name" "$put"; done
 list 8 > "$folder/other"
 refused "$folder/other" c2 "$get"
-answered 3d76 c2 "$get"
+answered '1 3d76' c2 "$get"
 
 # ---- as many clients as a cluster serves, and one more; then all nodes end, and come again
 stop
@@ -106,5 +125,5 @@ stop
 for name in ctl $nodes; do refused "$hosts" --marks "$folder/marks" "$name"; done
 list 10 > "$hosts"
 starts "$hosts" --marks "$folder/marks"
-answered 6e6f6e65 c0 "$get"
+answered '1 6e6f6e65' c0 "$get"
 concludes

@@ -18,14 +18,14 @@ bob=$("$lock_ops" op acquire db bob)
 release=$("$lock_ops" op release db ann 1)
 inspect=$("$lock_ops" op inspect db)
 
-# results: each result of the lines of a client, in words, with a semicolon after it.
+# results: each result of the lines of a client, in the order of its ops, in words, with a semicolon after it.
 results() {
     local result
-    sed -n 's/^accept [^ ]* [^ ]* //p' "$1" | while read -r result; do echo "$("$lock_ops" result "$result");"; done | xargs
+    sed -n 's/^accept [^ ]* //p' "$1" | sort -n | cut -d' ' -f2 | while read -r result; do echo "$("$lock_ops" result "$result");"; done | xargs
 }
 
 . checks/nodes.bash
-base=$((20000 + $$ % 600 * 64))
+finds_ports
 nodes_of "$program" --replicas 3 --sequencers 1 --base "$base"
 
 # ends NAME WANTED_STATUS WANTED WORDS..: the program is run with these words, and writes what is wanted.
@@ -77,21 +77,22 @@ ends 'the transcript of the cluster' 0 'legal 4 4 4' check < "$folder/transcript
 start s0 sequencer --id 0
 for i in 0 1 2; do start "r$i" node --id $i; done
 start ctl controller --id 0
-sleep 0.5
+are_up s0 r0 r1 r2 ctl
 answered 0 'granted 1;' "$ann"
 kills r0
 answered 1 'held 1 ann;' "$bob"
 answered 2 'released;' "$release"
-answered 3 'granted 2; held 2 bob;' "$bob" "$inspect"
+answered 3 'granted 2;' "$bob"
+answered 4 'held 2 bob;' "$inspect"
 
 # ---- an observer of locks: it is asked by the op G, which is none of theirs
 start o0 observer --id 0
-sleep 0.3
+are_up o0
 made=$((made + 1))
 # shellcheck disable=SC2086
-timeout 60 "$program" read --id 4 --observer 0 $site --turns 2000 6462 > "$folder/out" 2>&1
+timeout 60 "$program" read --id 5 --observer 0 $site --turns 20000 6462 > "$folder/out" 2>&1
 status=$?
-[ "$status" = 0 ] && [ "$(sed '/^served /d' "$folder/out")" = 'read c4 1 o0 6462
-answer c4 1 o0 0 626164' ] || differs "the observer: status $status, '$(head -c 300 "$folder/out")'"
+[ "$status" = 0 ] && [ "$(sed '/^served /d' "$folder/out")" = 'read c5 1 o0 6462
+answer c5 1 o0 0 626164' ] || differs "the observer: status $status, '$(head -c 300 "$folder/out")'"
 
 concludes

@@ -18,6 +18,26 @@ start() {
     pids[$name]=$!
 }
 
+# port NAME: that of a node, from $base on.
+port() {
+    local number=${1##*[a-z]}
+    case $1 in
+    r*) echo $((base + number)) ;;
+    s*) echo $((base + 8 + number)) ;;
+    ctl*) echo $((base + 12 + ${number:-0})) ;;
+    o*) echo $((base + 32 + number)) ;;
+    esac
+}
+
+# are_up NAME..: waits until each of these nodes has its port. Whether it is its own: a node without one ends.
+are_up() {
+    local name
+    for name in "$@"; do
+        awaits is_taken "$(port "$name")" 1
+        kill -0 "${pids[$name]}" 2> /dev/null || differs "$name does not run: '$(head -c 300 "$folder/$name")'"
+    done
+}
+
 # kills NAME..: these nodes are killed.
 kills() {
     local name

@@ -94,6 +94,9 @@ linearize DEFAULT_STEPS 100_000_000
 braiding MAX_TRACE_LINES 4_000_000
 audit MAX_TRACE_LINES 4_000_000
 audit MAX_STEPS 999_999
+datagram_sources FIRST_PLACE 4
+datagram_sources SECOND_PLACE 5
+datagram_sources CLIENT_PLACE 7
 host_list PLACES 36
 host_list FNV_OFFSET 14_695_981_039_346_656_037
 host_list FNV_PRIME 1_099_511_628_211
@@ -130,6 +133,8 @@ transcript_rows MAX_OP_TEXT
 replay GATHERED_BYTES
 braiding MANY
 picture_arrows MAX_ACTORS
+hosted BASE
+udp_ports DIGEST
 udp_ports PORTS
 udp_ports MOST_ACKS
 udp_ports NAP_MICROS

@@ -8,20 +8,21 @@ needs "${NOPAXOS:-}" nopaxos -- replay
 
 schedule=examples/one-put.schedule
 transcript=examples/one-put.transcript
-base=$((20000 + $$ % 600 * 64))
+finds_ports
 site="--replicas 3 --sequencers 1 --base $base"
 usage='usage: nopaxos replay | gen | node | sequencer | controller | client | cluster | check | observer | read | audit'
 server=
 trap '[ -z "$server" ] || kill "$server" 2> /dev/null; rm -rf "$folder"' EXIT
 
-# answered NAME WANTED: the process that is running writes this and no more, within ten seconds.
+# wrote WANTED: the process that is running has written this and no more.
+wrote() {
+    [ "$(cat "$folder/out")" = "$1" ]
+}
+
+# answered NAME WANTED: the process that is running writes this and no more, within a minute.
 answered() {
     made=$((made + 1))
-    for _ in $(seq 200); do
-        [ "$(cat "$folder/out")" = "$2" ] && return
-        sleep 0.05
-    done
-    differs "$1: after ten seconds it had written '$(head -c 300 "$folder/out")' and not '$2'"
+    awaits wrote "$2" || differs "$1: after a minute it had written '$(head -c 300 "$folder/out")' and not '$2'"
 }
 
 # ---- replay
@@ -37,8 +38,12 @@ same 'no input' $? 3 ''
 same 'a full disk' $? 4 ''
 "$program" replay < "$schedule" >&- 2> "$folder/err"
 same 'no output' $? 4 ''
-{ (trap '' PIPE; sleep 0.2; "$program" replay < "$schedule" 2> "$folder/err"; echo $? > "$folder/status"); } | :
-same 'a closed pipe' "$(cat "$folder/status")" 4 ''
+# A pipe of which the last reader has gone.
+mkfifo "$folder/pipe"
+exec 3<> "$folder/pipe" 4> "$folder/pipe" 3>&-
+(trap '' PIPE; exec "$program" replay < "$schedule" >&4 2> "$folder/err")
+same 'a closed pipe' $? 4 ''
+exec 4>&-
 
 # Each line is answered before the next one is sent, also one whose end comes later than its beginning.
 mkfifo "$folder/lines"
@@ -177,7 +182,7 @@ served 1 lost 0"
     same 'a replica on a full disk' $? 4 ''
     "$program" sequencer --id 0 $site > "$folder/server" 2>&1 &
     server=$!
-    sleep 0.3
+    awaits is_taken $((base + 8)) 1
     "$program" sequencer --id 0 $site --turns 2 > "$folder/out" 2> "$folder/err"
     same 'an occupied port' $? 5 ''
     kill "$server"
@@ -209,26 +214,28 @@ read_is() {
 
 start s0 sequencer --id 0
 for i in 0 1 2; do start "r$i" node --id "$i" --observers 2; done
-sleep 0.5
+are_up s0 r0 r1 r2
 asks 0 0 20
 read_is 'a read while no observer runs' 7 0 0 ''
 start o0 observer --id 0
-sleep 0.3
-asks 1 0 2000
+are_up o0
+asks 1 0 20000
 read_is 'a read before a put' 0 1 0 'answer c1 1 o0 0 6e6f6e65'
 made=$((made + 1))
 # shellcheck disable=SC2086
 timeout 60 "$program" client --id 2 $site 5000016b000176 > "$folder/out" 2>&1
 grep -qx 'accept c2 1 6e6f6e65' "$folder/out" || differs "the put before a read: '$(head -c 300 "$folder/out")'"
-# What is accepted is synchronised within a tenth of a second or so.
-for client in $(seq 3 52); do
-    asks "$client" 0 2000
+# What is accepted is synchronised within a tenth of a second or so. An observer that lost it follows when more is: the same is put again.
+for client in $(seq 3 252); do
+    asks "$client" 0 20000
     ! grep -q ' 6e6f6e65$' "$folder/out" && break
     sleep 0.1
+    # shellcheck disable=SC2086
+    timeout 60 "$program" client --id $((client + 1000)) $site 5000016b000176 > /dev/null 2>&1
 done
 read_is 'a read after a put' 0 "$client" 0 "answer c$client 1 o0 POSITION 3d76"
-asks 60 1 20
-read_is 'a read of the observer that is not there' 7 60 1 ''
+asks 253 1 20
+read_is 'a read of the observer that is not there' 7 253 1 ''
 # shellcheck disable=SC2086
 "$program" observer --id 0 $site --turns 2 > "$folder/out" 2> "$folder/err"
 same 'an observer at an occupied port' $? 5 ''

@@ -2,10 +2,10 @@
 # Traces of real processes, audited. First how `braid`, `audit` and nodes with `--trace` end. Then runs of five replicas, two sequencers, two
 # controllers, two observers, three clients and two that read, over a network that loses, repeats, delays and damages datagrams
 # (checks/traces/relay.py): under way the leader and the sequencer in use are killed, in either order, now and then a controller or a
-# follower too; in the end all nodes are. The lines of shell of docs/AUDITING.md then order the steps of all traces, audit them, replay
-# what they are, judge it and draw it. It has to be a legal run of all these steps, with the answers that the clients wrote. Of a step that
-# was torn when its node was killed nothing is left by then; how often that happened is told. It takes some seconds a run, leaves nothing
-# behind, and ends with status 1 at any difference.
+# follower too; in the end all nodes are. Where an observer is behind in the end, a fourth client puts until it answers. The lines of shell of
+# docs/AUDITING.md then order the steps of all traces, audit them, replay what they are, judge it and draw it. It has to be a legal run of all
+# these steps, with the answers that the clients wrote. Of a step that was torn when its node was killed nothing is left by then; how often
+# that happened is told. It takes some seconds a run, leaves nothing behind, and ends with status 1 at any difference.
 #
 #   checks/traces.sh [RUNS]      how many runs (3);  NUMBER  what they are drawn from (1);  FIRST  the first one (0)
 #                                KEEP  a folder to which the traces of each run go, with what is made of them; of more than 10 runs those
@@ -119,9 +119,10 @@ same 'audit, a full disk' $? 4 ''
 same 'audit, 900,000 steps in 10 MB' $? 6 ''
 
 # ---- nodes with a trace
+finds_ports
 # traces NAME STATUS WANTED WORDS..: what a node writes in its first turn.
 traces() {
-    "$program" "${@:4}" --replicas 3 --sequencers 1 --base $((20000 + $$ % 600 * 64)) --turns 1 --trace > "$folder/out" 2> "$folder/err"
+    "$program" "${@:4}" --replicas 3 --sequencers 1 --base "$base" --turns 1 --trace > "$folder/out" 2> "$folder/err"
     same "$1 with a trace" $? "$2" "$3"
 }
 
@@ -136,11 +137,11 @@ out c7 send s* ${request/00000000/00000007}" client --id 7 $put
 traces 'a client that reads' 7 'in c7 read o3 6b
 out c7 read 1 o3 6b
 out c7 send o3 4e4f030900000007000000000000000100016b' read --id 7 --observer 3 6B
-"$program" client --id 7 --replicas 3 --sequencers 1 --base $((20000 + $$ % 600 * 64)) --turns 1 --trace $put > /dev/full 2> "$folder/err"
+"$program" client --id 7 --replicas 3 --sequencers 1 --base "$base" --turns 1 --trace $put > /dev/full 2> "$folder/err"
 same 'a client with a trace on a full disk' $? 4 ''
 
 # ---- runs
-names=(r0 r1 r2 r3 r4 s0 s1 ctl ctl1 o0 o1 c0 c1 c2 c3 c4)
+names=(r0 r1 r2 r3 r4 s0 s1 ctl ctl1 o0 o1 c0 c1 c2 c3 c4 c5)
 site='--replicas 5 --sequencers 2'
 # shellcheck disable=SC2086
 nodes_of "$program" $site
@@ -161,14 +162,14 @@ with() {
     done
 }
 
-# network SEED: starts the relay, at ports that are free.
+# network SEED: starts the relay, at ports that are free, and below those that the system gives to programs that ask for any.
 network() {
     for _ in 1 2 3 4 5 6 7 8; do
-        base=$((20000 + RANDOM % 12 * 1024))
+        base=$((20480 + RANDOM % 11 * 1088))
         : > "$folder/relay"
         python3 checks/traces/relay.py $base "$1" 30 50 5 40 "${names[@]}" > "$folder/relay" &
         pids[relay]=$!
-        for _ in $(seq 500); do
+        for _ in $(seq 3000); do
             [ ! -s "$folder/relay" ] || return 0
             kill -0 "${pids[relay]}" 2> /dev/null || break
             sleep 0.02
@@ -197,7 +198,7 @@ nodes() {
 # client NUMBER WORDS..: starts a client, or one that reads.
 client() {
     # shellcheck disable=SC2046,SC2086
-    timeout 120 "$program" "$2" --id "$1" $site $(with "c$1") "${@:3}" > "$folder/c$1" 2>&1 &
+    timeout 300 "$program" "$2" --id "$1" $site $(with "c$1") "${@:3}" > "$folder/c$1" 2>&1 &
     pids[c$1]=$!
 }
 
@@ -219,18 +220,16 @@ view() {
         END { print most }' "$folder/$1"
 }
 
-# leader, sequencer: the nodes of the greatest view that client 0 knows of.
-leader() { echo "r$((16#$(view c0 | cut -d' ' -f2) % 5))"; }
+# leader, sequencer: the nodes of $view.
+leader() { echo "r$((16#${view#* } % 5))"; }
 sequencer() {
-    local session
-    session=$(view c0 | cut -d' ' -f1)
-    if grep -q "^out s1 send r\* 4e4f0302$session" "$folder/s1"; then echo s1; else echo s0; fi
+    if grep -q "^out s1 send r\* 4e4f0302${view% *}" "$folder/s1"; then echo s1; else echo s0; fi
 }
 
-# end_of leader|sequencer: who that is, is killed; what client 0 knew of its view then, is kept.
+# end_of leader|sequencer: who that is by the greatest view that client 0 knows of, is killed; what it knew then, is kept.
 end_of() {
-    victim=$("$1")
     view=$(view c0)
+    victim=$("$1")
     kills "$victim"
     if [ "$1" = leader ]; then led=${view#* }; else session=${view% *}; fi
 }
@@ -262,6 +261,26 @@ happens() {
     client 2 client $(ops 8)
 }
 
+# is_answered NUMBER CLIENT: it ends, with all that it asked for.
+is_answered() {
+    made=$((made + 1))
+    wait "${pids[c$2]}" || differs "run $1: client $2 ends with status $?"
+    unset "pids[c$2]"
+}
+
+# has_more_synchronised NUMBER: if client 4 still waits some seconds later, client 5 puts. An observer that lost what was synchronised last
+# stays behind until more is.
+has_more_synchronised() {
+    for _ in $(seq 150); do
+        kill -0 "${pids[c4]}" 2> /dev/null || return
+        sleep 0.02
+    done
+    # shellcheck disable=SC2046
+    client 5 client $(ops 64)
+    is_answered "$1" 5
+    behind=$((behind + 1))
+}
+
 # runs NUMBER: all nodes run until the clients are answered, and are killed.
 runs() {
     local name c
@@ -276,11 +295,9 @@ runs() {
     client 3 read --observer 0 00
     client 4 read --observer 1 --position 8 01
     happens
-    for c in 0 1 2 3 4; do
-        made=$((made + 1))
-        wait "${pids[c$c]}" || differs "run $1: client $c ends with status $?"
-        unset "pids[c$c]"
-    done
+    for c in 0 1 2 3; do is_answered "$1" $c; done
+    has_more_synchronised "$1"
+    is_answered "$1" 4
     for name in "${names[@]:0:11}"; do
         [ -z "${pids[$name]:-}" ] || kills "$name"
     done
@@ -323,7 +340,7 @@ are_legal() {
     ordered
     steps=$(grep -c '^in ' "$folder/audit/order")
     all=$((all + steps))
-    for name in c0 c1 c2 c3 c4; do
+    for name in c0 c1 c2 c3 c4 c5; do
         made=$((made + 1))
         told $name | cmp -s - <(grep -E "^(submit|accept|read|answer) $name " "$folder/audit/transcript") ||
             differs "run $1: what client $name wrote is not in the transcript"
@@ -341,11 +358,12 @@ legal $claims $(grep -c '^history ' "$folder/audit/transcript")" ] && [ ! -s "$f
         differs "run $1: it is not drawn"
 }
 
-counts='nopaxos 3 replicas 5 sequencers 2 clients 5 controllers 2 observers 2'
+counts='nopaxos 3 replicas 5 sequencers 2 clients 6 controllers 2 observers 2'
 all=0
 open=0
 torn=0
 between=0
+behind=0
 for ((run = first; run < first + runs; run++)); do
     RANDOM=$((${NUMBER:-1} * 7919 + run))
     before=$wrong
@@ -396,5 +414,5 @@ network=$(awk '{ for (i = 1; i < NF; i += 2) of[$i] += $(i + 1) }
 made=$((made + 1))
 [[ $network != *' 0 '* ]] || differs "the network was too good: $network"
 echo "$check: $runs runs of $all steps; $network; $open open requests of client 0 at the second kill;" \
-    "$torn torn last steps, $between more between two lines"
+    "$torn torn last steps, $between more between two lines; observer 1 was behind $behind times"
 concludes

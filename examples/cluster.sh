@@ -1,7 +1,7 @@
 #!/bin/bash
 # A cluster on the loopback address: replicas, two sequencers, two controllers and an observer, each a process of its own. Two clients
 # put and get, in words, and the observer is read; then the leader is killed, and a third client still gets its answers, and the
-# observer what it put; then the sequencer and one of the controllers are, and so does a fourth. Only processes that were started here
+# observer what it put; then the sequencer and one of the controllers are, and two more do. Only processes that were started here
 # are ended, by their ids. docs/FORMATS.md says what the lines mean, docs/RUNNING.md what else there is to know.
 #
 #   examples/cluster.sh [REPLICAS]       3 replicas, or 1, 5 or 7; with 1, the leader is not killed, and there is no observer
@@ -72,7 +72,8 @@ runs() {
 }
 
 # client NUMBER OPS..: what it does, each op in words, its lines, its answers in words, and its exit status. Its ops are under way at
-# once, and are executed in their order as long as no request is lost. Only a `wait` is left at once for a trap.
+# once: in which order they are executed is not promised, so what has to come after another op is left to another client. Only a `wait` is
+# left at once for a trap.
 client() {
     local number=$1 op ops=() status word result
     shift
@@ -97,22 +98,27 @@ client() {
     [ "$status" != 124 ] || echo "client $number had no answer within a minute, and was ended"
 }
 
-# reads NUMBER KEY: the observer is asked for a key by a client of this number; its lines, its answer in words, and its exit status. What
-# was accepted a second ago is synchronised, and the observer has been told.
+# reads NUMBER KEY ANSWER: the observer is asked for a key by a client of this number; its lines, its answer in words, and its exit status.
+# What was accepted a second ago is synchronised, and the observer has been told; where it is behind all the same, a client of a new number,
+# 16 more, asks it a second later, ten of them at most.
 reads() {
-    local number=$1 op status
+    local number op status answer
+    op=$("$kv_ops" op get "$2")
+    for ((number = $1; number < $1 + 160; number += 16)); do
+        sleep 1
+        # The op is a letter, the length of the key in two bytes, and the key.
+        # shellcheck disable=SC2086
+        timeout 60 "$program" read --id "$number" --observer 0 $site "${op:6}" > "$folder/client" 2>&1 &
+        pids[client]=$!
+        wait "${pids[client]}"
+        status=$?
+        unset 'pids[client]'
+        answer=$("$kv_ops" result "$(sed -n 's/^answer .* //p' "$folder/client")")
+        [ "$answer" != "$3" ] || break
+    done
     echo
     echo "client $number reads $2 at observer 0"
-    op=$("$kv_ops" op get "$2")
-    sleep 1
-    # The op is a letter, the length of the key in two bytes, and the key.
-    # shellcheck disable=SC2086
-    timeout 60 "$program" read --id "$number" --observer 0 $site "${op:6}" > "$folder/client" 2>&1 &
-    pids[client]=$!
-    wait "${pids[client]}"
-    status=$?
-    unset 'pids[client]'
-    echo "answer: $("$kv_ops" result "$(sed -n 's/^answer .* //p' "$folder/client")")"
+    echo "answer: $answer"
     cat "$folder/client"
     echo "status $status"
     [ "$status" = 0 ] || failed=1
@@ -138,20 +144,21 @@ sleep 0.5
 for name in "${!pids[@]}"; do runs "$name"; done
 
 echo "== $replicas replicas at ports $base to $((base + replicas - 1)); replica 0 leads"
-client 0 'put k v' 'get k' 'put k w'
-client 1 'get k'
+client 0 'put k v' 'put m w'
+client 1 'get k' 'get m'
 
 if [ "$replicas" -gt 1 ]; then
-    reads 4 k
+    reads 4 m '=w'
     echo
     echo "== replica 0, the leader, is killed; the others suspect it after a second or two, and one of them leads then"
     ends r0
-    client 2 'put k x' 'get k'
-    reads 5 k
+    client 2 'put k x'
+    reads 5 k '=x'
 fi
 
 echo
 echo "== sequencer 0, which numbers the requests, and controller 0 are killed; within two seconds controller 1 has sequencer 1 go on"
 ends s0 ctl0
-client 3 'put k y' 'get k'
+client 3 'put k y'
+client 6 'get k'
 [ "$failed" = 0 ] || exit 1

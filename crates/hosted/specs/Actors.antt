@@ -1,5 +1,5 @@
 -- Which actor a word names.
-use Rattle.std.specs.Prelude.{ℕ, ◌^◌, List, [], ◌∷◌, nat_lt, ◌==◌, if◌then◌else◌, Option, Some, None}
+use Rattle.std.specs.Prelude.{ℕ, ◌^◌, List, [], ◌∷◌, nat_lt, ◌==◌, if◌then◌else◌, Option, Some, None, codes}
 use Rattle.nop_types.specs.Configuration.{Configuration}
 use Rattle.nop_types.specs.declared.output.Actor.{Actor}
 use Rattle.nop_types.specs.declared.output.Actor.TheVariants.{Replica, Sequencer, Client, Controller, Observer}
@@ -31,3 +31,11 @@ number_of (Sequencer i) = i
 number_of (Client i) = i
 number_of (Controller i) = i
 number_of (Observer i) = i
+
+-- the command that runs an actor
+abbrev pub command_name : Actor → List ℕ
+command_name (Replica i) = codes "node"
+command_name (Sequencer i) = codes "sequencer"
+command_name (Client i) = codes "client"
+command_name (Controller i) = codes "controller"
+command_name (Observer i) = codes "observer"

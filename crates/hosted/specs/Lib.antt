@@ -1,2 +1,3 @@
 pub mod Actors
+pub mod Arguments
 pub mod Tables

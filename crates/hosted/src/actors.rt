@@ -1,7 +1,7 @@
 //! Which actor a word names, and the command that runs it.
 
 ghost use Rattle.std.specs.Prelude.{◌≡◌};
-ghost use Rattle.hosted.specs.Actors.{client_named, named, number_of};
+ghost use Rattle.hosted.specs.Actors.{client_named, command_name, named, number_of};
 
 use line_fields::number;
 use nop_types::{Actor, Config};
@@ -31,7 +31,10 @@ pub(crate) fn named(config: Config, word: &[u8]) -> Option<Actor>
     }
 }
 
-pub(crate) fn command_of(actor: Actor) -> &'static str {
+/// The command of `commands` that runs an actor.
+pub(crate) fn command_of(actor: Actor) -> &'static str
+    ensures { result.now ≡ command_name actor }
+{
     match actor {
         Actor::Replica(_) => "node",
         Actor::Sequencer(_) => "sequencer",

@@ -1,5 +1,10 @@
 //! What the program's words ask for, and the words that ask the same of `commands`.
 
+ghost use Rattle.std.specs.Prelude.{◌≡◌, [], ◌∷◌, ◌++◌, IfOk, OnOk};
+ghost use Rattle.std.specs.Fmt.{decimal};
+ghost use Rattle.command_line.specs.Commands.{texts_of};
+ghost use Rattle.hosted.specs.Arguments.{option_words, own_words};
+
 use crate::actors::{command_of, number_of};
 use nop_types::{Actor, NoMemory};
 use std::alloc::Global;
@@ -39,28 +44,35 @@ pub(crate) fn task_of(words: &[String]) -> Option<Task<'_>> {
     }
 }
 
-fn push(words: &mut Vec<String>, alloc: Global, word: &str) -> Result<(), NoMemory> {
+/// Adds a word.
+fn push(words: &mut Vec<String>, alloc: Global, word: &str) -> Result<(), NoMemory>
+    ensures { OnOk result (texts_of words.new.items ≡ texts_of words.old.items ++ word.now ∷ []) }
+{
     words.push(String::from_str(alloc, word)?)?;
     Ok(())
 }
 
-fn push_number(words: &mut Vec<String>, alloc: Global, n: u32) -> Result<(), NoMemory> {
+/// Adds a number in decimal.
+fn push_number(words: &mut Vec<String>, alloc: Global, n: u32) -> Result<(), NoMemory>
+    ensures { OnOk result (texts_of words.new.items ≡ texts_of words.old.items ++ decimal n ∷ []) }
+{
     words.push(format!(in alloc; "{n}")?)?;
     Ok(())
 }
 
-/// An option with a number.
-fn push_option(words: &mut Vec<String>, alloc: Global, name: &str, n: u32) -> Result<(), NoMemory> {
+/// Adds an option with a number.
+fn push_option(words: &mut Vec<String>, alloc: Global, name: &str, n: u32) -> Result<(), NoMemory>
+    ensures { OnOk result (texts_of words.new.items
+        ≡ texts_of words.old.items ++ option_words name.now n) }
+{
     push(words, alloc, name)?;
     push_number(words, alloc, n)
 }
 
-/// The words by which `commands` runs the own actor of an address.
-pub(crate) fn words_of(
-    alloc: Global,
-    at: &Address,
-    rest: &[String],
-) -> Result<Vec<String>, NoMemory> {
+/// The command of the own actor of an address, with what the list says.
+fn own_words(alloc: Global, at: &Address) -> Result<Vec<String>, NoMemory>
+    ensures { IfOk result (λ words. texts_of words.items ≡ own_words at.now) }
+{
     let config = at.config;
     let mut words = Vec::new(alloc);
     push(&mut words, alloc, "hosted")?;
@@ -87,6 +99,19 @@ pub(crate) fn words_of(
             u32::from(config.observers()),
         )?;
     }
+    Ok(words)
+}
+
+/// The words by which `commands` runs the own actor of an address: its command, and then the options and ops of the user.
+pub(crate) fn words_of(
+    alloc: Global,
+    at: &Address,
+    rest: &[String],
+) -> Result<Vec<String>, NoMemory>
+    ensures { IfOk result (λ words. texts_of words.items
+        ≡ own_words at.now ++ texts_of rest.now) }
+{
+    let mut words = own_words(alloc, at)?;
     for word in rest {
         push(&mut words, alloc, word.as_str())?;
     }

@@ -8,7 +8,8 @@
 //! and observers are those of the list. With `--marks` a file `CLUSTER-ACTOR` is made in the folder before anything is sent; where
 //! it is there already, the link fails.
 //!
-//! Proved: an actor is read as `named` says; the table of places has for each actor of the list its address, under the port that
+//! Proved: an actor is read as `named` says; the words that run it are those of its command, with the list's counts, and then the
+//! user's (`own_words`, in `specs/Arguments`); the table of places has for each actor of the list its address, under the port that
 //! nodes send to (`places_of`, in `specs/Tables`); and what `commands::run` promises of the run, since it is called as it is. That
 //! files, sockets and the drawn number are what they should be, is tested only.
 //!
