@@ -1,0 +1,4 @@
+pub mod Laws
+pub mod Results
+pub mod Table
+pub mod View

@@ -1,0 +1,35 @@
+//! What a request of RESP 2 asks of the key-value service, and how its result is replied.
+//!
+//! | request | op | reply |
+//! |---|---|---|
+//! | `GET k`; `EXISTS k` | get | the value or nil; 1 or 0 |
+//! | `SET k v`; `SET k v GET`, `GETSET k v` | put | `+OK`; the former value or nil |
+//! | `DEL k`; `GETDEL k` | delete | 1 or 0; the former value or nil |
+//! | `CAS k old new` | swap | 1 or 0 |
+//! | `PING`, `PING text`, `ECHO text`, `SELECT 0`, `QUIT ..`, `CLIENT ..`, `COMMAND ..`, `CONFIG ..`, `INFO ..` | none | what clients of Redis expect |
+//!
+//! Commands and the option are words in letters of any case. All else is answered with an error, and nothing of it is done: other
+//! commands, other numbers of arguments, other options, keys and values that no op may have, and puts that are answered `full`.
+//!
+//! Proved: `asked` gives what the table says (`asked` in `specs/Table`, one page), and `reply_to` what that of results says
+//! (`specs/Results`). The bytes of each op that is asked for spell one (`asked_ops_are_spelled`), and the replies say what the map of
+//! the service has and had (`gets_say_what_the_map_has` and the three laws after it).
+//!
+//! Calls: `asked`, then `reply_to` with its form.
+//!
+//! To read in this order: `demand`, `requests`, `ops`, `results`, `laws`; then `specs/Table`, `Results`, `Laws`.
+#![tactic(auto)]
+
+mod demand;
+mod laws;
+mod ops;
+mod requests;
+mod results;
+
+pub use demand::{Demand, Form};
+pub use laws::{
+    asked_ops_are_spelled, deletes_say_what_the_map_had, gets_say_what_the_map_has,
+    puts_say_whether_they_are_done, swaps_say_whether_they_are_done,
+};
+pub use requests::asked;
+pub use results::reply_to;
