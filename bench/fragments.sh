@@ -173,7 +173,7 @@ import sys
 
 folder, rounds = sys.argv[1], int(sys.argv[2])
 program = folder + "/crates/measured/out/measured"
-size = 4_152_306
+size = 4_633_074
 
 
 def instructions(what, count):

@@ -30,14 +30,8 @@ const REQUESTS: [(&[&str], &[u8]); 44] = [
     (&["COMMAND"], b"*0\r\n"),
     (&["COMMAND", "DOCS"], b"*0\r\n"),
     (&["CONFIG", "GET", "save"], b"*0\r\n"),
-    (
-        &["INFO"],
-        b"$23\r\nredis_mode:standalone\r\n\r\n",
-    ),
-    (
-        &["INFO", "server"],
-        b"$23\r\nredis_mode:standalone\r\n\r\n",
-    ),
+    (&["INFO"], b"$23\r\nredis_mode:standalone\r\n\r\n"),
+    (&["INFO", "server"], b"$23\r\nredis_mode:standalone\r\n\r\n"),
     (&["SELECT", "1"], b"-ERR DB index is out of range\r\n"),
     (&["GET", ""], b"-ERR a key has 1 to 64 bytes\r\n"),
     (&["SET", "", "v"], b"-ERR a key has 1 to 64 bytes\r\n"),

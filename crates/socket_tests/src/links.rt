@@ -59,28 +59,97 @@ fn fragments_of_several_are_parts(rt: HostRuntime) {
     assert!(rt; bytes.len() == 658 && !is_part(&bytes));
 }
 
-/// A port that acknowledges nothing gets six parts at once, and what is left of eight after a tenth of a second, not before.
+/// A part of a message, with this index.
+fn part(index: u16) -> [u8; 1417] {
+    let mut bytes = [8u8; 1417];
+    let [high, low] = index.to_be_bytes();
+    bytes[13] = high;
+    bytes[14] = low;
+    bytes
+}
+
+/// An acknowledgement of parts of that message, with indexes below 256.
+fn ack(window: u8, indexes: [u8; 8]) -> [u8; 27] {
+    let mut bytes = [8u8; 27];
+    bytes[0] = 0x4e;
+    bytes[1] = 0x41;
+    bytes[2] = window;
+    for i in 0..8usize {
+        bytes[11 + 2 * i] = 0;
+        bytes[12 + 2 * i] = indexes[i];
+    }
+    bytes
+}
+
+/// Polls a link until a socket has datagrams, and says how many, and after how many microseconds. None after five seconds.
+fn awaited<L: Link, C: Clock>(link: &mut L, peer: &UdpSocket, clock: &C) -> Option<(usize, u128)> {
+    let start = clock.monotonic().ok()?.as_micros();
+    for _ in 0..100_000usize {
+        let _none = link.poll();
+        let count = drained(peer);
+        let now = clock.monotonic().ok()?.as_micros();
+        if count > 0 {
+            return Some((count, now.saturating_sub(start)));
+        }
+        if now.saturating_sub(start) >= 5_000_000 {
+            return None;
+        }
+    }
+    None
+}
+
+/// A port that acknowledges nothing gets six parts at once, and of these the first one again after a tenth of a second, not before.
 #[test]
 fn a_silent_port_has_to_wait(rt: HostRuntime) {
     let mut ports = UdpPorts::new(&rt, rt.alloc());
     let mut link = ports.attach(PORTS + 8).expect(&rt, "a link");
     let peer = new_peer(&rt, PORTS + 9).expect(&rt, "a socket");
-    for _ in 0..8usize {
-        link.send(PORTS + 9, &[8u8; 1417]).expect(&rt, "a send");
+    for i in 0..8u16 {
+        link.send(PORTS + 9, &part(i)).expect(&rt, "a send");
     }
     assert!(rt; drained(&peer) == 6);
+    let (count, micros) = awaited(&mut link, &peer, &rt).expect(&rt, "a part");
+    assert!(rt; count == 1 && micros >= 90_000);
+}
+
+/// Of three parts the last one is acknowledged: the others are sent again, and no more when they are acknowledged too.
+#[test]
+fn lost_parts_are_sent_again(rt: HostRuntime) {
+    let mut ports = UdpPorts::new(&rt, rt.alloc());
+    let mut link = ports.attach(PORTS + 12).expect(&rt, "a link");
+    let peer = new_peer(&rt, PORTS + 13).expect(&rt, "a socket");
+    for i in 0..3u16 {
+        link.send(PORTS + 13, &part(i)).expect(&rt, "a send");
+    }
+    assert!(rt; drained(&peer) == 3);
+    let to = (Ipv4Addr::LOCALHOST, link.port());
+    peer.send_to(&ack(36, [2; 8]), to).expect(&rt, "a send");
+    let (count, micros) = awaited(&mut link, &peer, &rt).expect(&rt, "a part");
+    assert!(rt; count == 2 && micros >= 90_000);
+    peer.send_to(&ack(36, [1, 0, 0, 0, 0, 0, 0, 0]), to)
+        .expect(&rt, "a send");
     let start = rt.monotonic().expect(&rt, "a clock").as_micros();
     for _ in 0..100_000usize {
-        assert!(rt; link.poll().expect(&rt, "a poll").is_none());
-        let count = drained(&peer);
+        assert!(rt; link.poll().expect(&rt, "a poll").is_none() && drained(&peer) == 0);
         let now = rt.monotonic().expect(&rt, "a clock").as_micros();
-        if count > 0 {
-            assert!(rt; count == 2 && now.saturating_sub(start) >= 100_000);
+        if now.saturating_sub(start) >= 700_000 {
             return;
         }
-        assert!(rt; now.saturating_sub(start) < 5_000_000);
     }
-    panic!(rt; "the others do not come");
+}
+
+/// A request for a view change is sent again after half a second.
+#[test]
+fn requests_are_repeated(rt: HostRuntime) {
+    let mut ports = UdpPorts::new(&rt, rt.alloc());
+    let mut link = ports.attach(PORTS + 14).expect(&rt, "a link");
+    let peer = new_peer(&rt, PORTS + 15).expect(&rt, "a socket");
+    let mut request = Vec::new(rt.alloc());
+    put_fragment(&mut request, 2, 0x0101, 0, 1, &[20; 14]).expect(&rt, "memory");
+    link.send(PORTS + 15, &request).expect(&rt, "a send");
+    assert!(rt; drained(&peer) == 1);
+    let (count, micros) = awaited(&mut link, &peer, &rt).expect(&rt, "a request");
+    assert!(rt; count == 1 && micros >= 490_000);
 }
 
 /// A port that acknowledges nothing holds up no other, also none that is 16 or 32 below it.
@@ -89,38 +158,43 @@ fn a_silent_port_holds_up_no_other(rt: HostRuntime) {
     let mut ports = UdpPorts::new(&rt, rt.alloc());
     let mut link = ports.attach(PORTS + 10).expect(&rt, "a link");
     let silent = new_peer(&rt, PORTS + 43).expect(&rt, "a socket");
-    for _ in 0..8usize {
-        link.send(PORTS + 43, &[8u8; 1417]).expect(&rt, "a send");
+    for i in 0..8u16 {
+        link.send(PORTS + 43, &part(i)).expect(&rt, "a send");
     }
     assert!(rt; drained(&silent) == 6);
     for port in [PORTS + 11, PORTS + 27] {
         let peer = new_peer(&rt, port).expect(&rt, "a socket");
-        for _ in 0..6usize {
-            link.send(port, &[8u8; 1417]).expect(&rt, "a send");
+        for i in 0..6u16 {
+            link.send(port, &part(i)).expect(&rt, "a send");
         }
         assert!(rt; drained(&peer) == 6);
     }
     assert!(rt; link.losses() == 0);
 }
 
-/// A link acknowledges six parts at once, and those that are left when nothing comes any more.
+/// A link acknowledges each fourth part with those before it, and those that are left when nothing comes any more.
 #[test]
 fn parts_are_acknowledged(rt: HostRuntime) {
     let mut ports = UdpPorts::new(&rt, rt.alloc());
     let mut link = ports.attach(PORTS).expect(&rt, "a link");
     let peer = new_peer(&rt, 0).expect(&rt, "a socket");
-    for _ in 0..8usize {
-        peer.send_to(&[8u8; 1417], (Ipv4Addr::LOCALHOST, link.port()))
+    for i in 0..9u16 {
+        peer.send_to(&part(i), (Ipv4Addr::LOCALHOST, link.port()))
             .expect(&rt, "a send");
     }
-    for i in 0..9usize {
+    for i in 0..10usize {
         let came = link.poll().expect(&rt, "a poll").is_some();
-        assert!(rt; came == (i < 8));
+        assert!(rt; came == (i < 9));
     }
-    let mut bytes = [0u8; 8];
-    for wanted in [b"NA\x06\x24", b"NA\x02\x24"] {
+    let mut bytes = [0u8; 32];
+    for indexes in [
+        [3, 2, 1, 0, 0, 0, 0, 0],
+        [7, 6, 5, 4, 3, 2, 1, 0],
+        [8, 7, 6, 5, 4, 3, 2, 1],
+    ] {
         let (count, from) = peer.recv_from(&mut bytes).expect(&rt, "a datagram");
-        assert!(rt; count == 4 && from.port() == link.port() && &bytes[..4] == wanted.as_slice());
+        assert!(rt; count == 27 && from.port() == link.port());
+        assert!(rt; &bytes[..27] == ack(36, indexes).as_slice());
     }
 }
 
@@ -134,14 +208,17 @@ fn acknowledgements_make_room(rt: HostRuntime) {
         new_peer(&rt, PORTS + 3).expect(&rt, "a socket"),
     ];
     for port in [PORTS + 2, PORTS + 3] {
-        for _ in 0..20usize {
-            link.send(port, &[8u8; 1417]).expect(&rt, "a send");
+        for i in 0..20u16 {
+            link.send(port, &part(i)).expect(&rt, "a send");
         }
     }
-    for (peer, ack) in peers.iter().zip([b"NA\x06\x03", b"NA\x06\x24"]) {
+    for (peer, window) in peers.iter().zip([3, 36]) {
         assert!(rt; drained(peer) == 6);
-        peer.send_to(ack, (Ipv4Addr::LOCALHOST, link.port()))
-            .expect(&rt, "a send");
+        peer.send_to(
+            &ack(window, [5, 4, 3, 2, 1, 0, 0, 0]),
+            (Ipv4Addr::LOCALHOST, link.port()),
+        )
+        .expect(&rt, "a send");
     }
     for _ in 0..2usize {
         assert!(rt; link.poll().expect(&rt, "a poll").is_none());
@@ -150,17 +227,15 @@ fn acknowledgements_make_room(rt: HostRuntime) {
     assert!(rt; link.losses() == 0);
 }
 
-/// 300 parts, more than a receive buffer holds, arrive whole and in order, though the receiver is not polled for a while, which is half
-/// of the time that a sender waits at most, and then both are. Another datagram passes by all but those that were sent at once.
+/// 300 parts, more than a receive buffer holds, arrive whole, though the receiver is not polled for a while, which is half of the time
+/// after which the first part is sent again, and then both are. Another datagram passes by all but those that were sent at once.
 #[test]
 fn bursts_arrive_whole(rt: HostRuntime) {
     let mut ports = UdpPorts::new(&rt, rt.alloc());
     let mut from = ports.attach(PORTS + 4).expect(&rt, "a link");
     let mut to = ports.attach(PORTS + 5).expect(&rt, "a link");
-    let mut bytes = [8u8; 1417];
-    for i in 0..300usize {
-        bytes[0] = (i % 256) as u8;
-        from.send(to.port(), &bytes).expect(&rt, "a send");
+    for i in 0..300u16 {
+        from.send(to.port(), &part(i)).expect(&rt, "a send");
     }
     from.send(to.port(), b"small").expect(&rt, "a send");
     let start = rt.monotonic().expect(&rt, "a clock").as_micros();
@@ -171,10 +246,10 @@ fn bursts_arrive_whole(rt: HostRuntime) {
             break;
         }
     }
-    let mut count: usize = 0;
+    let mut came = [false; 300];
     let mut before_small = None;
     for _ in 0..10_000usize {
-        if count == 300 {
+        if came.iter().all(|c| *c) {
             break;
         }
         from.poll().expect(&rt, "a poll");
@@ -182,16 +257,18 @@ fn bursts_arrive_whole(rt: HostRuntime) {
             let Some(datagram) = to.poll().expect(&rt, "a poll") else {
                 break;
             };
-            if datagram.as_slice() == b"small".as_slice() {
-                before_small = Some(count);
+            let bytes = datagram.as_slice();
+            if bytes == b"small".as_slice() {
+                before_small = Some(came.iter().filter(|c| **c).count());
             } else {
-                bytes[0] = (count % 256) as u8;
-                assert!(rt; datagram.as_slice() == bytes.as_slice());
-                count = count.saturating_add(1);
+                assert!(rt; bytes.len() == 1417);
+                let index = u16::from_be_bytes([bytes[13], bytes[14]]);
+                assert!(rt; index < 300 && bytes == part(index).as_slice());
+                came[usize::from(index) % 300] = true;
             }
         }
     }
-    assert!(rt; count == 300);
+    assert!(rt; came.iter().all(|c| *c));
     assert!(rt; before_small == Some(6));
     assert!(rt; from.losses() == 0);
 }

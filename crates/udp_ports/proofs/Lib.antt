@@ -1,3 +1,3 @@
 pub mod EachDone
-pub mod Releasing
 pub mod Settling
+pub mod Turning

@@ -1,7 +1,4 @@
 -- The definitions of this crate.
-pub mod Acks
 pub mod Guards
-pub mod Links
 pub mod Places
-pub mod Receiving
-pub mod Sending
+pub mod Turns

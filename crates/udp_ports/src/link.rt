@@ -1,28 +1,27 @@
 ghost use Rattle.std.specs.Prelude.{◌≡◌, ◌≤◌, ℕ, length, Ok, None, IfOk, IfSome, IsFalse, IsTrue};
 ghost use Rattle.nop_types.specs.Parts.{IsPart};
 ghost use Rattle.nop_types.specs.declared.limits.TheConstants.{MAX_DATAGRAM_BYTES};
-ghost use Rattle.udp_ports.specs.Acks.{IsNoAck};
-ghost use Rattle.udp_ports.specs.Links.{AdmitsPart, HeedsAck};
+ghost use Rattle.resending.specs.Acks.{IsNoAck};
+ghost use Rattle.resending.specs.Names.{name_of};
+ghost use Rattle.resending.specs.Receiving.{all_settled, recorded};
+ghost use Rattle.resending.specs.Repeating.{IsRequest, repeated};
 ghost use Rattle.udp_ports.specs.Places.{IsHeard};
-ghost use Rattle.udp_ports.specs.Receiving.{all_settled, recorded};
+ghost use Rattle.udp_ports.specs.Turns.{AdmitsPart, HeedsAck};
 ghost use Rattle.std.specs.Option.{option_copied};
 
-use crate::acks::Ack;
-use crate::flow::{Admission, MOST_IN_FLIGHT};
 use crate::flows::Flows;
 use crate::guard::Guard;
-use crate::lanes::LANES;
 use crate::parts::is_part;
 use crate::places::{Source, may_send, sender};
-use crate::receipts::Receipts;
 use crate::socket::{Patience, Socket};
-use nop_types::{Bytes, NoMemory};
+use nop_types::Bytes;
 use outside::{Link, LinkError};
+use resending::{Ack, MOST_WINDOW, Receipts, Repeats, is_request, name_of};
 use std::alloc::Global;
 use std::time::Clock;
 
 /// How many acknowledgements a poll reads at most: as many as it may have caused, with six parts to each of six ports.
-const MOST_ACKS: usize = MOST_IN_FLIGHT;
+const MOST_ACKS: usize = MOST_WINDOW;
 
 /// A datagram socket at a port, with counts of its errors. The parts of a long message are sent while it
 /// is polled, as those before them are acknowledged.
@@ -34,6 +33,7 @@ pub struct UdpLink<'a, R: Clock> {
     guard: Option<Guard>,
     flows: Flows,
     receipts: Receipts,
+    repeats: Repeats,
     faults: u64,
     losses: u64,
 }
@@ -51,22 +51,18 @@ fn send_or_keep<R: Clock>(
     if !is_part(bytes) {
         return socket.has_sent(port, bytes);
     }
-    match flows.admit(port, bytes) {
-        Ok(Admission::SendNow) => socket.has_sent(port, bytes),
-        Ok(Admission::Kept) => true,
-        Ok(Admission::Refused) | Err(NoMemory) => false,
-    }
+    flows.send(port, bytes, socket)
 }
 
 /// Heeds an acknowledgement. Any other datagram is left to the node.
-fn heed(flows: &mut Flows, from: u16, bytes: &[u8]) -> bool
+fn heed<R: Clock>(flows: &mut Flows, socket: &Socket<'_, R>, from: u16, bytes: &[u8]) -> bool
     ensures ack { IsTrue result → HeedsAck from bytes.now flows.old flows.new }
     ensures other { IsFalse result → IsNoAck bytes.now × (flows.new ≡ flows.old) }
 {
     let Some(ack) = Ack::read(bytes) else {
         return false;
     };
-    flows.acknowledge(from, ack);
+    flows.acknowledge(from, &ack, socket);
     true
 }
 
@@ -77,14 +73,15 @@ fn acknowledge_part<R: Clock>(
     from: u16,
     bytes: &[u8],
 )
-    ensures part { IsPart bytes.now → receipts.new ≡ recorded from receipts.old }
+    ensures part { IsPart bytes.now → receipts.new
+        ≡ recorded from (name_of bytes.now) receipts.old }
     ensures other { ¬ IsPart bytes.now → receipts.new ≡ receipts.old }
 {
     if !is_part(bytes) {
         return;
     }
-    if let Some(ack) = receipts.record(from) {
-        let _sent = socket.has_sent(from, &ack.to_bytes());
+    if let Some(answer) = receipts.record(from, name_of(bytes)) {
+        let _sent = socket.has_sent(answer.port, &answer.ack.to_bytes());
     }
 }
 
@@ -92,9 +89,10 @@ fn acknowledge_part<R: Clock>(
 fn acknowledge_rest<R: Clock>(socket: &Socket<'_, R>, receipts: &mut Receipts)
     ensures { receipts.new ≡ all_settled receipts.old }
 {
-    for lane in 0..LANES {
-        if let Some(ack) = receipts.take(lane) {
-            let _sent = socket.has_sent(receipts.port_of(lane), &ack.to_bytes());
+    let lanes = receipts.lanes();
+    for lane in 0..lanes {
+        if let Some(answer) = receipts.take(lane) {
+            let _sent = socket.has_sent(answer.port, &answer.ack.to_bytes());
         }
     }
 }
@@ -119,6 +117,27 @@ fn remind<R: Clock>(guard: &mut Option<Guard>, socket: &Socket<'_, R>) {
     }
 }
 
+/// Notes a request for a view change that is sent to a port. Without memory for it, it is not repeated there.
+fn note<R: Clock>(repeats: &mut Repeats, socket: &Socket<'_, R>, port: u16, bytes: &[u8])
+    ensures { ¬ IsRequest bytes.now → repeats.new ≡ repeats.old }
+{
+    if is_request(bytes) {
+        let _refused = repeats.note(port, bytes, socket.micros().unwrap_or(0));
+    }
+}
+
+/// Sends the last request for a view change again, where it is time to.
+fn repeat<R: Clock>(repeats: &mut Repeats, socket: &Socket<'_, R>)
+    ensures { (now : ℕ) × (repeats.new ≡ repeated now repeats.old) }
+{
+    if !repeats.is_due(socket.micros().unwrap_or(0)) {
+        return;
+    }
+    for port in repeats.ports() {
+        let _sent = socket.has_sent(*port, repeats.request());
+    }
+}
+
 /// The next datagram that is no greeting and no acknowledgement, and that its sender may send.
 fn receive<R: Clock>(
     socket: &mut Socket<'_, R>,
@@ -133,7 +152,7 @@ fn receive<R: Clock>(
     ensures heard { IfOk result (λ r. IfSome r (IsHeard (option_copied socket.old.places))) }
     ensures settled { result ≡ Ok None → receipts.new ≡ all_settled receipts.old }
     ensures recorded { IfOk result (λ r. IfSome r (λ datagram. IsPart datagram
-        → (from : ℕ) × (receipts.new ≡ recorded from receipts.old))) }
+        → (from : ℕ) × (receipts.new ≡ recorded from (name_of datagram) receipts.old))) }
 {
     let mut patience = patience;
     for _ in 0..MOST_ACKS {
@@ -145,7 +164,7 @@ fn receive<R: Clock>(
             continue;
         };
         if greet(guard, socket, received.source, received.bytes.as_slice())
-            || heed(flows, from, received.bytes.as_slice())
+            || heed(flows, socket, from, received.bytes.as_slice())
         {
             continue;
         }
@@ -178,6 +197,7 @@ impl<'a, R: Clock> UdpLink<'a, R> {
             guard,
             flows: Flows::new(alloc),
             receipts: Receipts::new(),
+            repeats: Repeats::new(alloc),
             faults: 0,
             losses: 0,
         }
@@ -187,10 +207,10 @@ impl<'a, R: Clock> UdpLink<'a, R> {
     fn patience(&self) -> Patience {
         if !self.waits {
             Patience::Returns
-        } else if self.flows.is_empty() {
-            Patience::Waits
-        } else {
+        } else if self.flows.is_pressing() {
             Patience::Naps
+        } else {
+            Patience::Waits
         }
     }
 
@@ -218,6 +238,7 @@ impl<'a, R: Clock> Link for UdpLink<'a, R> {
         let failed = self.flows.begin_turn(&self.socket);
         self.losses = self.losses.saturating_add(failed);
         remind(&mut self.guard, &self.socket);
+        repeat(&mut self.repeats, &self.socket);
         let patience = self.patience();
         let answer = receive(
             &mut self.socket,
@@ -234,6 +255,7 @@ impl<'a, R: Clock> Link for UdpLink<'a, R> {
 
     /// A part that is kept is answered by Ok. It is sent at a later poll.
     fn send(&mut self, port: u16, bytes: &[u8]) -> Result<(), LinkError> {
+        note(&mut self.repeats, &self.socket, port, bytes);
         if send_or_keep(&mut self.flows, &self.socket, port, bytes) {
             return Ok(());
         }

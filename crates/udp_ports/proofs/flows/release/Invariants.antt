@@ -1,5 +1,6 @@
-use Rattle.udp_ports.proofs.Releasing.{IsReleasing}
+use Rattle.std.proofs.Common.{◌≡◌}
+use Rattle.udp_ports.specs.Turns.{sent}
 use Rattle.udp_ports.proofs.flows.release.Given as goal
 
 abbrev pub invariant-loop-i : goal.invariant-loop-i
-invariant-loop-i g l = IsReleasing l.fn.flow l.flow l.i l.failed
+invariant-loop-i g l = l.flow ≡ sent l.i l.fn.flow

@@ -1,5 +1,5 @@
 use Rattle.std.proofs.Common.{◌≡◌}
-use Rattle.udp_ports.specs.Receiving.{settled}
+use Rattle.resending.specs.Receiving.{settled}
 use Rattle.udp_ports.proofs.EachDone.{first_done}
 use Rattle.udp_ports.proofs.link.acknowledge_rest.Given as goal
 

@@ -1,8 +1,12 @@
-use Rattle.std.proofs.Common.{sym}
-use Rattle.std.specs.Prelude.{None}
-use Rattle.udp_ports.proofs.Releasing.{all_rest}
+use Rattle.std.proofs.Common.{List, inr, subst}
+use Rattle.resending.specs.Sending.{Outgoing}
+use Rattle.udp_ports.specs.Turns.{AreTurns}
 use Rattle.udp_ports.proofs.flows.Flows.begin_turn.Goals as goal
 
-pub returns-then-not-self : goal.returns-then-not-self
-returns-then-not-self g c =
-    (None, sym (all_rest None c.self.inside.lanes c.args.self.now c.self.view_is (c.self.invariant c.if-not-self.true)))
+pub returns : goal.returns
+returns g c =
+    inr (
+      c.unwrap_or.result,
+      subst (λ (flows : List Outgoing). AreTurns c.unwrap_or.result flows c.take_turns-failed.new.flows) c.self.view_is
+          c.take_turns-failed.ensures,
+    )

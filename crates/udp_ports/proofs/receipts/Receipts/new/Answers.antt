@@ -1,9 +1,0 @@
-use Rattle.std.proofs.Common.{◌≡◌, refl}
-use Rattle.std.proofs.lemmas.List.Elements.{All-replicate}
-use Rattle.udp_ports.specs.Receiving.{no_receipt}
-use Rattle.udp_ports.specs.declared.lanes.TheConstants.{LANES}
-use Rattle.udp_ports.specs.declared.receipts.Receipt.{Receipt}
-use Rattle.udp_ports.proofs.receipts.Receipts.new.Goals as goal
-
-pub returns-clause-lanes : goal.returns-clause-lanes
-returns-clause-lanes c = All-replicate (λ (r : Receipt). r ≡ no_receipt) LANES no_receipt refl
