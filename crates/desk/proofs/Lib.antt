@@ -1,0 +1,12 @@
+pub mod Busy
+pub mod Clients
+pub mod Filling
+pub mod Fills
+pub mod Labels
+pub mod Machines
+pub mod Mapped
+pub mod Once
+pub mod Places
+pub mod Runs
+pub mod Totals
+pub mod True
