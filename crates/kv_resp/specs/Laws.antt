@@ -1,13 +1,12 @@
 -- Proofs: nothing here has to be believed.
 -- What the replies say of the map.
 use Rattle.std.proofs.Common.{◌≡◌, ℕ, Bool, true, false, cond, List, [], ◌∷◌, ◌++◌, Option, Some, None, refl, sym, ap, subst, ◌∙◌, arith, length}
-use Rattle.std.specs.Prelude.{codes, is_some, nat_le, ◌&&◌, ◌||◌}
-use Rattle.std.proofs.lemmas.Bool.{and_parts, leb-true}
+use Rattle.std.specs.Prelude.{codes, is_some, ◌&&◌, ◌||◌}
+use Rattle.std.proofs.lemmas.Bool.{and_parts}
 use Rattle.std.specs.FinMap as finite
-use Rattle.nop_types.specs.declared.limits.TheConstants.{MAX_KEY_BYTES, MAX_VALUE_BYTES}
 use Rattle.kv_host.specs.declared.op.TheConstants.{GET, PUT, DELETE, SWAP}
 use Rattle.kv_host.specs.Op.{Op, Get, Put, Delete, Swap}
-use Rattle.kv_host.specs.Spelling.{KeyFits, ValueFits, field, Spells}
+use Rattle.kv_host.specs.Spelling.{field, Spells}
 use Rattle.kv_host.specs.Kv.{answer_to, is_refused, shown}
 use Rattle.kv_host.specs.Values.{Kv, has_value}
 use Rattle.resp.specs.Spelling.{bulk}
@@ -15,7 +14,9 @@ use Rattle.resp.specs.Replies.{simple, error, integer, nil}
 use Rattle.kv_resp.specs.declared.demand.Form.{Form}
 use Rattle.kv_resp.specs.declared.demand.Form.TheVariants.{Value, Stored, Presence, Swapped}
 use Rattle.kv_resp.specs.Results.{reply_to}
-use Rattle.kv_resp.specs.Table.{Action, Execute, Answer, End, fits_key, fits_value, key_action, put_action, swap_action, option_action, selected}
+use Rattle.kv_spelling.specs.Spell.{fits_key, fits_value}
+use Rattle.kv_spelling.specs.Laws.{key_fits, value_fits}
+use Rattle.kv_resp.specs.Table.{Action, Execute, Answer, End, key_action, put_action, swap_action, option_action, selected}
 use Rattle.kv_resp.specs.Table.{with_any, alone, with_one, with_two, with_three, asked, is_word, unknown, bad_key, bad_value}
 
 -- ---- results
@@ -101,14 +102,6 @@ abbrev pub IsSpelled : Action → Type 0
 IsSpelled (Execute bytes form) = IsOp bytes
 IsSpelled (Answer reply) = Unit {0}
 IsSpelled (End reply) = Unit {0}
-
-key_fits : (key : List ℕ) → fits_key key ≡ true → KeyFits key
-key_fits key e =
-    let p = and_parts (nat_le 1 (length key)) (nat_le (length key) MAX_KEY_BYTES) e in
-    record { least = leb-true 1 (length key) p.0; most = leb-true (length key) MAX_KEY_BYTES p.1 }
-
-value_fits : (value : List ℕ) → fits_value value ≡ true → ValueFits value
-value_fits value e = record { least = omega arith; most = leb-true (length value) MAX_VALUE_BYTES e }
 
 get_spelled : (key : List ℕ) (form : Form) (b : Bool) → fits_key key ≡ b → IsSpelled (cond b (Execute (GET ∷ field key) form) bad_key)
 get_spelled key form true e = record { op = Get key; spells = (key_fits key e, refl) }

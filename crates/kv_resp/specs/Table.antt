@@ -1,9 +1,9 @@
 -- The table of the gateway: what a request asks for, by its arguments.
-use Rattle.std.specs.Prelude.{ℕ, List, [], ◌∷◌, ◌++◌, length, Bool, nat_le, ◌&&◌, ◌||◌, codes, if◌then◌else◌}
+use Rattle.std.specs.Prelude.{ℕ, List, [], ◌∷◌, ◌++◌, Bool, ◌&&◌, ◌||◌, codes, if◌then◌else◌}
 use Rattle.std.specs.Str.{str_eq_ignore_ascii_case}
-use Rattle.nop_types.specs.declared.limits.TheConstants.{MAX_KEY_BYTES, MAX_VALUE_BYTES}
 use Rattle.kv_host.specs.declared.op.TheConstants.{GET, PUT, DELETE, SWAP}
 use Rattle.kv_host.specs.Spelling.{field}
+use Rattle.kv_spelling.specs.Spell.{fits_key, fits_value}
 use Rattle.resp.specs.Spelling.{bulk, line_end}
 use Rattle.resp.specs.Replies.{simple, error, no_elements}
 use Rattle.kv_resp.specs.declared.demand.Form.{Form}
@@ -20,12 +20,6 @@ pub data Action : Type 0 where
 -- the word, whatever the case of its letters
 abbrev pub is_word : List ℕ → List ℕ → Bool
 is_word word name = str_eq_ignore_ascii_case word name
-
-abbrev pub fits_key : List ℕ → Bool
-fits_key key = nat_le 1 (length key) && nat_le (length key) MAX_KEY_BYTES
-
-abbrev pub fits_value : List ℕ → Bool
-fits_value value = nat_le (length value) MAX_VALUE_BYTES
 
 -- ---- what is said of all that is not served
 

@@ -17,12 +17,11 @@
 //!
 //! Calls: `asked`, then `reply_to` with its form.
 //!
-//! To read in this order: `demand`, `requests`, `ops`, `results`, `laws`; then `specs/Table`, `Results`, `Laws`.
+//! To read in this order: `demand`, `requests`, `results`, `laws`; then `specs/Table`, `Results`, `Laws`.
 #![tactic(auto)]
 
 mod demand;
 mod laws;
-mod ops;
 mod requests;
 mod results;
 

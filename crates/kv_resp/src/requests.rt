@@ -1,16 +1,16 @@
 //! From a request to an op or a reply.
 
 ghost use Rattle.std.specs.Prelude.{◌≡◌, ◌∷◌, [], IfOk};
-ghost use Rattle.kv_resp.specs.Table.{asked, alone, bad_key, bad_value, done, fits_key, fits_value};
+ghost use Rattle.kv_resp.specs.Table.{asked, alone, bad_key, bad_value, done};
 ghost use Rattle.kv_resp.specs.Table.{is_word, key_action, option_action, put_action, selected};
 ghost use Rattle.kv_resp.specs.Table.{swap_action, unknown};
 ghost use Rattle.kv_resp.specs.Table.{with_any, with_one, with_three, with_two};
 ghost use Rattle.kv_resp.specs.View.{action_of};
 
 use crate::demand::{Demand, Form};
-use crate::ops::{key_op, swap_op, value_op};
 use kv_host::{DELETE, GET};
-use nop_types::{Bytes, MAX_KEY_BYTES, MAX_VALUE_BYTES, NoMemory};
+use kv_spelling::{fits_key, fits_value, key_op, swap_op, value_op};
+use nop_types::{Bytes, NoMemory};
 use resp::Reply;
 use std::alloc::Global;
 
@@ -26,18 +26,6 @@ fn is_word(word: &[u8], name: &str) -> bool
     ensures { result ≡ is_word word.now name.now }
 {
     same_letters(word, name.as_bytes())
-}
-
-fn fits_key(key: &[u8]) -> bool
-    ensures { result ≡ fits_key key.now }
-{
-    1 <= key.len() && key.len() <= MAX_KEY_BYTES
-}
-
-fn fits_value(value: &[u8]) -> bool
-    ensures { result ≡ fits_value value.now }
-{
-    value.len() <= MAX_VALUE_BYTES
 }
 
 fn bad_key<'a>() -> Demand<'a>

@@ -5,17 +5,16 @@ use Rattle.std.proofs.Common.{arith, inl, inr}
 use Rattle.std.specs.Prelude.{⊤, IfSome, nat_le, ◌&&◌}
 use Rattle.std.specs.Int.{w16, to_be_bytes}
 use Rattle.std.specs.Option.{option_and_then}
-use Rattle.std.proofs.lemmas.Bool.{and_parts, leb-true}
-use Rattle.std.proofs.lemmas.Bool.Decides.{nat_tests}
 use Rattle.hex.specs.Hex.{IsBytes}
-use Rattle.nop_types.specs.declared.limits.TheConstants.{MAX_KEY_BYTES, MAX_VALUE_BYTES}
 use Rattle.op_text.specs.Words.{bytes_of, word_of}
 use Rattle.op_text.proofs.WordLemmas.{read_back}
 use Rattle.kv_host.specs.declared.op.TheConstants.{GET, PUT, DELETE, SWAP}
 use Rattle.kv_host.specs.Op.{Op, Get, Put, Delete, Swap, Bad, read_op}
-use Rattle.kv_host.specs.Spelling.{KeyFits, ValueFits, field, Spells}
+use Rattle.kv_host.specs.Spelling.{field, Spells}
 use Rattle.kv_host.specs.Reading.{read_spelled}
-use Rattle.kv_text.specs.Text.{named, fits_key, fits_value, spell, op_of, words_in, words_of}
+use Rattle.kv_spelling.specs.Spell.{spell}
+use Rattle.kv_spelling.specs.Laws.{spelled_again, spelled_op}
+use Rattle.kv_text.specs.Text.{named, op_of, words_in, words_of}
 
 -- ---- the fields of an op of bytes are bytes
 
@@ -67,26 +66,6 @@ named_again (Delete key) k = rw (read_back key k) refl
 named_again (Swap key old new) (k, o, n) = rw (read_back key k, read_back old o, read_back new n) refl
 named_again Bad h = tt
 
-key_fits : (key : List ℕ) → KeyFits key → fits_key key ≡ true
-key_fits key fits =
-    let least = fits.least in
-    let most = fits.most in
-    grind (arith, nat_tests)
-
-value_fits : (value : List ℕ) → ValueFits value → fits_value value ≡ true
-value_fits value fits =
-    let most = fits.most in
-    grind (arith, nat_tests)
-
-spelled_again : (op : Op) (bytes : List ℕ) → Spells op bytes → spell op ≡ Some bytes
-unfolding spell
-spelled_again (Get key) bytes (k, e) = rw (key_fits key k) (ap Some (sym e))
-spelled_again (Put key value) bytes (k, v, e) = rw (key_fits key k, value_fits value v) (ap Some (sym e))
-spelled_again (Delete key) bytes (k, e) = rw (key_fits key k) (ap Some (sym e))
-spelled_again (Swap key old new) bytes (k, o, n, e) =
-    rw (key_fits key k, value_fits old o, value_fits new n) (ap Some (sym e))
-spelled_again Bad bytes h = absurd h
-
 both : (words : Option (List (List ℕ))) (op : Op) (bytes : List ℕ) → IfSome words (λ w. named w ≡ Some op) → spell op ≡ Some bytes
     → IfSome words (λ w. op_of w ≡ Some bytes)
 both None op bytes h e = tt
@@ -100,37 +79,6 @@ reads_back op all = elim (read_spelled op) [
 ]
 
 -- ---- what words name is spelled
-
-key_fits_back : (key : List ℕ) → fits_key key ≡ true → KeyFits key
-key_fits_back key e =
-    let p = and_parts (nat_le 1 (length key)) (nat_le (length key) MAX_KEY_BYTES) e in
-    record { least = leb-true 1 (length key) p.0; most = leb-true (length key) MAX_KEY_BYTES p.1 }
-
-value_fits_back : (value : List ℕ) → fits_value value ≡ true → ValueFits value
-value_fits_back value e = record { least = omega arith; most = leb-true (length value) MAX_VALUE_BYTES e }
-
-guarded : (b : Bool) (x bytes : List ℕ) → cond b (Some x) None ≡ Some bytes → (b ≡ true) × (bytes ≡ x)
-guarded true x bytes e = (refl, cc)
-guarded false x bytes e = absurd cc
-
-spelled_op : (op : Op) (bytes : List ℕ) → spell op ≡ Some bytes → Spells op bytes
-unfolding spell
-spelled_op (Get key) bytes e =
-    let g = guarded (fits_key key) _ bytes e in
-    (key_fits_back key g.0, g.1)
-spelled_op (Put key value) bytes e =
-    let g = guarded (fits_key key && fits_value value) _ bytes e in
-    let p = and_parts (fits_key key) (fits_value value) g.0 in
-    (key_fits_back key p.0, value_fits_back value p.1, g.1)
-spelled_op (Delete key) bytes e =
-    let g = guarded (fits_key key) _ bytes e in
-    (key_fits_back key g.0, g.1)
-spelled_op (Swap key old new) bytes e =
-    let g = guarded (fits_key key && (fits_value old && fits_value new)) _ bytes e in
-    let p = and_parts (fits_key key) (fits_value old && fits_value new) g.0 in
-    let q = and_parts (fits_value old) (fits_value new) p.1 in
-    (key_fits_back key p.0, value_fits_back old q.0, value_fits_back new q.1, g.1)
-spelled_op Bad bytes e = absurd cc
 
 pub named_spelled : (words : List (List ℕ)) (op : Op) (bytes : List ℕ) → named words ≡ Some op → op_of words ≡ Some bytes
     → Spells op bytes

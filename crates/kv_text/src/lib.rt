@@ -8,12 +8,11 @@
 //!
 //! Calls: `KvText`, by the trait, for the program `kv_ops`.
 //!
-//! Files: `spell` (from an op to bytes), `text` (from words, and to words), `laws`. Definitions:
-//! `specs/Text`.
+//! Files: `text` (from words, and to words), `laws`. Definitions: `specs/Text`; `kv_spelling` has the
+//! bytes of an op.
 #![tactic(auto)]
 
 mod laws;
-mod spell;
 mod text;
 
 pub use laws::named_ops_are_spelled;

@@ -3,13 +3,14 @@
 ghost use Rattle.std.specs.Prelude.{◌≡◌, ◌∷◌, [], IfOk};
 ghost use Rattle.std.specs.Option.{option_and_then};
 ghost use Rattle.kv_host.specs.View as view;
-ghost use Rattle.kv_text.specs.Text.{named, spell, key_op, value_op, swap_op};
+ghost use Rattle.kv_spelling.specs.Spell.{spell};
+ghost use Rattle.kv_text.specs.Text.{named, key_op, value_op, swap_op};
 ghost use Rattle.kv_text.specs.Text.{op_of, words_in, words_of, result_words};
 ghost use Rattle.op_text.specs.Words.{word_of};
 ghost use Rattle.kv_text.specs.Laws.{reads_back};
 
-use crate::spell::spell;
 use kv_host::{KvOp, read};
+use kv_spelling::spell;
 use line_fields::is_word;
 use nop_types::{Bytes, NoMemory, Op};
 use op_text::{OpText, Words, bytes_of};
