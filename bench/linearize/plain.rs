@@ -168,6 +168,12 @@ impl Search<'_> {
         true
     }
 
+    /// Whether the claim here accepts what is not placed.
+    fn is_stuck(&self) -> bool {
+        let here = &self.lines[self.own[self.line]];
+        matches!(here.claim, Claim::Accept(..)) && here.other.is_some_and(|submit| !self.placed[submit])
+    }
+
     fn op(&self, submit: usize) -> &[u8] {
         match &self.lines[submit].claim {
             Claim::Submit(_, op) => op,
@@ -191,13 +197,14 @@ impl Search<'_> {
         true
     }
 
-    /// Places each accepted read that waits and whose answer is the one that is accepted: no other need be tried in its place.
+    /// Places each accepted read that waits and whose answer is the one that is accepted, until what the claim here accepts is placed: no
+    /// other need be tried in its place.
     fn place_reads(&mut self) -> bool {
         let (before, mut at) = (self.waiting.len(), 0);
         while at < self.waiting.len() {
             let submit = self.waiting[at];
             let reads = self.lines[submit].other.is_some() && matches!(op_of(self.op(submit)), Op::Get(_) | Op::Bad);
-            if !reads || !self.try_at(at, self.waiting.len()) {
+            if !reads || !self.is_stuck() || !self.try_at(at, self.waiting.len()) {
                 at += 1;
             }
         }

@@ -157,6 +157,13 @@ module _ {A : Type 0} (p : A → Bool) where
         let one = one_rank p xs i.0 k.place c.member x c.stands k.stands c.passes k.passes (c.ranks ∙ sym k.ranks) in
         (i.0, i.1, ap (λ (t : ℕ). slice_get xs t) one ∙ k.stands, k.passes)
 
+    -- what is kept stands at its place
+    pub kept_stands : (a i : ℕ) (x : A) → slice_get (filter p xs) a ≡ Some x → slice_get places a ≡ Some i → slice_get xs i ≡ Some x
+    kept_stands a i x h g =
+        let k = kept_is_chosen a x h in
+        let same : k.0 ≡ i = let e = sym k.1 ∙ g in cc in
+        subst (λ (t : ℕ). slice_get xs t ≡ Some x) same k.2
+
     -- a member that passes stands at one of them
     pub passing_is_chosen : (i : ℕ) (x : A) → slice_get xs i ≡ Some x → p x ≡ true → (a : ℕ) × (slice_get places a ≡ Some i)
     passing_is_chosen i x h t =

@@ -8,6 +8,7 @@ use Rattle.fronts.specs.Parts.{AreTimed}
 use Rattle.joined_orders.specs.Joining.{IsFoundOrder, LacksAt}
 use Rattle.nop_types.specs.Legality.{Legal}
 use Rattle.nop_types.specs.Meaning.{Meaning}
+use Rattle.order_search.specs.Bounds.{AcceptsAt}
 use Rattle.order_search.specs.Outcomes.{IfFound, IfNothing, submits_of, time_of}
 use Rattle.order_search.specs.Turns.{AllSubmit, history_at}
 use Rattle.order_search.specs.declared.outcome.Outcome.{Outcome}
@@ -40,6 +41,6 @@ module _ {S : Type 0} (m : Meaning S) (claims : List (Bor Claim)) where
   found_order (Nothing k) legal submit timed within = tt
 
   pub lacks_order : (o : Outcome) → IfNothing o (λ k. HasOrder m (said_by claims) → ⊥) → IfNothing o (λ k. k < length claims)
-      → IfNothing o (LacksAt m (said_by claims))
-  lacks_order (Found v) none within = tt
-  lacks_order (Nothing k) none within = (none, let e = length_said claims in omega (arith, within, e))
+      → IfNothing o (AcceptsAt (said_by claims)) → IfNothing o (LacksAt m (said_by claims))
+  lacks_order (Found v) none within accepts = tt
+  lacks_order (Nothing k) none within accepts = (none, let e = length_said claims in omega (arith, within, e), accepts)

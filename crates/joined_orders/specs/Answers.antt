@@ -8,6 +8,7 @@ use Rattle.joined_orders.specs.declared.linearized.Linearized.TheVariants.{Order
 use Rattle.nop_types.specs.Legality.{Legal}
 use Rattle.nop_types.specs.Lines.{Line}
 use Rattle.nop_types.specs.Meaning.{Meaning}
+use Rattle.order_search.specs.Bounds.{AcceptsAt}
 use Rattle.order_search.specs.Turns.{AllSubmit, history_at}
 use Rattle.pairs.specs.Stops.{AreGood, IsGroundless, IsRepeat}
 
@@ -39,6 +40,6 @@ LacksOrder m part most lines p =
 abbrev pub IsAnswer : {S : Type 0} → Meaning S → (List ℕ → List ℕ) → ℕ → List Line → Linearized → Type 0
 IsAnswer m part most lines (Order places) = Legal m lines (history_at lines places.items) × AllSubmit lines places.items
 IsAnswer m part most lines (Nothing p claim) =
-    (HasOrder m lines → ⊥) × (claim < length lines) × LacksOrder m part most lines p.items
+    (HasOrder m lines → ⊥) × (claim < length lines) × LacksOrder m part most lines p.items × AcceptsAt lines claim
 IsAnswer m part most lines (Groundless claim) = IsGroundless lines claim × AreGood lines claim
 IsAnswer m part most lines (Repeated claim) = IsRepeat lines claim × AreGood lines claim

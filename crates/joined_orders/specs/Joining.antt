@@ -3,6 +3,7 @@ use Rattle.std.specs.Prelude.{◌≡◌, ℕ, ◌<◌, ◌≤◌, ◌==◌, Bool
 use Rattle.fronts.specs.Fronts.{HasOrder}
 use Rattle.fronts.specs.Parts.{AreTimed}
 use Rattle.joined_orders.specs.Owning.{is_own, passes}
+use Rattle.order_search.specs.Bounds.{AcceptsAt}
 use Rattle.order_search.specs.declared.outcome.Placed.{Placed}
 use Rattle.order_search.specs.Outcomes.{submits_of, time_of}
 use Rattle.order_search.specs.Turns.{AllSubmit, history_at}
@@ -39,9 +40,9 @@ pub record IsFoundOrder {S : Type 0} (m : Meaning S) (lines : List Line) (xs : L
   pub timed : AreTimed lines (history_at lines (submits_of xs)) (time_of xs)
   pub within : (x : Placed) → Has xs x → (x.submit < length lines) × (x.line < length lines)
 
--- the lines have none, and this is a place among them
+-- the lines have none, and the one at this place accepts
 abbrev pub LacksAt : {S : Type 0} → Meaning S → List Line → ℕ → Type 0
-LacksAt m lines k = (HasOrder m lines → ⊥) × (k < length lines)
+LacksAt m lines k = (HasOrder m lines → ⊥) × (k < length lines) × AcceptsAt lines k
 
 -- whether a request that was placed is of the part
 abbrev pub is_placed_of : (List ℕ → List ℕ) → List Line → List ℕ → Placed → Bool

@@ -12,8 +12,9 @@
 //! is `Legal` for the claims. At Nothing no history is legal; none is so for the lines of the part alone, or
 //! there are more parts than the service may have (`LacksOrder`). At Groundless and Repeated the claim is the
 //! first that has no pair (of `pairs`; where one is Groundless no history is legal, which is a law there).
-//! Spent comes only where no steps are left, and steps are never added. Not proved: how many steps it takes,
-//! and of the claim that Nothing names more than that it is one of the claims.
+//! Spent comes only where no steps are left, and steps are never added. The claim that Nothing names accepts.
+//! Not proved: how many steps it takes (for one part `order_search` has a bound), and that no order goes past
+//! that claim.
 //!
 //! Besides the searches it takes n log n steps for n claims.
 //!

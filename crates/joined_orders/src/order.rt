@@ -6,6 +6,7 @@ ghost use Rattle.fronts.specs.Fronts.{AcceptedLater, HasOrder};
 ghost use Rattle.joined_orders.specs.Answers.{IfGroundless, IfNothing, IfOrder, IfRepeated, IsAnswer, LacksOrder};
 ghost use Rattle.joined_orders.specs.Splitting.{HasManyParts};
 ghost use Rattle.nop_types.specs.Legality.{AcceptedOnce, Legal};
+ghost use Rattle.order_search.specs.Bounds.{AcceptsAt};
 ghost use Rattle.order_search.specs.Turns.{AllSubmit, history_at};
 ghost use Rattle.pairs.specs.Pairing.{ArePaired};
 ghost use Rattle.pairs.specs.Said.{said_by};
@@ -110,6 +111,8 @@ pub fn order_of<P: Parted>(
     ensures none { IfOk result (λ a. IfNothing a (λ part claim. HasOrder P.Service.meaning
         (lines_of claims.now) → ⊥)) }
     ensures within { IfOk result (λ a. IfNothing a (λ part claim. claim < length claims.now)) }
+    ensures accepts { IfOk result (λ a. IfNothing a (λ part claim. AcceptsAt
+        (lines_of claims.now) claim)) }
     ensures part { IfOk result (λ a. IfNothing a (λ part claim. LacksOrder P.Service.meaning
         P.part P.MAX_PARTS (lines_of claims.now) part)) }
     ensures groundless { IfOk result (λ a. IfGroundless a (λ claim.

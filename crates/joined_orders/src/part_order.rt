@@ -6,6 +6,7 @@ ghost use Rattle.fronts.specs.Fronts.{AcceptedLater, HasOrder};
 ghost use Rattle.joined_orders.specs.Joining.{moved, IsFoundOrder, IsPartOrder, LacksAt};
 ghost use Rattle.joined_orders.specs.Owning.{is_own, places_where};
 ghost use Rattle.nop_types.specs.Legality.{AcceptedOnce};
+ghost use Rattle.order_search.specs.Bounds.{AcceptsAt};
 ghost use Rattle.order_search.specs.Outcomes.{IfFound, IfNothing};
 ghost use Rattle.pairs.specs.Pairing.{ArePaired};
 ghost use Rattle.pairs.specs.Said.{said_by};
@@ -108,6 +109,7 @@ pub(crate) fn order_of_part<P: Parted>(
     ensures none { IfOk result (λ o. IfNothing o (λ k. HasOrder P.Service.meaning (filter (is_own
         P.part (said_by claims.now) part.now.name.now) (said_by claims.now)) → ⊥)) }
     ensures within { IfOk result (λ o. IfNothing o (λ k. k < length claims.now)) }
+    ensures accepts { IfOk result (λ o. IfNothing o (AcceptsAt (said_by claims.now))) }
     ensures spent { result ≡ Err Stopped.Spent → left.new ≡ 0 }
     ensures left { left.new ≤ left.old }
 {

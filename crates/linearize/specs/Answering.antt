@@ -5,6 +5,7 @@ use Rattle.joined_orders.specs.Answers.{IfGroundless, IfNothing, IfOrder, IfRepe
 use Rattle.joined_orders.specs.declared.linearized.Linearized.{Linearized}
 use Rattle.nop_types.specs.Legality.{Legal}
 use Rattle.nop_types.specs.Meaning.{Meaning}
+use Rattle.order_search.specs.Bounds.{AcceptsAt}
 use Rattle.order_search.specs.Turns.{AllSubmit, history_at}
 use Rattle.pairs.specs.Stops.{AreGood, IsGroundless, IsRepeat}
 use Rattle.transcript_reader.specs.Claims.{lines_of}
@@ -26,5 +27,6 @@ pub record IsFound {S : Type 0} (m : Meaning S) (part_of : List ℕ → List ℕ
   pub none : IfNothing found (λ part claim. HasOrder m (lines_of claims) → ⊥)
   pub part : IfNothing found (λ part claim. LacksOrder m part_of most_parts (lines_of claims) part)
   pub within : IfNothing found (λ part claim. claim < length claims)
+  pub accepts : IfNothing found (λ part claim. AcceptsAt (lines_of claims) claim)
   pub groundless : IfGroundless found (λ claim. IsGroundless (lines_of claims) claim × AreGood (lines_of claims) claim)
   pub repeated : IfRepeated found (λ claim. IsRepeat (lines_of claims) claim × AreGood (lines_of claims) claim)

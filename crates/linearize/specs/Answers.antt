@@ -8,6 +8,7 @@ use Rattle.linearize.specs.declared.answer.Answer.{Answer}
 use Rattle.linearize.specs.declared.answer.Answer.TheVariants.{Order, NoOrder, Repeated, Unknown}
 use Rattle.nop_types.specs.Lines.{Line}
 use Rattle.nop_types.specs.Meaning.{Meaning}
+use Rattle.order_search.specs.Bounds.{AcceptsAt}
 use Rattle.pairs.specs.Stops.{AreGood, IsGroundless, IsRepeat}
 use Rattle.transcript_reader.specs.Reading.{IsInterrupted, IsRefused, IsTranscript}
 use Rattle.transcript_reader.specs.Steps.{SoFar}
@@ -39,12 +40,13 @@ pub record IsRepeated (claims : List Line) (numbers : List ℕ) (line : ℕ) : T
   pub first : AreGood claims place
 
 module _ {S : Type 0} (m : Meaning S) (part_of : List ℕ → List ℕ) (most_parts : ℕ) where
-  -- no history is legal, since this part alone has none; the line is that of a claim
+  -- no history is legal, since this part alone has none; the line accepts
   pub record HasNone (claims : List Line) (numbers : List ℕ) (part : List ℕ) (line : ℕ) : Type 0 where
     pub none : HasOrder m claims → ⊥
     pub part_lacks : LacksOrder m part_of most_parts claims part
     pub place : ℕ
     pub at : slice_get numbers place ≡ Some line
+    pub accepts : AcceptsAt claims place
 
   -- in so many steps
   abbrev pub IsRight : List Line → List ℕ → ℕ → Result Answer CheckError → Type 0

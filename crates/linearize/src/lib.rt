@@ -25,7 +25,7 @@
 //! - `unread`: nothing is read where the arguments are others.
 //!
 //! Not proved: which order is found where there are several; that no order goes past line K of a
-//! `none` line; how many steps it takes. NoMemory is also the answer where the transcript with the
+//! `none` line, which accepts; how many steps it takes. NoMemory is also the answer where the transcript with the
 //! order would have more than `MAX_TRANSCRIPT_LINES` lines.
 //!
 //! Nothing is written before all is decided: the answer is made in memory, and written by one call.

@@ -38,3 +38,8 @@ pub unmarked_all : (n i : ℕ) (b : Bool) → slice_get (replicate n false) i �
 unmarked_all zero i b h = absurd cc
 unmarked_all (suc n) zero b h = cc
 unmarked_all (suc n) (suc i) b h = unmarked_all n i b h
+
+pub one_less : {A : Type 0} (xs : List A) (at : ℕ) (x : A) → slice_get xs at ≡ Some x → length xs ≡ suc (length (remove xs at))
+one_less [] at x h = absurd cc
+one_less (y ∷ xs) zero x h = refl
+one_less (y ∷ xs) (suc at) x h = ap suc (one_less xs at x h)

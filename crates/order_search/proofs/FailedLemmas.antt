@@ -9,7 +9,6 @@ use Rattle.std.proofs.lemmas.List.Elements.{All-nil, All-cons, All-head, All-tai
 use Rattle.std.proofs.lemmas.List.Sorted.{All-permutation}
 use Rattle.fronts.specs.Configurations.{HasUnaccepted, IsFailed}
 use Rattle.nop_types.specs.Lines.{Line}
-use Rattle.nop_types.specs.Lists.{is_in}
 use Rattle.nop_types.specs.Meaning.{Meaning}
 use Rattle.order_search.specs.Failing.{AllFailed, IsKnown, Keeps}
 use Rattle.order_search.specs.declared.failed.Configuration.{Configuration}

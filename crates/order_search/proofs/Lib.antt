@@ -9,3 +9,5 @@ pub mod OrderLemmas
 pub mod SearchLemmas
 pub mod FailedLemmas
 pub mod AgreeLemmas
+pub mod BoundLemmas
+pub mod CountLemmas

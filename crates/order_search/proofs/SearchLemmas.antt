@@ -16,7 +16,7 @@ use Rattle.nop_types.specs.Lines.{Line, Submit, Accept}
 use Rattle.nop_types.specs.Lists.{is_in}
 use Rattle.nop_types.specs.Meaning.{Meaning}
 use Rattle.nop_types.specs.declared.request.Request.{Request}
-use Rattle.order_search.proofs.Edits.{insert-remove, at_most}
+use Rattle.order_search.proofs.Edits.{insert-remove, at_most, one_less}
 use Rattle.order_search.proofs.FrontMembers.{next_is_new}
 use Rattle.order_search.proofs.MarkLemmas.{nothing_marked, marked_more, marked_less}
 use Rattle.order_search.proofs.RisingLemmas.{rising_further, rising_push, rising_front}
@@ -226,6 +226,17 @@ module _ {S U : Type 0} (m : Meaning S) (undo_of : S → List ℕ → U) (lines 
 
     pub last_has_room : step.at ≤ length (take step.others waiting)
     last_has_room = rw restored (at_most last.left step.at step.submit last.is_step.stands)
+
+    -- so many wait where it is taken back
+    pub last_waits : length (insert (take step.others waiting) step.at step.submit) ≡ suc step.others
+    last_waits =
+        let waited : insert (take step.others waiting) step.at step.submit ≡ last.left =
+        ap (λ (x : List ℕ). insert x step.at step.submit) restored
+        ∙ insert-remove last.left step.at step.submit last.is_step.stands in
+        let l = one_less last.left step.at step.submit last.is_step.stands in
+        let n : length (insert (take step.others waiting) step.at step.submit) ≡ length last.left = ap length waited in
+        let others = last.is_step.others in
+        omega (arith, l, n, others)
 
     -- the last step is taken back
     pub search_goes_back : SubmittedOnce lines → (GoesOn m lines (front_of lines (steps ++ step ∷ [])) → ⊥) → (undone : S → U → S)

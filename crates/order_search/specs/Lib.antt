@@ -1,4 +1,5 @@
 pub mod Agreeing
+pub mod Bounds
 pub mod Failing
 pub mod Outcomes
 pub mod Placing

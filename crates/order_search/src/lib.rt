@@ -9,17 +9,19 @@
 //! the next one tried. A configuration that is kept is not searched again.
 //!
 //! Before the first is tried at a claim, each request that waits, is accepted and only reads is placed if its
-//! answer agrees. No other need be tried in its place: where the front goes on to a legal history, it goes on
-//! with the read. So where such a read is taken back, the front before it has failed too.
+//! answer agrees, until what the claim accepts is placed. No other need be tried in its place: where the front
+//! goes on to a legal history, it goes on with the read. So where such a read is taken back, the front before it
+//! has failed too.
 //!
 //! Proved of `find_order`, for borrowed claims with their pairs, as `pairs_of` gives them: where it finds an
 //! order, what the claims at these places submit is a history that is `Legal` for the claims; along it the
 //! lines at which the requests were placed do not fall, and each is the place of a claim, behind the one that
 //! submits the request and not behind the one that accepts it (`AreTimed`). So orders of parts of the claims
-//! can be joined by these lines. Where it answers Nothing, no history is legal; of the claim that it names
-//! nothing else is proved (it is the furthest at which the search stood). Spent comes only where no steps are
-//! left, and steps are never added. Not proved: how many steps it takes. They may double with each request
-//! more that waits at one time.
+//! can be joined by these lines. Where it answers Nothing, no history is legal; the claim that it names accepts
+//! (it is the furthest at which the search stood). Spent comes only where no steps are left, and there were fewer
+//! than `most_steps` of the claims; no answer takes more than these, and steps are never added. `most_steps`
+//! grows like a factorial of the requests (`specs/Bounds`): it knows nothing of what was kept. Not proved: how
+//! many steps it takes in fact. They may double with each request more that waits at one time.
 //!
 //! A claim is passed in constant time. Any other step takes no longer than there are requests that wait,
 //! besides what the host takes to save its state, and to apply an op and undo it: of one that waits, and of
@@ -29,12 +31,14 @@
 //! one that was tried before another it is known that the front does not go on with it (`HasTried`), so
 //! where all were tried the front goes nowhere, and where the empty front goes nowhere no history is legal.
 //! Each step keeps how many of those that waited lead nowhere where its own request does (`Settles`): those up
-//! to it, or all where it reads.
+//! to it, or all where it reads. A request is tried only at a claim that accepts what is not placed; so behind
+//! each front a claim is passed once and a request tried once, and what is left of `most_steps` falls with each
+//! step (`steps_left`, `IsCounted`).
 //!
 //! Files, in reading order: `search`, where it stands and what a step does, with `step`, `agreeing`, `reads`
 //! and `claims`; `failed`, which alone knows the set of what is kept; `outcome` and `stopped`. Definitions:
 //! `specs/Searching` (`IsSearching`), then `Waiting`, `Placing`, `Reads`, `Failing`, `Agreeing`, `Turns`,
-//! `Outcomes`.
+//! `Outcomes`, `Bounds`.
 #![tactic(auto)]
 
 mod agreeing;

@@ -1,11 +1,12 @@
 //! A search for an order: where it stands, and what one step does.
 
-ghost use Rattle.std.specs.Prelude.{◌≡◌, ◌+◌, ◌++◌, ◌∷◌, ◌<◌, ◌≤◌, [], ℕ, List, All, Some, Err, slice_get, slice_set, remove, length, map, true, false, IfOk, OnOk, MatchBool};
+ghost use Rattle.std.specs.Prelude.{◌≡◌, ◌⊎◌, ◌+◌, ◌++◌, ◌∷◌, ◌<◌, ◌≤◌, [], ℕ, List, All, Some, Err, slice_get, slice_set, remove, length, map, max, true, false, IfOk, OnOk, MatchBool};
 ghost use Rattle.execution_laws.specs.Legality.{SubmittedOnce};
 ghost use Rattle.fronts.specs.Fronts.{AcceptedLater, GoesOn, HasOrder};
 ghost use Rattle.fronts.specs.Parts.{AreTimed};
 ghost use Rattle.nop_types.specs.Legality.{AcceptedOnce, Legal};
 ghost use Rattle.nop_types.specs.Lines.{Accept};
+ghost use Rattle.order_search.specs.Bounds.{most_steps, steps_left, AcceptsAt, IsCounted};
 ghost use Rattle.order_search.specs.Failing.{AllFailed};
 ghost use Rattle.order_search.specs.Outcomes.{placed_by, submits_of, time_of, IfFound, IfNothing};
 ghost use Rattle.order_search.specs.Reads.{AreReads};
@@ -76,6 +77,10 @@ impl<H: Host> Search<H> {
         ensures fits { IfOk result (λ s. UndosFit (H.fits s.host) s.steps.items) }
         ensures failed { IfOk result (λ s. AllFailed H.meaning
             (said_by claims.now) s.failed.kept.keys) }
+        ensures counted { IfOk result (λ s. IsCounted (said_by claims.now) s.line s.next
+            s.steps.items s.waiting.items) }
+        ensures opens { IfOk result (λ s. steps_left (said_by claims.now) s.steps.items
+            s.line s.next ≡ most_steps (said_by claims.now)) }
     {
         let mut placed = Vec::new(alloc);
         placed.resize(claims.len(), false)?;
@@ -112,6 +117,24 @@ impl<H: Host> Search<H> {
         self.placed[submit]
     }
 
+    /// Whether the claim here accepts what is not placed.
+    fn is_stuck(&self, claims: &[&Claim], pairs: &Pairs) -> bool
+        requires within { self.now.line < length claims.now }
+        requires paired { ArePaired (said_by claims.now)
+            (length claims.now) pairs.now.accepts.items pairs.now.submits.items }
+        requires searching { IsSearching H.meaning H.undo_of (said_by claims.now)
+            (H.state self.now.host)
+            self.now.line self.now.next self.now.steps.items
+            self.now.waiting.items self.now.placed.items }
+        ensures { result ≡ true → IsStuck (said_by claims.now) self.now.line
+            (front_of (said_by claims.now) self.now.steps.items) }
+    {
+        match claim_at(claims, self.line) {
+            Claim::Submitted(_) => false,
+            Claim::Accepted { client, id, .. } => !self.is_placed(claims, pairs, *client, *id),
+        }
+    }
+
     /// Passes the claim here, where it submits, or accepts what is placed.
     fn pass(&mut self, claims: &[&Claim], pairs: &Pairs) -> Result<bool, NoMemory>
         requires within { self.old.line < length claims.now }
@@ -123,6 +146,8 @@ impl<H: Host> Search<H> {
             (H.state self.old.host)
             self.old.line self.old.next self.old.steps.items
             self.old.waiting.items self.old.placed.items }
+        requires counted { IsCounted (said_by claims.now) self.old.line self.old.next
+            self.old.steps.items self.old.waiting.items }
         ensures stuck { IfOk result (λ passed. passed ≡ false
             → IsStuck (said_by claims.now) self.new.line
             (front_of (said_by claims.now) self.new.steps.items)) }
@@ -132,6 +157,14 @@ impl<H: Host> Search<H> {
             (H.state self.new.host)
             self.new.line self.new.next self.new.steps.items
             self.new.waiting.items self.new.placed.items) }
+        ensures counted { OnOk result (IsCounted (said_by claims.now) self.new.line
+            self.new.next self.new.steps.items self.new.waiting.items) }
+        ensures falls { IfOk result (λ passed. passed ≡ true →
+            steps_left (said_by claims.now) self.new.steps.items self.new.line self.new.next + 1
+            ≤ steps_left (said_by claims.now) self.old.steps.items self.old.line self.old.next) }
+        ensures moves { IfOk result (λ passed. passed ≡ true
+            → self.new.line ≡ self.old.line + 1) }
+        ensures same { IfOk result (λ passed. passed ≡ false → self.new ≡ self.old) }
     {
         let line = self.line;
         match claim_at(claims, line) {
@@ -216,6 +249,12 @@ impl<H: Host> Search<H> {
             (H.state self.old.host)
             self.old.line self.old.next self.old.steps.items
             self.old.waiting.items self.old.placed.items }
+        requires stuck { IsStuck (said_by claims.now) self.old.line (front_of
+            (said_by claims.now) self.old.steps.items) }
+        requires next { self.old.next ≤ at }
+        requires further { self.old.next < tried }
+        requires counted { IsCounted (said_by claims.now) self.old.line self.old.next
+            self.old.steps.items self.old.waiting.items }
         ensures line { self.new.line ≡ self.old.line }
         ensures failed { self.new.failed ≡ self.old.failed }
         ensures less { IfOk result (λ placed. placed ≡ true
@@ -232,6 +271,13 @@ impl<H: Host> Search<H> {
             (H.state self.new.host)
             self.new.line self.new.next self.new.steps.items
             self.new.waiting.items self.new.placed.items) }
+        ensures counted { OnOk result (IsCounted (said_by claims.now) self.new.line
+            self.new.next self.new.steps.items self.new.waiting.items) }
+        ensures falls { IfOk result (λ placed. placed ≡ true →
+            steps_left (said_by claims.now) self.new.steps.items self.new.line self.new.next + 1
+            ≤ steps_left (said_by claims.now) self.old.steps.items self.old.line self.old.next) }
+        ensures kept { IfOk result (λ placed. placed ≡ false
+            → self.new.steps.items ≡ self.old.steps.items) }
     {
         let submit = self.waiting[at];
         let Claim::Submitted(request) = claim_at(claims, submit) else {
@@ -259,12 +305,21 @@ impl<H: Host> Search<H> {
             (H.state self.old.host)
             self.old.line self.old.next self.old.steps.items
             self.old.waiting.items self.old.placed.items }
+        requires stuck { IsStuck (said_by claims.now) self.old.line (front_of
+            (said_by claims.now) self.old.steps.items) }
+        requires counted { IsCounted (said_by claims.now) self.old.line self.old.next
+            self.old.steps.items self.old.waiting.items }
         ensures failed { self.new.failed ≡ self.old.failed }
         ensures fits { OnOk result (UndosFit (H.fits self.new.host) self.new.steps.items) }
         ensures searching { OnOk result (IsSearching H.meaning H.undo_of (said_by claims.now)
             (H.state self.new.host)
             self.new.line self.new.next self.new.steps.items
             self.new.waiting.items self.new.placed.items) }
+        ensures counted { OnOk result (IsCounted (said_by claims.now) self.new.line
+            self.new.next self.new.steps.items self.new.waiting.items) }
+        ensures falls { OnOk result (
+            steps_left (said_by claims.now) self.new.steps.items self.new.line self.new.next + 1
+            ≤ steps_left (said_by claims.now) self.old.steps.items self.old.line self.old.next) }
     {
         let at = self.next;
         let with_it = counted_to(&self.waiting, at);
@@ -274,8 +329,8 @@ impl<H: Host> Search<H> {
         Ok(())
     }
 
-    /// Places the request that waits at `at`, where it is a read and its answer agrees. Where the front goes on, it goes on with it: so
-    /// where it leads to no legal history, none that waits does.
+    /// Places the request that waits at `at`, where it is a read, its answer agrees, and the claim here accepts what is not placed yet.
+    /// Where the front goes on, it goes on with it: so where it leads to no legal history, none that waits does.
     fn place_read(
         &mut self,
         claims: &[&Claim],
@@ -295,6 +350,9 @@ impl<H: Host> Search<H> {
             (H.state self.old.host)
             self.old.line self.old.next self.old.steps.items
             self.old.waiting.items self.old.placed.items }
+        requires first { self.old.next ≡ 0 }
+        requires counted { IsCounted (said_by claims.now) self.old.line self.old.next
+            self.old.steps.items self.old.waiting.items }
         ensures line { self.new.line ≡ self.old.line }
         ensures failed { self.new.failed ≡ self.old.failed }
         ensures less { IfOk result (λ placed. placed ≡ true
@@ -308,9 +366,19 @@ impl<H: Host> Search<H> {
             (H.state self.new.host)
             self.new.line self.new.next self.new.steps.items
             self.new.waiting.items self.new.placed.items) }
+        ensures counted { OnOk result (IsCounted (said_by claims.now) self.new.line
+            self.new.next self.new.steps.items self.new.waiting.items) }
+        ensures falls { IfOk result (λ placed. placed ≡ true →
+            steps_left (said_by claims.now) self.new.steps.items self.new.line self.new.next + 1
+            ≤ steps_left (said_by claims.now) self.old.steps.items self.old.line self.old.next) }
+        ensures kept { IfOk result (λ placed. placed ≡ false
+            → self.new.steps.items ≡ self.old.steps.items) }
     {
         let submit = self.waiting[at];
         if !reads[submit] {
+            return Ok(false);
+        }
+        if !self.is_stuck(claims, pairs) {
             return Ok(false);
         }
         let all = self.waiting.len();
@@ -336,6 +404,8 @@ impl<H: Host> Search<H> {
             (H.state self.old.host)
             self.old.line self.old.next self.old.steps.items
             self.old.waiting.items self.old.placed.items }
+        requires counted { IsCounted (said_by claims.now) self.old.line self.old.next
+            self.old.steps.items self.old.waiting.items }
         ensures line { self.new.line ≡ self.old.line }
         ensures failed { self.new.failed ≡ self.old.failed }
         ensures none { IfOk result (λ any. any ≡ false
@@ -346,6 +416,13 @@ impl<H: Host> Search<H> {
             (H.state self.new.host)
             self.new.line self.new.next self.new.steps.items
             self.new.waiting.items self.new.placed.items) }
+        ensures counted { OnOk result (IsCounted (said_by claims.now) self.new.line
+            self.new.next self.new.steps.items self.new.waiting.items) }
+        ensures falls { IfOk result (λ any. any ≡ true →
+            steps_left (said_by claims.now) self.new.steps.items self.new.line self.new.next + 1
+            ≤ steps_left (said_by claims.now) self.old.steps.items self.old.line self.old.next) }
+        ensures kept { IfOk result (λ any. any ≡ false
+            → self.new.steps.items ≡ self.old.steps.items) }
     {
         if self.next > 0 {
             return Ok(false);
@@ -370,6 +447,8 @@ impl<H: Host> Search<H> {
             self.old.waiting.items self.old.placed.items }
         requires fails { GoesOn H.meaning (said_by claims.now) (front_of
             (said_by claims.now) self.old.steps.items) → ⊥ }
+        requires counted { IsCounted (said_by claims.now) self.old.line self.old.next
+            self.old.steps.items self.old.waiting.items }
         ensures found { IfOk result (λ turn. turn ≡ Turn.Found → ⊥) }
         ensures none { IfOk result (λ turn. turn ≡ Turn.Nothing
             → HasOrder H.meaning (said_by claims.now) → ⊥) }
@@ -379,6 +458,12 @@ impl<H: Host> Search<H> {
             → IsSearching H.meaning H.undo_of (said_by claims.now)
             (H.state self.new.host) self.new.line self.new.next self.new.steps.items
             self.new.waiting.items self.new.placed.items) }
+        ensures counted { IfOk result (λ turn. turn ≡ Turn.Going
+            → IsCounted (said_by claims.now) self.new.line self.new.next
+            self.new.steps.items self.new.waiting.items) }
+        ensures falls { IfOk result (λ turn. turn ≡ Turn.Going →
+            steps_left (said_by claims.now) self.new.steps.items self.new.line self.new.next + 1
+            ≤ steps_left (said_by claims.now) self.old.steps.items self.old.line self.old.next) }
     {
         let Some(step) = self.steps.pop() else {
             return Ok(Turn::Nothing);
@@ -434,6 +519,8 @@ impl<H: Host> Search<H> {
             self.old.waiting.items self.old.placed.items }
         requires fails { GoesOn H.meaning (said_by claims.now) (front_of
             (said_by claims.now) self.old.steps.items) → ⊥ }
+        requires counted { IsCounted (said_by claims.now) self.old.line self.old.next
+            self.old.steps.items self.old.waiting.items }
         ensures found { IfOk result (λ turn. turn ≡ Turn.Found → ⊥) }
         ensures none { IfOk result (λ turn. turn ≡ Turn.Nothing
             → HasOrder H.meaning (said_by claims.now) → ⊥) }
@@ -444,6 +531,12 @@ impl<H: Host> Search<H> {
             → IsSearching H.meaning H.undo_of (said_by claims.now)
             (H.state self.new.host) self.new.line self.new.next self.new.steps.items
             self.new.waiting.items self.new.placed.items) }
+        ensures counted { IfOk result (λ turn. turn ≡ Turn.Going
+            → IsCounted (said_by claims.now) self.new.line self.new.next
+            self.new.steps.items self.new.waiting.items) }
+        ensures falls { IfOk result (λ turn. turn ≡ Turn.Going →
+            steps_left (said_by claims.now) self.new.steps.items self.new.line self.new.next + 1
+            ≤ steps_left (said_by claims.now) self.old.steps.items self.old.line self.old.next) }
     {
         let here = self.configuration()?;
         self.failed.keep(here)?;
@@ -470,6 +563,8 @@ impl<H: Host> Search<H> {
             (H.state self.old.host)
             self.old.line self.old.next self.old.steps.items
             self.old.waiting.items self.old.placed.items }
+        requires counted { IsCounted (said_by claims.now) self.old.line self.old.next
+            self.old.steps.items self.old.waiting.items }
         ensures found { IfOk result (λ turn. turn ≡ Turn.Found → ⊥) }
         ensures none { IfOk result (λ turn. turn ≡ Turn.Nothing
             → HasOrder H.meaning (said_by claims.now) → ⊥) }
@@ -480,6 +575,12 @@ impl<H: Host> Search<H> {
             → IsSearching H.meaning H.undo_of (said_by claims.now)
             (H.state self.new.host) self.new.line self.new.next self.new.steps.items
             self.new.waiting.items self.new.placed.items) }
+        ensures counted { IfOk result (λ turn. turn ≡ Turn.Going
+            → IsCounted (said_by claims.now) self.new.line self.new.next
+            self.new.steps.items self.new.waiting.items) }
+        ensures falls { IfOk result (λ turn. turn ≡ Turn.Going →
+            steps_left (said_by claims.now) self.new.steps.items self.new.line self.new.next + 1
+            ≤ steps_left (said_by claims.now) self.old.steps.items self.old.line self.old.next) }
     {
         if self.next >= self.waiting.len() {
             return self.fail(claims);
@@ -507,6 +608,8 @@ impl<H: Host> Search<H> {
             (H.state self.old.host)
             self.old.line self.old.next self.old.steps.items
             self.old.waiting.items self.old.placed.items }
+        requires counted { IsCounted (said_by claims.now) self.old.line self.old.next
+            self.old.steps.items self.old.waiting.items }
         ensures found { IfOk result (λ turn. turn ≡ Turn.Found → self.new ≡ self.old) }
         ensures passed { IfOk result (λ turn. turn ≡ Turn.Found
             → self.old.line ≡ length claims.now) }
@@ -521,6 +624,17 @@ impl<H: Host> Search<H> {
             → IsSearching H.meaning H.undo_of (said_by claims.now)
             (H.state self.new.host) self.new.line self.new.next self.new.steps.items
             self.new.waiting.items self.new.placed.items) }
+        ensures counted { IfOk result (λ turn. turn ≡ Turn.Going
+            → IsCounted (said_by claims.now) self.new.line self.new.next
+            self.new.steps.items self.new.waiting.items) }
+        ensures falls { IfOk result (λ turn. turn ≡ Turn.Going →
+            steps_left (said_by claims.now) self.new.steps.items self.new.line self.new.next + 1
+            ≤ steps_left (said_by claims.now) self.old.steps.items self.old.line self.old.next) }
+        ensures moves { IfOk result (λ turn. turn ≡ Turn.Going
+            → (self.new.line ≡ self.old.line + 1)
+            ⊎ AcceptsAt (said_by claims.now) self.old.line) }
+        ensures accepts { IfOk result (λ turn. turn ≡ Turn.Nothing
+            → AcceptsAt (said_by claims.now) self.old.line) }
     {
         if self.line >= claims.len() {
             return Ok(Turn::Found);
@@ -547,6 +661,13 @@ impl<H: Host> Search<H> {
     }
 }
 
+/// The one of two places that is further.
+fn further(furthest: usize, line: usize) -> usize
+    ensures { result ≡ max furthest line }
+{
+    line.max(furthest)
+}
+
 /// Finds an order of the claims, or that there is none, in at most as many steps as are left; Spent where these do not suffice. A step
 /// passes a claim, tries a request, places all reads that agree, or takes a request back.
 pub fn find_order<P: Parted>(
@@ -571,7 +692,10 @@ pub fn find_order<P: Parted>(
     ensures none { IfOk result (λ o. IfNothing o (λ k. HasOrder P.Service.meaning
         (said_by claims.now) → ⊥)) }
     ensures furthest { IfOk result (λ o. IfNothing o (λ k. k < length claims.now)) }
+    ensures accepts { IfOk result (λ o. IfNothing o (AcceptsAt (said_by claims.now))) }
     ensures spent { result ≡ Err Stopped.Spent → left.new ≡ 0 }
+    ensures few { result ≡ Err Stopped.Spent → left.old < most_steps (said_by claims.now) }
+    ensures used { OnOk result (left.old ≤ left.new + most_steps (said_by claims.now)) }
     ensures left { left.new ≤ left.old }
 {
     let reads = reads_of::<P>(alloc, claims, pairs)?;
@@ -579,7 +703,7 @@ pub fn find_order<P: Parted>(
     let mut furthest = 0;
     while *left > 0 {
         *left -= 1;
-        furthest = furthest.max(search.line);
+        furthest = further(furthest, search.line);
         match search.turn(claims, pairs, reads.as_slice())? {
             Turn::Going => {}
             Turn::Found => return Ok(Outcome::Found(search.order(alloc)?)),

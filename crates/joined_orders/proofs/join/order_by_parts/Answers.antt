@@ -14,6 +14,7 @@ use Rattle.joined_orders.specs.Owning.{is_own}
 use Rattle.joined_orders.specs.Splitting.{part_names}
 use Rattle.joined_orders.specs.declared.part.Part.{Part}
 use Rattle.nop_types.specs.Legality.{Legal}
+use Rattle.order_search.specs.Bounds.{AcceptsAt}
 use Rattle.order_search.specs.Outcomes.{IfFound, IfNothing}
 use Rattle.order_search.specs.Turns.{AllSubmit, history_at}
 use Rattle.order_search.specs.declared.outcome.Outcome.{Outcome}
@@ -38,6 +39,7 @@ returns-in-Nothing-clause-answer g c =
       omega (arith, within, length_said claims),
       subst (λ (t : List ℕ). LacksOrder m part most lines t) (sym c.in_ok-part-in-Nothing.ensures)
           (lacks_however claims part c.requires.submitted m most p c.requires.later none),
+      subst (λ (t : Outcome). IfNothing t (AcceptsAt lines)) c.in-Nothing.is c.in_ok-order.ensures.accepts,
     )
 
 pub loop-part-preserved : goal.loop-part-preserved

@@ -1,11 +1,12 @@
-use Rattle.std.proofs.Common.{◌∙◌, ◌<◌, ℕ, List, length, get_or, sym, ap, subst, arith}
-use Rattle.std.specs.Prelude.{filter, map}
-use Rattle.std.proofs.lemmas.Option.{slice_get-get_or}
+use Rattle.std.proofs.Common.{◌≡◌, ◌∙◌, ◌<◌, ℕ, List, Some, length, get_or, refl, sym, ap, subst, arith}
+use Rattle.std.specs.Prelude.{filter, map, slice_get}
+use Rattle.std.proofs.lemmas.Option.{slice_get-get_or, slice_get_read}
 use Rattle.joined_orders.proofs.MoveLemmas.{part_order}
+use Rattle.joined_orders.proofs.Chosen.{kept_stands}
 use Rattle.joined_orders.proofs.SelectLemmas.{below, by_lines, length-own}
 use Rattle.joined_orders.proofs.part_order.order_of_part.Goals as goal
 use Rattle.joined_orders.specs.Joining.{moved, IsFoundOrder, IsPartOrder, LacksAt}
-use Rattle.joined_orders.specs.Owning.{is_own}
+use Rattle.joined_orders.specs.Owning.{is_own, places_where}
 use Rattle.order_search.specs.Outcomes.{IfFound, IfNothing}
 use Rattle.order_search.specs.declared.outcome.Outcome.{Outcome}
 use Rattle.order_search.specs.declared.outcome.Placed.{Placed}
@@ -67,3 +68,26 @@ returns-in-Nothing-clause-within g c =
     let e = length-own claims own places c.requires.places in
     let b = below claims own places c.requires.places c.in-Nothing.line c.index.result.now (omega (arith, lacks.1, e)) in
     omega (arith, b, c.index.ensures)
+
+pub returns-in-Nothing-clause-accepts : goal.returns-in-Nothing-clause-accepts
+returns-in-Nothing-clause-accepts g c =
+    let claims = c.args.claims.now in
+    let lines = said_by claims in
+    let own = is_own g.P.Parted.part lines c.args.part.now.name.now in
+    let m = g.P.Service.Host.meaning in
+    let lacks : LacksAt m (filter own lines) c.in-Nothing.line =
+    subst (λ (t : Outcome). IfNothing t (LacksAt m (filter own lines))) c.in-Nothing.is c.in_ok-placed.ensures.none in
+    let places = c.args.part.now.places.items in
+    let e = length-own claims own places c.requires.places in
+    let within : c.in-Nothing.line < length places = omega (arith, lacks.1, e) in
+    let here : slice_get places c.in-Nothing.line ≡ Some c.index.result.now =
+    slice_get_read places _ c.in-Nothing.line c.index.result.now refl within c.index.ensures in
+    let there : slice_get (places_where own lines (length lines)) c.in-Nothing.line ≡ Some c.index.result.now =
+    ap (λ (t : List ℕ). slice_get t c.in-Nothing.line) (sym (by_lines claims own places c.requires.places)) ∙ here in
+    let a = lacks.2 in
+    record {
+      client = a.client;
+      id = a.id;
+      result = a.result;
+      accepts = kept_stands own lines c.in-Nothing.line c.index.result.now _ a.accepts there;
+    }

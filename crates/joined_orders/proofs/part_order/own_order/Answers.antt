@@ -73,4 +73,4 @@ returns-clause-none g c =
     let own = c.as_slice-2.result.now in
     let outcome = c.in_ok-outcome.outcome in
     subst (λ (t : List Line). IfNothing outcome (LacksAt m t)) (ap said_by c.as_slice-2.ensures.value ∙ c.in_ok-own.ensures)
-    (lacks_order m own outcome e.none e.furthest)
+    (lacks_order m own outcome e.none e.furthest e.accepts)

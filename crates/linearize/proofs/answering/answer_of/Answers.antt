@@ -13,6 +13,7 @@ in_lines-requires-clause-found g c =
       none = c.in-Ok.ensures.none;
       part = c.in-Ok.ensures.part;
       within = c.in-Ok.ensures.within;
+      accepts = c.in-Ok.ensures.accepts;
       groundless = c.in-Ok.ensures.groundless;
       repeated = c.in-Ok.ensures.repeated;
     })

@@ -1,4 +1,6 @@
-use Rattle.std.proofs.Common.{◌<◌, ◌≤◌, length}
+use Rattle.std.proofs.Common.{◌+◌, ◌<◌, ◌≤◌, length}
+use Rattle.std.specs.Prelude.{◌⊎◌}
+use Rattle.order_search.specs.Bounds.{most_steps, steps_left, AcceptsAt, IsCounted}
 use Rattle.order_search.specs.Failing.{AllFailed}
 use Rattle.order_search.specs.Searching.{IsSearching, UndosFit}
 use Rattle.order_search.proofs.search.find_order.Given as goal
@@ -11,6 +13,10 @@ invariant-loop-left g l = record {
   fits : UndosFit (g.P.Service.Host.fits l.search.host) l.search.steps.items;
   failed : AllFailed g.P.Service.Host.meaning (said_by l.claims) l.search.failed.kept.keys;
   furthest : 0 < length l.claims → l.furthest < length l.claims;
+  reached : (l.furthest ≤ l.search.line) ⊎ AcceptsAt (said_by l.claims) l.furthest;
+  counted : IsCounted (said_by l.claims) l.search.line l.search.next l.search.steps.items l.search.waiting.items;
+  used : steps_left (said_by l.claims) l.search.steps.items l.search.line l.search.next + l.fn.left
+      ≤ most_steps (said_by l.claims) + l.left;
   left : l.left ≤ l.fn.left;
 }
 

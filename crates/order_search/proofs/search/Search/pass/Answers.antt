@@ -1,5 +1,6 @@
 use Rattle.std.proofs.Common.{◌≡◌, ◌∙◌, ◌++◌, ◌∷◌, [], ◌<◌, Some, length, ap, add-one, arith, rules}
 use Rattle.pairs.proofs.SaidLemmas.{length_said}
+use Rattle.order_search.proofs.CountLemmas.{counts_wait, counts_pass, falls_wait, falls_pass}
 use Rattle.order_search.proofs.SearchLemmas.{search_waits, search_passes}
 use Rattle.order_search.proofs.search.Search.pass.Goals as goal
 use Rattle.pairs.specs.Said.{said_by}
@@ -27,3 +28,37 @@ returns-else-not-is_placed-clause-searching g c =
     rw (add-one old.line) (search_passes g.H.Host.meaning g.H.Host.undo_of (said_by claims) (g.H.Host.state old.host) old.line old.next
     old.steps.items old.waiting.items old.placed.items c.requires.searching c.in-Accepted.client c.in-Accepted.id c.in-Accepted.result at within
     c.if-not-is_placed.ensures)
+
+pub returns-in_ok-push-in-Submitted-clause-counted : goal.returns-in_ok-push-in-Submitted-clause-counted
+returns-in_ok-push-in-Submitted-clause-counted g c =
+    let old = c.args.self.now in
+    let at = c.claim_at.ensures ∙ ap (λ (t : Claim). Some (line_of t)) c.in-Submitted.is in
+    let pushed : c.push.new.self.items ≡ old.waiting.items ++ old.line ∷ [] = search rules in
+    rw (pushed, add-one old.line) (counts_wait (said_by c.args.claims.now) old.line old.next old.steps.items old.waiting.items
+    c.requires.counted c.in-Submitted.field-0 at)
+
+pub returns-in_ok-push-in-Submitted-clause-falls : goal.returns-in_ok-push-in-Submitted-clause-falls
+returns-in_ok-push-in-Submitted-clause-falls g c _ =
+    let old = c.args.self.now in
+    let claims = c.args.claims.now in
+    let e = length_said claims in
+    let within : old.line < length (said_by claims) = omega (arith, c.requires.within, e) in
+    let at = c.claim_at.ensures ∙ ap (λ (t : Claim). Some (line_of t)) c.in-Submitted.is in
+    rw (add-one old.line) (falls_wait (said_by claims) old.line old.next old.steps.items old.waiting.items c.requires.counted
+    c.in-Submitted.field-0 at within)
+
+pub returns-else-not-is_placed-clause-counted : goal.returns-else-not-is_placed-clause-counted
+returns-else-not-is_placed-clause-counted g c =
+    let old = c.args.self.now in
+    let at = c.claim_at.ensures ∙ ap (λ (t : Claim). Some (line_of t)) c.in-Accepted.is in
+    rw (add-one old.line) (counts_pass (said_by c.args.claims.now) old.line old.next old.steps.items old.waiting.items c.requires.counted
+    c.in-Accepted.client c.in-Accepted.id c.in-Accepted.result at)
+
+pub returns-else-not-is_placed-clause-falls : goal.returns-else-not-is_placed-clause-falls
+returns-else-not-is_placed-clause-falls g c _ =
+    let old = c.args.self.now in
+    let claims = c.args.claims.now in
+    let e = length_said claims in
+    let within : old.line < length (said_by claims) = omega (arith, c.requires.within, e) in
+    rw (add-one old.line) (falls_pass (said_by claims) old.line old.next old.steps.items old.waiting.items c.requires.counted
+    c.if-not-is_placed.ensures within)

@@ -2,6 +2,7 @@ use Rattle.std.proofs.Common.{◌≡◌, ◌∙◌, ℕ, ◌<◌, List, Some, le
 use Rattle.std.specs.Prelude.{remove}
 use Rattle.std.proofs.lemmas.Option.{slice_get_read}
 use Rattle.pairs.proofs.SaidLemmas.{length_said}
+use Rattle.order_search.proofs.CountLemmas.{counts_place, falls_place}
 use Rattle.order_search.proofs.SearchLemmas.{waits_within, waits_submits, search_places, disagrees}
 use Rattle.order_search.proofs.StepLemmas.{fit_push, fit_still}
 use Rattle.order_search.proofs.search.Search.try_at.Goals as goal
@@ -103,3 +104,34 @@ returns-clause-refused g c _ =
     let said : c.as_slice-2.result.now ≡ m.answer s0 op = first_of (search rules, cc) in
     disagrees m g.H.Host.undo_of lines s0 old.line old.next old.steps.items old.waiting.items old.placed.items c.requires.searching
     c.requires.submitted c.args.at submit c.in-Submitted.request stands at (λ every. c.if-agrees.ensures (λ a h. said ∙ every a h))
+
+pub returns-then-agrees-clause-counted : goal.returns-then-agrees-clause-counted
+returns-then-agrees-clause-counted g c =
+    let old = c.args.self.now in
+    let stands = slice_get_read old.waiting.items _ c.args.at c.index-submit.result.now refl c.requires.waits c.index-submit.ensures in
+    let step : Step g.row.H-Undo.Denot = record {
+      submit = c.index-submit.result.now;
+      line = old.line;
+      at = c.args.at;
+      others = length (remove old.waiting.items c.args.at);
+      tried = c.args.tried;
+      undo = c.in_ok-answer.undo;
+    } in
+    let placed = c.in_ok-place.ensures in
+    rw (placed.next, placed.waiting, placed.steps, placed.line) (counts_place (said_by c.args.claims.now) old.line old.next
+    old.steps.items old.waiting.items c.requires.counted step c.args.at refl refl c.requires.stuck c.index-submit.result.now stands)
+
+pub returns-then-agrees-clause-falls : goal.returns-then-agrees-clause-falls
+returns-then-agrees-clause-falls g c _ =
+    let old = c.args.self.now in
+    let step : Step g.row.H-Undo.Denot = record {
+      submit = c.index-submit.result.now;
+      line = old.line;
+      at = c.args.at;
+      others = length (remove old.waiting.items c.args.at);
+      tried = c.args.tried;
+      undo = c.in_ok-answer.undo;
+    } in
+    let placed = c.in_ok-place.ensures in
+    rw (placed.next, placed.steps, placed.line) (falls_place (said_by c.args.claims.now) old.line old.next old.steps.items
+    old.waiting.items c.requires.counted step c.args.at refl refl c.requires.further (omega (arith, c.requires.next, c.requires.waits)))

@@ -1,4 +1,5 @@
 use Rattle.std.proofs.Common.{◌≡◌, ℕ, suc, false, sym, subst, add-one}
+use Rattle.order_search.proofs.CountLemmas.{counts_tried, falls_tried}
 use Rattle.order_search.proofs.SearchLemmas.{next_settles, search_tried}
 use Rattle.order_search.proofs.search.Search.try_next.Goals as goal
 use Rattle.order_search.specs.Searching.{front_of, IsRefused, IsSearching}
@@ -28,3 +29,20 @@ returns-then-not-branch-clause-searching g c =
     (subst (λ (n : ℕ). IsSearching m undo_of lines s0 new.line (suc n) new.steps.items new.waiting.items new.placed.items) same
     (search_tried m undo_of lines s0 new.line new.next new.steps.items new.waiting.items new.placed.items c.in_ok-try_at.ensures.searching
     refused))
+
+pub returns-then-not-branch-clause-counted : goal.returns-then-not-branch-clause-counted
+returns-then-not-branch-clause-counted g c =
+    let old = c.args.self.now in
+    let new = c.try_at.new.self in
+    let not_placed : c.in_ok-try_at.field-0 ≡ false = c.if-not-branch.true in
+    let e = c.in_ok-try_at.ensures in
+    rw (c.counted_to-with_it.ensures, add-one old.next, c.try_at.ensures.line, e.kept not_placed, e.same not_placed)
+    (counts_tried (said_by c.args.claims.now) old.line old.next old.steps.items old.waiting.items c.requires.counted c.requires.stuck)
+
+pub returns-then-not-branch-clause-falls : goal.returns-then-not-branch-clause-falls
+returns-then-not-branch-clause-falls g c =
+    let old = c.args.self.now in
+    let not_placed : c.in_ok-try_at.field-0 ≡ false = c.if-not-branch.true in
+    let e = c.in_ok-try_at.ensures in
+    rw (c.counted_to-with_it.ensures, add-one old.next, c.try_at.ensures.line, e.kept not_placed)
+    (falls_tried (said_by c.args.claims.now) old.line old.next old.steps.items old.waiting.items c.requires.counted c.requires.next)
