@@ -1,3 +1,5 @@
 pub mod Actors
 pub mod Arguments
+pub mod Plans
 pub mod Tables
+pub mod Texts

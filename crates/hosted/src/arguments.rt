@@ -1,9 +1,9 @@
 //! What the program's words ask for, and the words that ask the same of `commands`.
 
-ghost use Rattle.std.specs.Prelude.{◌≡◌, [], ◌∷◌, ◌++◌, IfOk, OnOk};
+ghost use Rattle.std.specs.Prelude.{◌≡◌, [], ◌∷◌, ◌++◌, IfOk, OnOk, option_map};
 ghost use Rattle.std.specs.Fmt.{decimal};
 ghost use Rattle.command_line.specs.Commands.{texts_of};
-ghost use Rattle.hosted.specs.Arguments.{option_words, own_words};
+ghost use Rattle.hosted.specs.Arguments.{asked_by, asked_of, option_words, own_words};
 
 use crate::actors::{command_of, number_of};
 use nop_types::{Actor, NoMemory};
@@ -24,7 +24,9 @@ pub(crate) struct Task<'a> {
 }
 
 /// What the words ask for; the first one is the program's name.
-pub(crate) fn task_of(words: &[String]) -> Option<Task<'_>> {
+pub(crate) fn task_of(words: &[String]) -> Option<Task<'_>>
+    ensures { option_map asked_of result ≡ asked_by (texts_of words.now) }
+{
     match words {
         [_, list, option, folder, actor, rest @ ..] if option.as_str() == "--marks" => {
             Some(Task {
@@ -46,7 +48,8 @@ pub(crate) fn task_of(words: &[String]) -> Option<Task<'_>> {
 
 /// Adds a word.
 fn push(words: &mut Vec<String>, alloc: Global, word: &str) -> Result<(), NoMemory>
-    ensures { OnOk result (texts_of words.new.items ≡ texts_of words.old.items ++ word.now ∷ []) }
+    ensures { OnOk result (texts_of words.new.items
+        ≡ texts_of words.old.items ++ word.now ∷ []) }
 {
     words.push(String::from_str(alloc, word)?)?;
     Ok(())
@@ -54,7 +57,8 @@ fn push(words: &mut Vec<String>, alloc: Global, word: &str) -> Result<(), NoMemo
 
 /// Adds a number in decimal.
 fn push_number(words: &mut Vec<String>, alloc: Global, n: u32) -> Result<(), NoMemory>
-    ensures { OnOk result (texts_of words.new.items ≡ texts_of words.old.items ++ decimal n ∷ []) }
+    ensures { OnOk result (texts_of words.new.items
+        ≡ texts_of words.old.items ++ decimal n ∷ []) }
 {
     words.push(format!(in alloc; "{n}")?)?;
     Ok(())

@@ -8,19 +8,25 @@
 //! and observers are those of the list. With `--marks` a file `CLUSTER-ACTOR` is made in the folder before anything is sent; where
 //! it is there already, the link fails.
 //!
-//! Proved: an actor is read as `named` says; the words that run it are those of its command, with the list's counts, and then the
-//! user's (`own_words`, in `specs/Arguments`); the table of places has for each actor of the list its address, under the port that
-//! nodes send to (`places_of`, in `specs/Tables`); and what `commands::run` promises of the run, since it is called as it is. That
-//! files, sockets and the drawn number are what they should be, is tested only.
+//! Proved: what the words ask for (`asked_by`, in `specs/Arguments`); who is to run, by the text of the list, or why nothing is
+//! (`planned`, in `specs/Plans`); that the words that run it are those of its command, with the list's counts, and then the user's
+//! (`own_words`), and that the command that `command_line` reads in them is the one of this actor (`runs_own`): where it is not, the
+//! words are not taken. Of a list that is refused the line and the rule are told, and else the usage line, with status 2, or 4 exactly
+//! where a write failed (`Ends`, in `specs/Texts`). The table of places has for each actor of the list its address, under the port
+//! that nodes send to (`places_of`, in `specs/Tables`). The run is a call of `commands::run` as it is, so its clauses hold of it. No
+//! contract says what a file holds: that status 3 means that the list could not be read, 5 that a mark was there, and that the
+//! number of a process is drawn, is only tested.
 //!
-//! Calls: `run_hosted`. Files: `actors` (which actor), `arguments` (what is asked for), `tables` (who is where), `texts` (lines for
-//! the user), `running`.
+//! Calls: `run_hosted`. Files: `actors` (which actor), `arguments` (what is asked for), `unfit`, `plans` (who is to run), `tables` (who
+//! is where), `texts` (lines for the user), `running`.
 #![tactic(auto)]
 
 mod actors;
 mod arguments;
+mod plans;
 mod running;
 mod tables;
 mod texts;
+mod unfit;
 
 pub use running::run_hosted;

@@ -1,31 +1,30 @@
-use crate::actors::named;
-use crate::arguments::{Task, task_of, words_of};
+//! Runs what is asked for over the sockets, the files and the clock of the system.
+
+use crate::arguments::{Task, task_of};
+use crate::plans::{Plan, plan_of};
 use crate::tables::places_of;
-use crate::texts::{write_refusal, write_usage};
+use crate::texts::{write_unfit, write_usage};
 use admission::Own;
-use command_line::read_words;
 use commands::{Status, run};
 use host_list::HostList;
-use nop_types::{Actor, Host, NoMemory};
+use nop_types::{Actor, Host};
 use standard_io::{StandardIn, StandardOut};
-use std::alloc::Global;
 use std::fs;
-use std::io::ErrorKind;
+use std::io::{self, ErrorKind};
 use std::process::ExitCode;
 use std::random::RandomSource;
-use udp_node::{Address, BasePort};
 use udp_ports::{Home, SystemClock, UdpPorts};
 
-/// The port of replica 0. With a list of hosts ports are only the names of actors.
-const BASE: u16 = 41000;
+/// Makes the mark of an actor, which may not be there yet. Both the file and the folder are on the disk then.
+fn make_mark(rt: &HostRuntime, folder: &str, mark: &str) -> io::Result<()> {
+    fs::File::create_new(rt, mark)?.sync_all()?;
+    fs::File::open(rt, folder)?.sync_all()
+}
 
-/// Makes the mark of an actor, which may not be there yet. Whether it was made.
+/// Whether the mark of an actor was made.
 fn is_marked(rt: &HostRuntime, folder: &str, cluster: u64, actor: &str) -> bool {
-    let Ok(path) = format!(in rt.alloc(); "{folder}/{cluster}-{actor}") else {
-        return false;
-    };
-    match fs::File::create_new(rt, path.as_str()) {
-        Ok(file) => file.sync_all().is_ok(),
+    match format!(in rt.alloc(); "{folder}/{cluster}-{actor}") {
+        Ok(mark) => make_mark(rt, folder, mark.as_str()).is_ok(),
         Err(_) => false,
     }
 }
@@ -39,11 +38,6 @@ fn own_of(rt: &HostRuntime, list: &HostList, actor: Actor) -> Option<Own> {
         digest: list.digest(),
         process: u64::from_be_bytes(drawn),
     })
-}
-
-/// Whether `commands` takes these words.
-fn are_taken(alloc: Global, words: &[String]) -> Result<bool, NoMemory> {
-    Ok(read_words(alloc, words)?.is_some())
 }
 
 /// Runs an actor at its place.
@@ -63,67 +57,43 @@ fn run_at<H: Host>(rt: &HostRuntime, program: &str, words: &[String], home: Home
     )
 }
 
-/// Runs an actor of a list.
-fn run_actor<H: Host>(
-    rt: &HostRuntime,
-    program: &str,
-    task: Task<'_>,
-    list: &HostList,
-    actor: Actor,
-) -> Status {
-    let Some(base) = BasePort::new(BASE) else {
-        return Status::Usage;
-    };
-    let at = Address {
-        base,
-        own: actor,
-        config: list.config(),
-    };
-    let Ok(places) = places_of(rt.alloc(), list, &at) else {
+/// Runs what is planned, once its mark is made, where there is to be one.
+fn run_plan<H: Host>(rt: &HostRuntime, program: &str, task: &Task<'_>, plan: &Plan) -> Status {
+    let actor = plan.at.own;
+    let Ok(places) = places_of(rt.alloc(), &plan.list, &plan.at) else {
         return Status::NoMemory;
     };
-    let Ok(words) = words_of(rt.alloc(), &at, task.rest) else {
-        return Status::NoMemory;
-    };
-    match are_taken(rt.alloc(), &words) {
-        Ok(true) => {}
-        Ok(false) => return write_usage(rt.alloc(), &mut std::io::writer(rt), program),
-        Err(NoMemory) => return Status::NoMemory,
-    }
     if let Some(folder) = task.marks {
-        if !is_marked(rt, folder, list.cluster(), task.actor) {
+        if !is_marked(rt, folder, plan.list.cluster(), task.actor) {
             return Status::LinkFault;
         }
     }
-    let Some(own) = own_of(rt, list, actor) else {
+    let Some(own) = own_of(rt, &plan.list, actor) else {
         return Status::LinkFault;
     };
     let home = Home {
         places: &places,
-        port: at.port_of(actor),
+        port: plan.at.port_of(actor),
         own,
     };
-    run_at::<H>(rt, program, &words, home)
+    run_at::<H>(rt, program, &plan.words, home)
 }
 
-/// Runs the actor that the words ask for; the first one is the program's name.
+/// Runs the actor that the words ask for; the first one is the program's name. `ReadFault` where the file of the list cannot be read,
+/// `LinkFault` where there is no new mark, or no number can be drawn.
 fn run_words<H: Host>(rt: &HostRuntime, program: &str, words: &[String]) -> Status {
-    let mut writer = std::io::writer(rt);
+    let mut sink = StandardOut::new(std::io::writer(rt));
     let Some(task) = task_of(words) else {
-        return write_usage(rt.alloc(), &mut writer, program);
+        return write_usage(rt.alloc(), program, &mut sink);
     };
-    let Ok(text) = fs::read(rt, task.list) else {
-        return Status::ReadFault;
+    let text = match fs::read(rt, task.list) {
+        Ok(text) => text,
+        Err(e) if e.kind() == ErrorKind::OutOfMemory => return Status::NoMemory,
+        Err(_) => return Status::ReadFault,
     };
-    let list = match host_list::read(&text) {
-        Ok(list) => list,
-        Err(refusal) => return write_refusal(rt.alloc(), &mut writer, refusal),
-    };
-    match named(list.config(), task.actor.as_bytes()) {
-        Some(actor) if list.address_of(actor).is_some() => {
-            run_actor::<H>(rt, program, task, &list, actor)
-        }
-        _ => write_usage(rt.alloc(), &mut writer, program),
+    match plan_of(rt.alloc(), &text, &task) {
+        Ok(plan) => run_plan::<H>(rt, program, &task, &plan),
+        Err(unfit) => write_unfit(rt.alloc(), program, unfit, &mut sink),
     }
 }
 

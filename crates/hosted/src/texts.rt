@@ -1,32 +1,99 @@
-//! What the user is told where a program doesn't run.
+//! What the user is told where nothing is run.
 
+ghost use Rattle.std.specs.Prelude.{◌≡◌, IfOk};
+ghost use Rattle.outside.specs.Causes.{CountsWhere};
+ghost use Rattle.commands.specs.declared.status.Status.TheVariants.{WriteFault};
+ghost use Rattle.hosted.specs.Texts.{Ends, Tells, refusal_line, usage_line};
+
+use crate::unfit::Unfit;
 use commands::Status;
 use host_list::Refusal;
+use nop_types::NoMemory;
+use outside::{Sink, WriteError, write_all};
 use std::alloc::Global;
-use std::io::Write;
+use transcript_text::{Field, write_line};
 
-/// A text, and then the status; else that it could not be written.
-fn write<W: Write>(writer: &mut W, text: &str, status: Status) -> Status {
-    match writer.write_all(text.as_bytes()) {
-        Ok(()) => status,
-        Err(_) => Status::WriteFault,
+/// What stands behind the program's name in the usage line.
+const WORDS: &str = " LIST [--marks FOLDER] ACTOR [OPTION..] [OP..]\n";
+
+/// Writes a line, and then the program ends with status 2.
+fn tell<K: Sink>(sink: &mut K, line: &[u8]) -> Status
+    ensures ends { Tells line.now (K.held sink.old) (K.held sink.new) result }
+    ensures writes { CountsWhere (K.fault_count sink.old) (K.fault_count sink.new)
+        (result ≡ WriteFault) }
+{
+    match write_all(sink, line) {
+        Ok(()) => Status::Usage,
+        Err(WriteError::Failed) => Status::WriteFault,
+        Err(WriteError::NoMemory) => Status::NoMemory,
     }
 }
 
-/// The usage line of a program with this name.
-pub(crate) fn write_usage<W: Write>(alloc: Global, writer: &mut W, program: &str) -> Status {
-    match format!(in alloc; "usage: {program} LIST [--marks FOLDER] ACTOR [OPTION..] [OP..]\n") {
-        Ok(line) => write(writer, line.as_str(), Status::Usage),
-        Err(_) => Status::NoMemory,
+#[tactic(auto, unfolding(crate::specs::Texts::usage_line))]
+fn usage_line(alloc: Global, program: &str) -> Result<Vec<u8>, NoMemory>
+    ensures { IfOk result (λ line. line.items ≡ usage_line program.now) }
+{
+    let mut line = Vec::from_slice(alloc, b"usage: ")?;
+    line.extend_from_slice(program.as_bytes())?;
+    line.extend_from_slice(WORDS.as_bytes())?;
+    Ok(line)
+}
+
+#[tactic(auto, unfolding(crate::specs::Texts::refusal_line))]
+fn refusal_line(alloc: Global, refusal: Refusal) -> Result<Vec<u8>, NoMemory>
+    ensures { IfOk result (λ line. line.items ≡ refusal_line refusal) }
+{
+    let fields = [
+        Field::Word("line"),
+        Field::Number(refusal.line as u64),
+        Field::Word("rule"),
+        Field::Number(u64::from(refusal.rule.number())),
+    ];
+    let mut line = Vec::new(alloc);
+    write_line("error", &fields, &mut line)?;
+    Ok(line)
+}
+
+/// Writes the usage line of a program with this name.
+#[tactic(auto, using(crate::proofs::Telling::no_usage))]
+pub(crate) fn write_usage<K: Sink>(alloc: Global, program: &str, sink: &mut K) -> Status
+    ensures ends { Tells (usage_line program.now) (K.held sink.old) (K.held sink.new) result }
+    ensures writes { CountsWhere (K.fault_count sink.old) (K.fault_count sink.new)
+        (result ≡ WriteFault) }
+{
+    match usage_line(alloc, program) {
+        Ok(line) => tell(sink, &line),
+        Err(NoMemory) => Status::NoMemory,
     }
 }
 
-/// The line and the rule of a list that is refused.
-pub(crate) fn write_refusal<W: Write>(alloc: Global, writer: &mut W, refusal: Refusal) -> Status {
-    let line = refusal.line;
-    let rule = refusal.rule.number();
-    match format!(in alloc; "error line {line} rule {rule}\n") {
-        Ok(line) => write(writer, line.as_str(), Status::Usage),
-        Err(_) => Status::NoMemory,
+/// Writes the line and the rule of a list that is refused.
+#[tactic(auto, using(crate::proofs::Telling::no_refusal))]
+fn write_refusal<K: Sink>(alloc: Global, refusal: Refusal, sink: &mut K) -> Status
+    ensures ends { Tells (refusal_line refusal) (K.held sink.old) (K.held sink.new) result }
+    ensures writes { CountsWhere (K.fault_count sink.old) (K.fault_count sink.new)
+        (result ≡ WriteFault) }
+{
+    match refusal_line(alloc, refusal) {
+        Ok(line) => tell(sink, &line),
+        Err(NoMemory) => Status::NoMemory,
+    }
+}
+
+/// Tells why nothing is run, and how the program ends then.
+pub(crate) fn write_unfit<K: Sink>(
+    alloc: Global,
+    program: &str,
+    unfit: Unfit,
+    sink: &mut K,
+) -> Status
+    ensures ends { Ends program.now unfit (K.held sink.old) (K.held sink.new) result }
+    ensures writes { CountsWhere (K.fault_count sink.old) (K.fault_count sink.new)
+        (result ≡ WriteFault) }
+{
+    match unfit {
+        Unfit::Usage => write_usage(alloc, program, sink),
+        Unfit::List(refusal) => write_refusal(alloc, refusal, sink),
+        Unfit::NoMemory => Status::NoMemory,
     }
 }

@@ -124,7 +124,14 @@ fn lost_parts_are_sent_again(rt: HostRuntime) {
     assert!(rt; drained(&peer) == 3);
     let to = (Ipv4Addr::LOCALHOST, link.port());
     peer.send_to(&ack(36, [2; 8]), to).expect(&rt, "a send");
-    let (count, micros) = awaited(&mut link, &peer, &rt).expect(&rt, "a part");
+    let (first, micros) = awaited(&mut link, &peer, &rt).expect(&rt, "a part");
+    // The second one was sent a little later than the first one, and so may be its turn.
+    let count = if first < 2 {
+        let (second, _) = awaited(&mut link, &peer, &rt).expect(&rt, "a part");
+        first.saturating_add(second)
+    } else {
+        first
+    };
     assert!(rt; count == 2 && micros >= 90_000);
     peer.send_to(&ack(36, [1, 0, 0, 0, 0, 0, 0, 0]), to)
         .expect(&rt, "a send");
@@ -227,6 +234,14 @@ fn acknowledgements_make_room(rt: HostRuntime) {
     assert!(rt; link.losses() == 0);
 }
 
+/// Notes the part that a datagram is: it is whole.
+fn note_part(rt: &impl Abort, bytes: &[u8], came: &mut [bool; 300]) {
+    assert!(rt; bytes.len() == 1417);
+    let index = u16::from_be_bytes([bytes[13], bytes[14]]);
+    assert!(rt; index < 300 && bytes == part(index).as_slice());
+    came[usize::from(index) % 300] = true;
+}
+
 /// 300 parts, more than a receive buffer holds, arrive whole, though the receiver is not polled for a while, which is half of the time
 /// after which the first part is sent again, and then both are. Another datagram passes by all but those that were sent at once.
 #[test]
@@ -261,16 +276,62 @@ fn bursts_arrive_whole(rt: HostRuntime) {
             if bytes == b"small".as_slice() {
                 before_small = Some(came.iter().filter(|c| **c).count());
             } else {
-                assert!(rt; bytes.len() == 1417);
-                let index = u16::from_be_bytes([bytes[13], bytes[14]]);
-                assert!(rt; index < 300 && bytes == part(index).as_slice());
-                came[usize::from(index) % 300] = true;
+                note_part(&rt, bytes, &mut came);
             }
         }
     }
     assert!(rt; came.iter().all(|c| *c));
     assert!(rt; before_small == Some(6));
     assert!(rt; from.losses() == 0);
+}
+
+/// Passes on what a socket has, from each of two ports to the other. Each tenth datagram is lost.
+fn pass_on(relay: &UdpSocket, ends: [u16; 2], passed: &mut usize) {
+    let mut bytes = [0u8; 1500];
+    for _ in 0..100usize {
+        let Ok((count, from)) = relay.recv_from(&mut bytes) else {
+            return;
+        };
+        *passed = passed.saturating_add(1);
+        let to = if from.port() == ends[0] {
+            ends[1]
+        } else {
+            ends[0]
+        };
+        if *passed % 10 != 0 {
+            let _sent = relay.send_to(&bytes[..count.min(1500)], (Ipv4Addr::LOCALHOST, to));
+        }
+    }
+}
+
+/// 300 parts arrive whole, though each tenth datagram between the links is lost, parts and acknowledgements alike.
+#[test]
+fn messages_arrive_through_loss(rt: HostRuntime) {
+    let mut ports = UdpPorts::new(&rt, rt.alloc());
+    let mut from = ports.attach(PORTS + 16).expect(&rt, "a link");
+    let mut to = ports.attach(PORTS + 17).expect(&rt, "a link");
+    let relay = new_peer(&rt, PORTS + 18).expect(&rt, "a socket");
+    let _refused = relay.set_nonblocking(true);
+    let ends = [from.port(), to.port()];
+    for i in 0..300u16 {
+        from.send(PORTS + 18, &part(i)).expect(&rt, "a send");
+    }
+    let mut came = [false; 300];
+    let mut passed = 0usize;
+    let start = rt.monotonic().expect(&rt, "a clock").as_micros();
+    for _ in 0..1_000_000usize {
+        let now = rt.monotonic().expect(&rt, "a clock").as_micros();
+        if came.iter().all(|c| *c) || now.saturating_sub(start) >= 20_000_000 {
+            break;
+        }
+        assert!(rt; from.poll().expect(&rt, "a poll").is_none());
+        pass_on(&relay, ends, &mut passed);
+        if let Some(datagram) = to.poll().expect(&rt, "a poll") {
+            note_part(&rt, datagram.as_slice(), &mut came);
+        }
+    }
+    assert!(rt; came.iter().all(|c| *c));
+    assert!(rt; passed >= 375 && from.losses() == 0);
 }
 
 /// The datagrams with these numbers come next, whole and in order, and then none.

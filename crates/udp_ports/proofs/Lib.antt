@@ -1,3 +1,4 @@
 pub mod EachDone
+pub mod GoingOn
 pub mod Settling
 pub mod Turning

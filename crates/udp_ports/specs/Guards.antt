@@ -1,14 +1,21 @@
 -- Who has which number, as far as a link was told, and whether its own process may have its own.
-use Rattle.std.specs.Prelude.{◌≡◌, ◌≢◌, ◌⊎◌, ℕ, List, Ok}
+use Rattle.std.specs.Prelude.{◌≡◌, ◌≢◌, ◌⊎◌, ℕ, List, map, Option, Some, None, Ok}
+use Rattle.nop_types.specs.Lists.{Has}
+use Rattle.nop_types.specs.declared.limits.TheConstants.{MAX_SERVED}
 use Rattle.nop_types.specs.declared.output.Actor.{Actor}
 use Rattle.admission.specs.Actors.{number_of}
+use Rattle.admission.specs.Asked.{ByMost, Event, Hears, run}
 use Rattle.admission.specs.Greetings.{reading}
-use Rattle.admission.specs.Registries.{answered}
-use Rattle.admission.specs.Rounds.{heard}
+use Rattle.admission.specs.Questions.{Life, Question, after}
+use Rattle.admission.specs.Registries.{answered, none_noted}
+use Rattle.admission.specs.Rounds.{heard, opening}
 use Rattle.admission.specs.declared.greeting.Greeting.{Greeting}
 use Rattle.admission.specs.declared.greeting.Word.{Word}
 use Rattle.admission.specs.declared.own.Own.{Own}
+use Rattle.admission.specs.declared.own.Standing.TheVariants.{Admitted}
 use Rattle.udp_ports.specs.declared.guard.Guard.{Guard}
+use Rattle.udp_ports.specs.declared.guard.Home.{Home}
+use Rattle.udp_ports.specs.declared.places.Place.{Place}
 
 -- what a process asks
 abbrev pub question : Own → Word → Greeting
@@ -23,3 +30,50 @@ pub record Greets (from : Actor) (bytes : List ℕ) (old new : Guard) : Type 0 w
   pub read : reading bytes ≡ Ok greeting
   pub heard : new.admission ≡ heard old.admission from greeting
   pub noted : (new.registry ≡ (answered old.registry from greeting).0) ⊎ (new.registry ≡ old.registry)
+
+-- ---- over time
+
+abbrev pub actors_at : List Place → List Actor
+actors_at places = map (λ p. p.actor) places
+
+-- the process is the same; it went on by these times and greetings, and of these greetings the link judged some, which are all
+-- questions that came
+pub record GoesOn (old new : Guard) : Type 0 where
+  pub events : List Event
+  pub questions : List Question
+  pub came : (q : Question) → Has questions q → Has events (Hears q.source q.greeting)
+  pub same : new.own ≡ old.own
+  pub asking : new.admission ≡ run old.admission events
+  pub noting : new.registry ≡ after old.registry questions
+
+-- the same since the process began to ask, when nothing was noted: `admission` says what follows
+pub record Ran (own : Own) (actors : List Actor) (guard : Guard) : Type 0 where
+  pub start : ℕ
+  pub events : List Event
+  pub questions : List Question
+  pub came : (q : Question) → Has questions q → Has events (Hears q.source q.greeting)
+  pub same : guard.own ≡ own
+  pub asking : guard.admission ≡ run (opening own actors start) events
+  pub noting : guard.registry ≡ after (none_noted own.digest MAX_SERVED) questions
+
+-- the life of a link, as `admission` has it: what it was asked, and judged
+abbrev pub life_of : (own : Own) (actors : List Actor) (guard : Guard) → Ran own actors guard → Life
+life_of own actors guard ran = record { digest = own.digest; most = MAX_SERVED; questions = ran.questions }
+
+-- the process was admitted: all whose answers count, or more than half of them, said that its claim is noted
+pub record IsAdmitted (own : Own) (actors : List Actor) (guard : Guard) : Type 0 where
+  pub ran : Ran own actors guard
+  pub standing : guard.admission.standing ≡ Admitted
+  pub noted : ByMost own ran.events guard.admission
+
+-- a link at a port: with no home without a guard; else the port is the home's, and the process was admitted
+abbrev pub MayAttach : Option Home → ℕ → Option Guard → Type 0
+MayAttach None port guard = guard ≡ None
+MayAttach (Some home) port None = ⊥
+MayAttach (Some home) port (Some guard) = (port ≡ home.port) × IsAdmitted home.own (actors_at home.places.now) guard
+
+-- the guard of a link goes on, where it has one
+abbrev pub MayGoOn : Option Guard → Option Guard → Type 0
+MayGoOn (Some old) (Some new) = GoesOn old new
+MayGoOn None None = Unit {0}
+MayGoOn old new = ⊥

@@ -1,11 +1,11 @@
 //! Whether the own process may have its number, and what is answered to others that ask so.
 
-ghost use Rattle.std.specs.Prelude.{◌≡◌, IfOk, IsTrue, IsFalse, OnErr, map};
+ghost use Rattle.std.specs.Prelude.{◌≡◌, IfOk, IsTrue, IsFalse, OnErr};
 ghost use Rattle.admission.specs.Registries.{answer_to, answered};
 ghost use Rattle.admission.specs.Actors.{number_of};
-ghost use Rattle.admission.specs.Rounds.{heard, opening, turned};
-ghost use Rattle.admission.specs.declared.own.Standing.TheVariants.{Admitted};
-ghost use Rattle.udp_ports.specs.Guards.{Greets, IsNoGreeting, question};
+ghost use Rattle.admission.specs.Rounds.{heard};
+ghost use Rattle.udp_ports.specs.Guards.{GoesOn, Greets, IsAdmitted, IsNoGreeting, Ran, actors_at};
+ghost use Rattle.udp_ports.specs.Guards.{question};
 
 use crate::places::{Place, Source};
 use crate::socket::{Patience, Socket};
@@ -54,7 +54,7 @@ fn question(own: Own, word: Word) -> Greeting
 }
 
 fn actors_of(alloc: Global, places: &[Place]) -> Result<Vec<Actor>, NoMemory>
-    ensures { IfOk result (λ actors. actors.items ≡ map (λ p. p.actor) places.now) }
+    ensures { IfOk result (λ actors. actors.items ≡ actors_at places.now) }
 {
     let mut actors = Vec::new(alloc);
     for place in places {
@@ -72,8 +72,7 @@ fn port_of(places: &[Place], actor: Actor) -> Option<u16> {
 impl Guard {
     /// Nothing is noted, and nothing asked.
     fn new(alloc: Global, home: Home<'_>, now: u64) -> Result<Guard, NoMemory>
-        ensures { IfOk result (λ guard. guard.admission
-            ≡ opening home.entry.own (map (λ p. p.actor) home.entry.places.now) now) }
+        ensures { IfOk result (Ran home.entry.own (actors_at home.entry.places.now)) }
     {
         let nodes = actors_of(alloc, home.places)?;
         Ok(Guard {
@@ -90,6 +89,7 @@ impl Guard {
             (self.new.registry ≡ after.0) × (answer ≡ answer_to greeting after.1)) }
         ensures err { OnErr result (self.new.registry ≡ self.old.registry) }
         ensures heard { self.new.admission ≡ heard self.old.admission from greeting }
+        ensures own { self.new.own ≡ self.old.own }
     {
         self.admission.hear(from, greeting);
         self.registry.answer(from, greeting)
@@ -97,7 +97,7 @@ impl Guard {
 
     /// Goes on by the clock, and asks all that have not answered, where it is time to.
     fn ask<R: Clock>(&mut self, socket: &Socket<'_, R>, places: &[Place])
-        ensures { self.new.admission ≡ (turned self.old.admission self.new.now).0 }
+        ensures { GoesOn self.old self.new }
     {
         self.now = socket.micros().unwrap_or(0).max(self.now);
         let Some(word) = self.admission.turn(self.now) else {
@@ -114,7 +114,9 @@ impl Guard {
     }
 
     /// Claims again at those that have not noted it, where it is time to.
-    pub(crate) fn remind<R: Clock>(&mut self, socket: &Socket<'_, R>, places: &[Place]) {
+    pub(crate) fn remind<R: Clock>(&mut self, socket: &Socket<'_, R>, places: &[Place])
+        ensures { GoesOn self.old self.new }
+    {
         if !self.admission.others().iter().all(|o| o.has_answered) {
             self.ask(socket, places);
         }
@@ -128,6 +130,7 @@ impl Guard {
         bytes: &[u8],
     ) -> bool
         ensures greeting { IsTrue result → Greets from.actor bytes.now self.old self.new }
+        ensures own { self.new.own ≡ self.old.own }
         ensures other { IsFalse result → IsNoGreeting bytes.now × (self.new ≡ self.old) }
     {
         let Ok(greeting) = Greeting::read(bytes) else {
@@ -140,7 +143,9 @@ impl Guard {
     }
 
     /// Waits for a greeting. Any other datagram is dropped.
-    fn wait<R: Clock>(&mut self, socket: &mut Socket<'_, R>) -> Result<(), AttachError> {
+    fn wait<R: Clock>(&mut self, socket: &mut Socket<'_, R>) -> Result<(), AttachError>
+        ensures { GoesOn self.old self.new }
+    {
         if let Some(received) = socket.receive(Patience::Waits)? {
             if let Source::Known(from) = received.source {
                 self.greet(socket, from, received.bytes.as_slice());
@@ -156,7 +161,7 @@ pub(crate) fn admit<R: Clock>(
     socket: &mut Socket<'_, R>,
     home: Home<'_>,
 ) -> Result<Guard, AttachError>
-    ensures { IfOk result (λ guard. guard.admission.standing ≡ Admitted) }
+    ensures { IfOk result (IsAdmitted home.entry.own (actors_at home.entry.places.now)) }
 {
     let now = socket.micros().unwrap_or(0);
     let mut guard = Guard::new(alloc, home, now)?;

@@ -16,19 +16,22 @@
 //! call does what its definition says: how a part goes that is to be sent (`Goes`), what goes in a turn, and again (`IsTurn`), what an
 //! acknowledgement takes out of flight (`HeedsAck`), and what is noted of a part that came (`recorded`); ports of other lanes are left as
 //! they are. How many parts are in flight to a port at most, and wait for it, `resending` says. A poll that has nothing owes no
-//! acknowledgement then (`all_settled`), and gives none to the node, nor what is not heard (`IsHeard`, `specs/Places`). A greeting is
-//! noted and heard as `admission` says (`Greets`), and a link is attached at a place only where the process was admitted. The clock
-//! never falls, and where a reading fails it answers the last value (`later`). The contracts of std don't say what a socket carries
-//! or what a clock shows. So it is only tested that datagrams are sent and arrive whole, at the loopback address alone or at that of
-//! a place, how long a poll takes, and that the clock counts milliseconds.
+//! acknowledgement then (`all_settled`), and gives none to the node, nor what is not heard (`IsHeard`, `specs/Places`). A guard goes on
+//! by times and greetings as `admission` says, from its start and in each poll (`Ran`, `GoesOn`); a link is attached at a place only
+//! where the process was admitted so, by the answers of all that count or of most of them (`IsAdmitted`). What follows for two processes
+//! under one number, and for what a link noted, say the laws `admitted_guards_are_one` and `links_keep_numbers`. The clock never falls,
+//! and where a reading fails it answers the last value (`later`). The contracts of std don't say what a socket carries or what a clock
+//! shows. So it is only tested that datagrams are sent and arrive whole, at the loopback address alone or at that of a place, how long
+//! a poll takes, and that the clock counts milliseconds.
 //!
 //! For others: `UdpPorts::new`, or `UdpPorts::at_hosts` with `Home` and `Place`; `SystemClock::new`, `is_part`, and the methods of
-//! the traits. Files, in reading order: `system_clock`; `places`; `socket`; `parts`; `flows`, the parts to all ports; `guard`; `link`; `ports`;
-//! `tests`, `place_tests`. Definitions: `specs/Turns`, `Places`, `Guards`.
+//! the traits. Files, in reading order: `system_clock`; `places`; `socket`; `parts`; `flows`, the parts to all ports; `guard`, `laws`;
+//! `link`; `ports`; `tests`, `place_tests`. Definitions: `specs/Turns`, `Places`, `Guards`.
 #![tactic(auto)]
 
 mod flows;
 mod guard;
+mod laws;
 mod link;
 mod parts;
 #[cfg(test)]
@@ -41,6 +44,7 @@ mod system_clock;
 mod tests;
 
 pub use guard::Home;
+pub use laws::{admitted_guards_are_one, links_keep_numbers};
 pub use link::UdpLink;
 pub use parts::is_part;
 pub use places::Place;

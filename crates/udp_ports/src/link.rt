@@ -5,6 +5,7 @@ ghost use Rattle.resending.specs.Acks.{IsNoAck};
 ghost use Rattle.resending.specs.Names.{name_of};
 ghost use Rattle.resending.specs.Receiving.{all_settled, recorded};
 ghost use Rattle.resending.specs.Repeating.{IsRequest, repeated};
+ghost use Rattle.udp_ports.specs.Guards.{MayGoOn};
 ghost use Rattle.udp_ports.specs.Places.{IsHeard};
 ghost use Rattle.udp_ports.specs.Turns.{AdmitsPart, HeedsAck};
 ghost use Rattle.std.specs.Option.{option_copied};
@@ -103,16 +104,26 @@ fn greet<R: Clock>(
     socket: &Socket<'_, R>,
     source: Source,
     bytes: &[u8],
-) -> bool {
-    match (guard, source) {
-        (Some(guard), Source::Known(from)) => guard.greet(socket, from, bytes),
-        _ => false,
+) -> bool
+    ensures { MayGoOn guard.old guard.new }
+{
+    let Source::Known(from) = source else {
+        return false;
+    };
+    match guard {
+        Some(guard) => guard.greet(socket, from, bytes),
+        None => false,
     }
 }
 
 /// Claims the own number at those that have not noted it, where a link has a guard.
-fn remind<R: Clock>(guard: &mut Option<Guard>, socket: &Socket<'_, R>) {
-    if let (Some(guard), Some(places)) = (guard, socket.places()) {
+fn remind<R: Clock>(guard: &mut Option<Guard>, socket: &Socket<'_, R>)
+    ensures { MayGoOn guard.old guard.new }
+{
+    let Some(places) = socket.places() else {
+        return;
+    };
+    if let Some(guard) = guard {
         guard.remind(socket, places);
     }
 }
@@ -153,6 +164,7 @@ fn receive<R: Clock>(
     ensures settled { result ≡ Ok None → receipts.new ≡ all_settled receipts.old }
     ensures recorded { IfOk result (λ r. IfSome r (λ datagram. IsPart datagram
         → (from : ℕ) × (receipts.new ≡ recorded from (name_of datagram) receipts.old))) }
+    ensures guard { MayGoOn guard.old guard.new }
 {
     let mut patience = patience;
     for _ in 0..MOST_ACKS {
@@ -187,6 +199,7 @@ impl<'a, R: Clock> UdpLink<'a, R> {
         guard: Option<Guard>,
     ) -> UdpLink<'a, R>
         ensures port { result.port ≡ port }
+        ensures guard { result.guard ≡ guard }
         ensures faults { result.faults ≡ 0 }
         ensures losses { result.losses ≡ 0 }
     {

@@ -1,4 +1,5 @@
-ghost use Rattle.std.specs.Prelude.{◌≡◌, ◌≤◌, [], vec_len, vec_capacity};
+ghost use Rattle.std.specs.Prelude.{◌≡◌, ◌≤◌, [], IfOk, vec_len, vec_capacity};
+ghost use Rattle.udp_ports.specs.Guards.{MayAttach};
 
 use crate::UdpLink;
 use crate::guard::{Guard, Home, admit};
@@ -69,7 +70,9 @@ impl<'a, R: Net + Clock> UdpPorts<'a, R> {
     }
 
     /// A socket at a port; at that of a home, where the process may have its number.
-    fn open(&self, port: u16) -> Result<(Socket<'a, R>, Option<Guard>), AttachError> {
+    fn open(&self, port: u16) -> Result<(Socket<'a, R>, Option<Guard>), AttachError>
+        ensures { IfOk result (λ opened. MayAttach self.now.home port opened.1) }
+    {
         let Some(home) = self.home else {
             return Ok((self.socket_at(None, port)?, None));
         };
@@ -79,6 +82,17 @@ impl<'a, R: Net + Clock> UdpPorts<'a, R> {
         let mut socket = self.socket_at(Some(home.places), port)?;
         let guard = admit(self.alloc, &mut socket, home)?;
         Ok((socket, Some(guard)))
+    }
+
+    /// A link at a port; at that of a home, one of a process that was admitted.
+    fn link_at(&self, port: u16, waits: bool) -> Result<UdpLink<'a, R>, AttachError>
+        ensures guard { IfOk result (λ link. MayAttach self.now.home port link.guard) }
+        ensures port { IfOk result (λ link. link.port ≡ port) }
+        ensures faults { IfOk result (λ link. link.faults ≡ 0) }
+        ensures losses { IfOk result (λ link. link.losses ≡ 0) }
+    {
+        let (socket, guard) = self.open(port)?;
+        Ok(UdpLink::new(self.alloc, socket, port, waits, guard))
     }
 }
 
@@ -98,8 +112,8 @@ impl<'a, R: Net + Clock> Ports for UdpPorts<'a, R> {
     fn attach(&mut self, port: u16) -> Result<UdpLink<'a, R>, AttachError> {
         let others = self.attached - self.detached.len();
         self.detached.reserve(others + 1)?;
-        let (socket, guard) = match self.open(port) {
-            Ok(opened) => opened,
+        let link = match self.link_at(port, others == 0) {
+            Ok(link) => link,
             Err(AttachError::NoMemory) => return Err(AttachError::NoMemory),
             Err(AttachError::Failed) => {
                 self.faults = self.faults.saturating_add(1);
@@ -107,7 +121,7 @@ impl<'a, R: Net + Clock> Ports for UdpPorts<'a, R> {
             }
         };
         self.attached += 1;
-        Ok(UdpLink::new(self.alloc, socket, port, others == 0, guard))
+        Ok(link)
     }
 
     /// What still waits at the link is sent.

@@ -21,6 +21,13 @@ fn new_link<'a, R: Net + std::time::Clock>(ports: &mut UdpPorts<'a, R>) -> Optio
     None
 }
 
+/// A port of the loopback address that nobody has.
+fn free_port<N: Net>(net: &N) -> Option<u16> {
+    let socket = UdpSocket::bind(net, (Ipv4Addr::LOCALHOST, 0)).ok()?;
+    let address = socket.local_addr().ok()?;
+    Some(address.port())
+}
+
 /// The clock in milliseconds.
 fn millis(clock: &impl std::time::Clock) -> u64 {
     match clock.monotonic() {
@@ -112,8 +119,12 @@ fn failed_sends_are_losses(rt: HostRuntime) {
 #[test]
 fn idle_polls(rt: HostRuntime) {
     let mut ports = UdpPorts::new(&rt, rt.alloc());
-    let mut first = ports.attach(PORTS + 1000).expect(&rt, "a link");
-    let mut second = ports.attach(PORTS + 1001).expect(&rt, "a link");
+    let mut first = ports
+        .attach(free_port(&rt).expect(&rt, "a port"))
+        .expect(&rt, "a link");
+    let mut second = ports
+        .attach(free_port(&rt).expect(&rt, "a port"))
+        .expect(&rt, "a link");
     let start = millis(&rt);
     for _ in 0..10usize {
         assert!(rt; first.poll().expect(&rt, "a poll").is_none());
@@ -128,7 +139,9 @@ fn idle_polls(rt: HostRuntime) {
     assert!(rt; waited < 1000);
     ports.detach(first);
     ports.detach(second);
-    let mut alone = ports.attach(PORTS + 1002).expect(&rt, "a link");
+    let mut alone = ports
+        .attach(free_port(&rt).expect(&rt, "a port"))
+        .expect(&rt, "a link");
     let start = millis(&rt);
     for _ in 0..10usize {
         assert!(rt; alone.poll().expect(&rt, "a poll").is_none());
