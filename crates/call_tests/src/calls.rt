@@ -24,7 +24,7 @@ fn datagram(rt: &impl Abort, alloc: Global, digits: &str) -> Bytes
 }
 
 /// What a poll answers: a failure, nothing, or a datagram.
-fn answer(rt: &impl Abort, alloc: Global, word: &str) -> PollAnswer
+pub(crate) fn answer(rt: &impl Abort, alloc: Global, word: &str) -> PollAnswer
     ensures { MayAnswer true result }
 {
     match word {

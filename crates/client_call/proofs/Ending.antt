@@ -198,7 +198,7 @@ module _ (at : Address) (number : ℕ) (op : List ℕ) (turns : ℕ) (a b : Link
   ends_failed serves.WriteFault answers values run = ends_in_line answers values run
   ends_failed serves.NoMemory answers values run = ends_stopped answers values run
 
-no_calls : (trace : Option (List LinkCall)) (losses : ℕ) → Sends [] (side trace 0 losses) (side trace 0 losses)
+pub no_calls : (trace : Option (List LinkCall)) (losses : ℕ) → Sends [] (side trace 0 losses) (side trace 0 losses)
 no_calls None losses = record { tries = []; all = refl; trace = tt; lost = refl; losses = refl; observed = tt }
 no_calls (Some cs) losses =
     record { tries = []; all = refl; trace = ap Some (sym (append-nil cs)); lost = refl; losses = refl; observed = refl }

@@ -1,2 +1,4 @@
 mod Accepting
 mod Ending
+mod SessionEnds
+mod Sessions

@@ -26,11 +26,11 @@ fn caller(alloc: Global, service: &Service, number: u32, op: Op) -> Result<Clien
     Client::new(alloc, service.config, number, ops)
 }
 
-/// The acceptance of the client's request.
-fn accepted(core: &Client) -> Result<Accept, CallError>
-    ensures { GivesAccepted (accepted_in core.now.state.requests.recent 1) result }
+/// The acceptance of the request of an id.
+pub(crate) fn accepted(core: &Client, id: u64) -> Result<Accept, CallError>
+    ensures { GivesAccepted (accepted_in core.now.state.requests.recent id) result }
 {
-    match core.accepted(1) {
+    match core.accepted(id) {
         Some(accept) => Ok(Accept {
             id: accept.id,
             slot: accept.slot,
@@ -51,7 +51,7 @@ pub(crate) fn address(service: &Service, number: u32) -> Address
 }
 
 /// Why there is no result. The client's lines are kept in memory, so that a write fails only where memory runs out.
-fn error_of(e: ServeError) -> CallError
+pub(crate) fn error_of(e: ServeError) -> CallError
     ensures { result ≡ error_of e }
 {
     match e {
@@ -87,7 +87,7 @@ pub(crate) fn wait_over<L: Link, C: Clock>(
     match serve(
         alloc, &mut core, at, None, link, clock, turns, &mut sink, false,
     ) {
-        Ok(_served) => accepted(&core),
+        Ok(_served) => accepted(&core, 1),
         Err(e) => Err(error_of(e)),
     }
 }
