@@ -1,0 +1,30 @@
+-- How the program ends, and what it has written then.
+use Rattle.std.specs.Prelude.{◌≡◌, ℕ, List, [], ◌∷◌, ◌++◌, Bool, codes, Option, Some, None, Result, Ok, Err}
+use Rattle.std.specs.Io.KnownBytes.{Appends}
+use Rattle.outside.specs.Prefixes.{AppendsPrefix}
+use Rattle.outside.specs.declared.errors.DeviceError.{DeviceError}
+use Rattle.outside.specs.declared.link.PollAnswer.{PollAnswer}
+use Rattle.watching.specs.Statuses.{status_of}
+use Rattle.watching.specs.Turns.{WatchedBy}
+use Rattle.watching.specs.Watching.{opening}
+use Rattle.watching.specs.declared.running.WatchError.{WatchError}
+use Rattle.watching.specs.declared.status.Status.{Status}
+use Rattle.watching.specs.declared.status.Status.TheVariants.{Usage}
+use Rattle.watch.specs.declared.call.Call.{Call}
+
+unfoldable pub usage_line : List ℕ
+usage_line = codes "usage: watch PORT REPLICAS OBSERVER [--once] [--turns TURNS]" ++ 10 ∷ []
+
+module _ (answers : Option (List PollAnswer)) (values : Option (List ℕ)) (before now : Option (List ℕ)) where
+  -- the watch was made, and this is the status of its end
+  pub record EndsWatch (c : Call) (status : Status) : Type 0 where
+    pub ended : Result Bool WatchError
+    pub watched : WatchedBy c.asked.once c.asked.turns (opening c.at.config.replicas) answers values before now ended
+    pub is : status ≡ status_of ended
+
+  -- the usage line was written; or a write failed in it
+  abbrev pub Ends : Option Call → Result Status DeviceError → Type 0
+  Ends (Some c) (Ok status) = EndsWatch c status
+  Ends (Some c) (Err e) = ⊥
+  Ends None (Ok status) = (status ≡ Usage) × Appends before now usage_line
+  Ends None (Err e) = AppendsPrefix before now usage_line

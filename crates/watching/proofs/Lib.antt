@@ -1,0 +1,3 @@
+mod LineTexts
+mod Showing
+mod Turning

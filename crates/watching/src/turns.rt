@@ -1,0 +1,111 @@
+//! The turns of a watch.
+
+ghost use Rattle.std.specs.Prelude.{◌≡◌, ◌≤◌, ◌++◌, IfOk, OnErr, OnOk, option_map};
+ghost use Rattle.outside.specs.Causes.{CountsFor};
+ghost use Rattle.watching.specs.Lines.{change_lines, state_lines};
+ghost use Rattle.watching.specs.Turns.{after_turn, ends, TurnEnds};
+ghost use Rattle.watching.specs.Turns as turns;
+ghost use Rattle.watching.specs.declared.running.WatchError.TheVariants as errors;
+
+use crate::lines::{Change, State, change_line, state_line};
+use crate::running::WatchError;
+use crate::watch::Watch;
+use nop_types::{Bytes, NoMemory};
+use outside::{Link, LinkError, Sink, WriteError, write_all};
+use std::alloc::Global;
+
+/// How long nothing may be told where one state is asked for, in milliseconds.
+pub(crate) const WAIT_MILLIS: u64 = 5000;
+
+const _: () = prove!(WAIT_MILLIS == 5000);
+
+fn put_change(replicas: u8, change: Option<Change>, to: &mut Vec<u8>) -> Result<(), NoMemory>
+    requires { 1 ≤ replicas }
+    ensures { OnOk result (to.new.items ≡ to.old.items ++ change_lines replicas change) }
+{
+    match change {
+        Some(change) => change_line(replicas, &change, to),
+        None => Ok(()),
+    }
+}
+
+fn put_state(replicas: u8, state: Option<State>, to: &mut Vec<u8>) -> Result<(), NoMemory>
+    requires { 1 ≤ replicas }
+    ensures { OnOk result (to.new.items ≡ to.old.items ++ state_lines replicas state) }
+{
+    match state {
+        Some(state) => state_line(replicas, &state, to),
+        None => Ok(()),
+    }
+}
+
+/// A datagram is heard, if one came.
+fn hear(watch: &mut Watch, now: u64, datagram: Option<&Bytes>) -> Result<Option<Change>, NoMemory>
+    ensures watch { OnOk result (watch.new
+        ≡ (turns.heard watch.old now (option_map (λ d. d.now) datagram.entry)).0) }
+    ensures change { IfOk result (λ r. r
+        ≡ (turns.heard watch.old now (option_map (λ d. d.now) datagram.entry)).1) }
+    ensures replicas { watch.new.replicas ≡ watch.old.replicas }
+{
+    match datagram {
+        Some(bytes) => watch.hear(now, bytes.as_slice()),
+        None => Ok(None),
+    }
+}
+
+/// The lines of a turn.
+fn lines_of(
+    alloc: Global,
+    watch: &mut Watch,
+    now: u64,
+    datagram: Option<&Bytes>,
+) -> Result<Vec<u8>, NoMemory>
+    ensures watch { OnOk result (watch.new ≡ (after_turn watch.old
+        (record { now = now; datagram = option_map (λ d. d.now) datagram.entry })).0) }
+    ensures lines { IfOk result (λ lines. lines.items ≡ (after_turn watch.old
+        (record { now = now; datagram = option_map (λ d. d.now) datagram.entry })).1) }
+{
+    let replicas = watch.replicas();
+    let mut lines = Vec::new(alloc);
+    let change = hear(watch, now, datagram)?;
+    put_change(replicas, change, &mut lines)?;
+    let state = watch.tick(now);
+    put_state(replicas, state, &mut lines)?;
+    Ok(lines)
+}
+
+/// Takes a turn: a poll, and the lines that are to be shown then, in one write.
+pub(crate) fn take_turn<L: Link, W: Sink>(
+    alloc: Global,
+    watch: &mut Watch,
+    now: u64,
+    link: &mut L,
+    sink: &mut W,
+) -> Result<(), WatchError>
+    ensures turn { TurnEnds watch.old watch.new now (L.answers link.old) (L.answers link.new)
+        (W.held sink.old) (W.held sink.new) result }
+    ensures polls { CountsFor (L.fault_count link.old) (L.fault_count link.new)
+        errors.LinkFault result }
+    ensures writes { CountsFor (W.fault_count sink.old) (W.fault_count sink.new)
+        errors.WriteFault result }
+    ensures port { L.own_port link.new ≡ L.own_port link.old }
+{
+    let datagram = match link.poll() {
+        Ok(datagram) => datagram,
+        Err(LinkError::Failed) => return Err(WatchError::LinkFault),
+        Err(LinkError::NoMemory) => return Err(WatchError::NoMemory),
+    };
+    let lines = lines_of(alloc, watch, now, datagram.as_ref())?;
+    match write_all(sink, &lines) {
+        Ok(()) => Ok(()),
+        Err(WriteError::Failed) => Err(WatchError::WriteFault),
+        Err(WriteError::NoMemory) => Err(WatchError::NoMemory),
+    }
+}
+
+/// Whether one state was asked for, and it was shown, or nothing was told for as long as is waited.
+pub(crate) fn ends(once: bool, watch: &Watch, now: u64) -> bool
+    ensures { result ≡ ends once watch.now now }
+{
+    once && (watch.has_shown() || (!watch.has_seen() && now >= WAIT_MILLIS))
+}
