@@ -1,0 +1,29 @@
+-- Results of the lock service from words, the other way of `result_words` of `lock_text`.
+use Rattle.std.specs.Prelude.{ℕ, List, [], ◌∷◌, ◌++◌, Option, Some, None, codes, if◌then◌else◌}
+use Rattle.std.specs.Option.{option_and_then}
+use Rattle.line_fields.specs.Fields.{is_text, number_of}
+use Rattle.lock_host.specs.Fields.{number_bytes}
+use Rattle.op_text.specs.Words.{bytes_of}
+
+infixl 10 ◌>>=◌
+abbrev pub ◌>>=◌ : {A B : Type 0} → Option A → (A → Option B) → Option B
+o >>= f = option_and_then f o
+
+-- `granted` and a token
+abbrev pub granted_of : List ℕ → List ℕ → Option (List ℕ)
+granted_of word token = do
+  n ← number_of token
+  if is_text (codes "granted") word then Some (codes "granted" ++ number_bytes n) else None
+
+-- `held`, a token, and the word of an owner
+abbrev pub held_of : List ℕ → List ℕ → List ℕ → Option (List ℕ)
+held_of word token owner = do
+  n ← number_of token
+  o ← bytes_of owner
+  if is_text (codes "held") word then Some ((codes "held" ++ number_bytes n) ++ o) else None
+
+unfoldable pub result_of : List (List ℕ) → Option (List ℕ)
+result_of (word ∷ []) = bytes_of word
+result_of (word ∷ token ∷ []) = granted_of word token
+result_of (word ∷ token ∷ owner ∷ []) = held_of word token owner
+result_of words = None

@@ -1,0 +1,4 @@
+mod Behinds
+mod LineLemmas
+mod Readings
+mod Written

@@ -1,0 +1,24 @@
+ghost use Rattle.std.specs.Prelude.{◌≡◌};
+ghost use Rattle.service_words.specs.Directions.{direction_of};
+
+use line_fields::is_word;
+use nop_types::Bytes;
+
+/// Which way lines are turned.
+#[derive(Clone, Copy, Debug, PartialEq, Eq)]
+pub enum Direction {
+    ToWords,
+    ToHex,
+}
+
+/// What the arguments of a program ask for: nothing is to words, `--back` to hexadecimal; None for any
+/// others.
+pub fn direction_of(arguments: &[Bytes]) -> Option<Direction>
+    ensures { result ≡ direction_of arguments.now }
+{
+    match arguments {
+        [] => Some(Direction::ToWords),
+        [word] if is_word(word.as_slice(), "--back") => Some(Direction::ToHex),
+        _ => None,
+    }
+}
