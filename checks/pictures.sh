@@ -34,7 +34,7 @@ drawn() {
 arrows() {
     local all legend
     all=$(grep -cE '<path class="(arrow|again) ' "$folder/out")
-    legend=$(grep -cE '>(request, stamped request|reply|message between replicas|installing, pinging|delivered again)</text>' "$folder/out")
+    legend=$(grep -cE '>(request|reply|replicas|sessions|again)</text>' "$folder/out")
     echo $((all - legend))
 }
 
@@ -118,6 +118,16 @@ shows 1 'ViewChangeReq (1,1)'
 shows 1 'ViewChangeReq (1,1) +1'
 shows 1 'enters view (1,1)'
 
+# c0 sends its request to both sequencers, and s1 never takes it; then s1 takes it, and s0 its retry
+drawn 'a request that one of two sequencers never got' 'nopaxos 1 replicas 1 sequencers 2 clients 1' 'submit c0 4700016b' 'deliver 0 s0'
+shows 1 's1 misses'
+shows 0 's0 misses'
+drawn 'a request that each of two sequencers got' 'nopaxos 1 replicas 1 sequencers 2 clients 1' 'submit c0 4700016b' 'deliver 0 s0' \
+    'deliver 0 s1'
+shows 0 's1 misses'
+made=$((made + 1))
+grep -qxF '<title>A run of 3 events</title>' "$folder/out" || differs "$name: it has no title"
+
 mapfile -t retries < <(yes 'tick c0 retry' | head -n 120)
 drawn 'more than 100 events' "$two" "${retries[@]}"
 shows 120 'tick c0 retry'
@@ -159,7 +169,7 @@ draws 2 crash
 drawn 'a datagram that is delivered again' "$two" 'submit c0 4700016b' 'deliver 0 s0' 'deliver 1 r0' 'deliver 1 r0'
 draws 3 'arrow request'
 draws 2 'again request'
-shows 1 'delivered again'
+shows 1 again
 
 drawn 'malformed bytes, and timers' "$two" 'junk r0 0102' 'tick r0 watch' 'tick r0 resend' 'tick ctl resend'
 shows 1 'junk r0'
@@ -186,7 +196,9 @@ shows 1 '2 more slots'
 drawn 'slots above a sync point' "$two" 'submit c0 5000016b000176' 'deliver 0 s0' 'deliver 1 r0' 'deliver 1 r1' 'tick r0 sync' \
     'deliver 4 r1' 'deliver 5 r0' 'deliver 6 r1' 'submit c1 4700016b' 'deliver 7 s0' 'deliver 8 r0' 'deliver 8 r1' 'tick r0 sync' \
     'deliver 11 r2' 'deliver 7 s0' 'deliver 7 s0' 'deliver 15 r0' 'deliver 16 r1' 'deliver 17 r0'
-shows 3 '1: c0#1'
+shows 2 '1: c0#1'
+shows 1 'checkpoint to 1'
+draws 2 checkpoint
 shows 3 'synced to 1'
 shows 3 '2: c1#1'
 shows 2 '3: NO-OP'

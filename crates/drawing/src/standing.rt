@@ -175,7 +175,24 @@ impl Standing {
     }
 }
 
-/// Appends the notes of the first slots with another entry than before, and says how many such slots there are.
+/// Whether a slot came with a checkpoint: its entry changed, and it is below the sync point.
+fn is_covered(before: &Standing, after: &Standing, slot: u64, held: Option<Held>) -> bool {
+    slot <= u64::from(after.sync_point) && !before.has(slot, held)
+}
+
+/// Whether the replica took a checkpoint: only with one do slots change that are synchronised.
+fn takes_checkpoint(before: &Standing, after: &Standing) -> bool {
+    let mut slot = u64::from(after.known);
+    for held in &after.slots {
+        slot = slot.saturating_add(1);
+        if is_covered(before, after, slot, *held) {
+            return true;
+        }
+    }
+    false
+}
+
+/// Appends the notes of the first slots above the sync point with another entry than before, and says how many such slots there are.
 fn put_changed(alloc: Global, before: &Standing, after: &Standing, notes: &mut Notes) -> usize
     ensures { AddsSome notes.old notes.new }
 {
@@ -183,7 +200,7 @@ fn put_changed(alloc: Global, before: &Standing, after: &Standing, notes: &mut N
     let mut slot = u64::from(after.known);
     for held in &after.slots {
         slot = slot.saturating_add(1);
-        if !before.has(slot, *held) {
+        if !before.has(slot, *held) && !is_covered(before, after, slot, *held) {
             if changed < MAX_SLOT_NOTES {
                 note_slot(alloc, slot, *held, notes);
             }
@@ -193,9 +210,19 @@ fn put_changed(alloc: Global, before: &Standing, after: &Standing, notes: &mut N
     changed
 }
 
+fn put_checkpoint(alloc: Global, before: &Standing, after: &Standing, notes: &mut Notes)
+    ensures { AddsSome notes.old notes.new }
+{
+    if takes_checkpoint(before, after) {
+        let point = u64::from(after.sync_point);
+        put_count(alloc, Mark::Checkpoint, "checkpoint to ", point, "", notes);
+    }
+}
+
 fn put_log(alloc: Global, before: &Standing, after: &Standing, notes: &mut Notes)
     ensures { AddsSome notes.old notes.new }
 {
+    put_checkpoint(alloc, before, after, notes);
     let changed = put_changed(alloc, before, after, notes);
     let more = changed.saturating_sub(MAX_SLOT_NOTES) as u64;
     if more > 0 {

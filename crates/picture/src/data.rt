@@ -17,6 +17,8 @@ pub enum Mark {
     Logged,
     /// A NO-OP is in a slot of a replica's log.
     NoOp,
+    /// A replica took a checkpoint in place of the slots up to it.
+    Checkpoint,
     /// A replica entered a view and waits for its start.
     Entered,
     /// A replica takes part in a new view.

@@ -1,10 +1,11 @@
 //! Where each part of a picture stands, in pixels.
 
-ghost use Rattle.std.specs.Prelude.{◌≡◌, ◌<◌, IfOk};
+ghost use Rattle.std.specs.Prelude.{◌≡◌, ◌<◌, ◌≤◌, All, IfOk};
 ghost use Rattle.picture.specs.Lanes.{lane_of, actors_of, StandApart};
 
 use crate::data::{Loss, Note, Picture, Row};
-use crate::lane::{Lane, lane_of, same};
+use crate::lane::{Lane, lane_of};
+use crate::legend::{Sign, meaning, sign_width};
 use crate::parts::Point;
 use nop_types::{Actor, NoMemory};
 use std::alloc::Global;
@@ -24,26 +25,32 @@ const LABEL_TENTHS: u32 = 61;
 /// The width of a character beside the lanes, in tenths of a pixel.
 const TEXT_TENTHS: u32 = 67;
 
-/// From the middle of a lane to the label of a loss.
-pub const LOSS_AT: u32 = 17;
+/// What stands behind the name of who never got a datagram.
+pub const MISSES: &str = " misses";
 
-/// The room of a sign of the legend with its text.
-const SIGN_WIDTH: u32 = 215;
+/// How far an arrow that comes back to its lane goes to the right.
+pub const BEND_WIDTH: u32 = 24;
 
-/// The height of a line of the legend.
+// A number that both code and contracts name would be proved whatever it was; so here it stands once more.
+const _: () = prove!(BEND_WIDTH == 24);
+
+/// The height of the legend.
 const SIGN_HEIGHT: u32 = 17;
+
+/// Between a sign of the legend with its meaning and the next one.
+const SIGN_GAP: u32 = 11;
 
 /// Between two parts beside each other.
 const GAP: u32 = 18;
 
-/// The width of a lane without labels.
-const LANE_WIDTH: u32 = 56;
+/// From a lane to the next one, or to the labels.
+const LANE_WIDTH: u32 = 64;
 
 /// Where the parts of a picture stand.
 #[derive(Drop)]
 pub struct Layout {
-    /// How many signs of the legend stand beside each other, at least one.
-    columns: usize,
+    /// Where the signs of the legend begin.
+    signs: Vec<u32>,
     /// Where the numbers of lines end.
     pub line_end: u32,
     /// Where the words of events begin.
@@ -51,6 +58,10 @@ pub struct Layout {
     /// Where the text of what was delivered begins.
     pub detail_at: u32,
     pub lanes: Vec<Lane>,
+    /// Where the labels of notes begin: right of all lanes and their arrows.
+    pub labels_at: u32,
+    /// Where the label of each loss begins.
+    losses: Vec<u32>,
     /// The middle of the first note of each row.
     rows: Vec<u32>,
     /// The middle of each line of names but the first.
@@ -97,24 +108,36 @@ fn longest_note(notes: &[Note]) -> usize {
     most
 }
 
-fn longest_of_rows(rows: &[Row], actor: Actor) -> usize {
+fn longest_of_rows(rows: &[Row]) -> usize {
     let mut most = 0;
     for row in rows {
-        if same(row.actor, actor) {
-            most = most.max(longest_note(&row.notes));
-        }
+        most = most.max(longest_note(&row.notes));
     }
     most
 }
 
-fn longest_of_losses(losses: &[Loss], actor: Actor) -> usize {
-    let mut most = 0;
-    for loss in losses {
-        if same(loss.to, actor) {
-            most = most.max(loss.text.len());
+/// How many characters the name of an actor has.
+fn name_length(actor: Actor) -> usize {
+    match actor {
+        Actor::Controller(0) => 3,
+        Actor::Controller(i) => digits(u32::from(i)).saturating_add(3),
+        Actor::Client(i) => digits(i).saturating_add(1),
+        Actor::Replica(i) | Actor::Sequencer(i) | Actor::Observer(i) => {
+            digits(u32::from(i)).saturating_add(1)
         }
     }
-    most
+}
+
+/// The room of the name of who misses something, with the word behind it.
+pub fn misses_width(actor: Actor) -> u32 {
+    label_width(name_length(actor).saturating_add(MISSES.len() + 1))
+}
+
+/// The room of the label of a loss.
+fn loss_width(loss: &Loss) -> u32 {
+    misses_width(loss.to)
+        .saturating_add(label_width(loss.text.len()))
+        .saturating_add(GAP)
 }
 
 fn longest_event(rows: &[Row]) -> usize {
@@ -141,29 +164,77 @@ fn last_line(rows: &[Row]) -> u32 {
     }
 }
 
-/// The room of an actor's lane with its labels.
-fn lane_width(picture: &Picture, actor: Actor) -> u32
-    ensures { 0 < result }
-{
-    let notes = longest_of_rows(&picture.rows, actor);
-    let losses = longest_of_losses(&picture.losses, actor);
-    label_width(notes.max(losses))
-        .saturating_add(LOSS_AT + GAP)
-        .max(LANE_WIDTH)
-}
-
-/// The lanes from a place on, and where the last one ends.
-fn place_lanes(alloc: Global, picture: &Picture, at: u32) -> Result<(Vec<Lane>, u32), NoMemory>
-    ensures actors { IfOk result (λ p. actors_of p.0.items ≡ picture.now.lanes.items) }
+/// The lanes from a place on, and where labels may begin.
+fn place_lanes(alloc: Global, actors: &[Actor], at: u32) -> Result<(Vec<Lane>, u32), NoMemory>
+    ensures actors { IfOk result (λ p. actors_of p.0.items ≡ actors.now) }
     ensures apart { IfOk result (λ p. p.1 < u32.MAX → StandApart p.0.items p.1) }
 {
     let mut lanes = Vec::new(alloc);
     let mut x = at;
-    for actor in &picture.lanes {
+    for actor in actors {
         lanes.push(Lane { actor: *actor, x })?;
-        x = x.saturating_add(lane_width(picture, *actor));
+        x = x.saturating_add(LANE_WIDTH);
     }
     Ok((lanes, x))
+}
+
+/// Where the first note of a row ends, and labels behind it may begin.
+fn first_end(rows: &[Row], row: usize, at: u32) -> u32
+    ensures { at ≤ result }
+{
+    match rows.get(row) {
+        Some(row) => match row.notes.first() {
+            Some(note) if !note.text.is_empty() => at
+                .saturating_add(label_width(note.text.len()))
+                .saturating_add(GAP),
+            _ => at,
+        },
+        None => at,
+    }
+}
+
+/// Where the label of a loss begins: behind that of the one before, if it is of the same row.
+fn loss_at(rows: &[Row], before: Option<usize>, loss: &Loss, x: u32, at: u32) -> u32
+    requires { at ≤ x }
+    ensures { at ≤ result }
+{
+    match before {
+        Some(row) if row == loss.sent => x,
+        _ => first_end(rows, loss.sent, at),
+    }
+}
+
+/// Where the labels of losses begin, from a place on, and where they all have ended.
+fn place_losses(alloc: Global, picture: &Picture, at: u32) -> Result<(Vec<u32>, u32), NoMemory>
+    ensures { IfOk result (λ p. All (λ x. at ≤ x) p.0.items) }
+{
+    let rows = picture.rows.as_slice();
+    let mut places = Vec::new(alloc);
+    let mut row = None;
+    let mut x = at;
+    let mut end = at;
+    for loss in &picture.losses {
+        let place = loss_at(rows, row, loss, x, at);
+        places.push(place)?;
+        row = Some(loss.sent);
+        x = place.saturating_add(loss_width(loss));
+        end = end.max(x);
+    }
+    Ok((places, end))
+}
+
+/// Where the signs of the legend begin, one behind the other, and where the last one has ended.
+fn place_signs(alloc: Global, signs: &[Sign]) -> Result<(Vec<u32>, u32), NoMemory> {
+    let mut places = Vec::new(alloc);
+    let mut x = GAP;
+    for sign in signs {
+        places.push(x)?;
+        x = x
+            .saturating_add(sign_width(*sign))
+            .saturating_add(label_width(meaning(*sign).len()))
+            .saturating_add(SIGN_GAP);
+    }
+    Ok((places, x))
 }
 
 /// The rows from a place on with the lines of names between them, and where the last one ends.
@@ -182,10 +253,11 @@ fn place_rows(alloc: Global, rows: &[Row], at: u32) -> Result<(Vec<u32>, Vec<u32
     Ok((places, heads, y))
 }
 
-/// Lays a picture out below a legend with this number of signs.
-pub fn lay_out(alloc: Global, picture: &Picture, signs: usize) -> Result<Layout, NoMemory>
+/// Lays a picture out below a legend of one line with these signs.
+pub fn lay_out(alloc: Global, picture: &Picture, signs: &[Sign]) -> Result<Layout, NoMemory>
     ensures actors { IfOk result (λ l. actors_of l.lanes.items ≡ picture.now.lanes.items) }
-    ensures apart { IfOk result (λ l. l.width < u32.MAX → StandApart l.lanes.items l.width) }
+    ensures apart { IfOk result (λ l. l.width < u32.MAX → StandApart l.lanes.items l.labels_at) }
+    ensures labels { IfOk result (λ l. All (λ x. l.labels_at ≤ x) l.losses.items) }
 {
     let rows = picture.rows.as_slice();
     let line_end = text_width(digits(last_line(rows))).saturating_add(GAP);
@@ -196,18 +268,24 @@ pub fn lay_out(alloc: Global, picture: &Picture, signs: usize) -> Result<Layout,
     let lanes_at = text_width(longest_detail(rows))
         .saturating_add(detail_at)
         .saturating_add(2 * GAP);
-    let (lanes, width) = place_lanes(alloc, picture, lanes_at)?;
-    let columns = (width as usize / SIGN_WIDTH as usize).max(1);
-    let lines = small(signs.div_ceil(columns));
-    let legend_end = lines.saturating_mul(SIGN_HEIGHT).saturating_add(GAP);
-    let top = legend_end.saturating_add(HEAD_HEIGHT / 2);
-    let (rows, heads, bottom) = place_rows(alloc, rows, legend_end.saturating_add(HEAD_HEIGHT))?;
+    let (lanes, labels_at) = place_lanes(alloc, &picture.lanes, lanes_at)?;
+    let (losses, losses_end) = place_losses(alloc, picture, labels_at)?;
+    let notes_end = labels_at
+        .saturating_add(label_width(longest_of_rows(rows)))
+        .saturating_add(GAP);
+    let (signs, signs_end) = place_signs(alloc, signs)?;
+    let width = labels_at.max(notes_end).max(losses_end).max(signs_end);
+    let legend_end = SIGN_HEIGHT + GAP;
+    let top = legend_end + HEAD_HEIGHT / 2;
+    let (rows, heads, bottom) = place_rows(alloc, rows, legend_end + HEAD_HEIGHT)?;
     Ok(Layout {
-        columns,
+        signs,
         line_end,
         event_at,
         detail_at,
         lanes,
+        labels_at,
+        losses,
         rows,
         heads,
         top,
@@ -219,14 +297,18 @@ pub fn lay_out(alloc: Global, picture: &Picture, signs: usize) -> Result<Layout,
 impl Layout {
     /// Where a sign of the legend begins, in the middle of its line.
     pub fn sign(&self, i: usize) -> Point {
-        let columns = self.columns.max(1);
-        Point {
-            x: small(i % columns)
-                .saturating_mul(SIGN_WIDTH)
-                .saturating_add(GAP),
-            y: small(i / columns)
-                .saturating_mul(SIGN_HEIGHT)
-                .saturating_add(GAP),
+        let x = match self.signs.get(i) {
+            Some(x) => *x,
+            None => 0,
+        };
+        Point { x, y: GAP }
+    }
+
+    /// Where the label of a loss begins: right of all lanes and their arrows.
+    pub fn loss(&self, i: usize) -> u32 {
+        match self.losses.get(i) {
+            Some(x) => *x,
+            None => self.labels_at,
         }
     }
 

@@ -16,12 +16,13 @@ pub enum Sign {
 }
 
 /// The signs in the order of the legend.
-const SIGNS: [Sign; 22] = [
+const SIGNS: [Sign; 23] = [
     Sign::Mark(Mark::Submitted),
     Sign::Mark(Mark::Accepted),
     Sign::Mark(Mark::Stamped),
     Sign::Mark(Mark::Logged),
     Sign::Mark(Mark::NoOp),
+    Sign::Mark(Mark::Checkpoint),
     Sign::Mark(Mark::Synced),
     Sign::Mark(Mark::Entered),
     Sign::Mark(Mark::Started),
@@ -46,44 +47,53 @@ pub fn meaning(sign: Sign) -> &'static str {
     match sign {
         Sign::Mark(mark) => mark_meaning(mark),
         Sign::Arrow(purpose) => purpose_meaning(purpose),
-        Sign::Again => "delivered again",
-        Sign::Loss => "never delivered",
+        Sign::Again => "again",
+        Sign::Loss => "missed",
         Sign::Lane(role) => role_meaning(role),
+    }
+}
+
+/// The room of a sign, with that between it and its meaning.
+pub fn sign_width(sign: Sign) -> u32 {
+    match sign {
+        Sign::Mark(_) => 14,
+        _ => 28,
     }
 }
 
 fn mark_meaning(mark: Mark) -> &'static str {
     match mark {
-        Mark::Submitted => "submits #ID",
-        Mark::Accepted => "accepts #ID, result",
-        Mark::Refused => "busy, or crashed before",
-        Mark::Stamped => "stamps SESSION:NUMBER",
-        Mark::Session => "session of a sequencer",
-        Mark::Logged => "SLOT: request in the log",
-        Mark::NoOp => "SLOT: NO-OP in the log",
-        Mark::Entered => "enters view (LEADER,SESSION)",
-        Mark::Started => "takes part in the view",
-        Mark::Synced => "sync point moves",
+        Mark::Submitted => "submits",
+        Mark::Accepted => "accepts",
+        Mark::Refused => "refused",
+        Mark::Stamped => "stamps",
+        Mark::Session => "session",
+        Mark::Logged => "logs",
+        Mark::NoOp => "NO-OP",
+        Mark::Checkpoint => "checkpoint",
+        Mark::Entered => "enters view",
+        Mark::Started => "view starts",
+        Mark::Synced => "syncs",
         Mark::Crashed => "crashes",
-        Mark::Acted => "only sends",
+        Mark::Acted => "sends",
         Mark::Idle => "nothing shows",
     }
 }
 
 fn purpose_meaning(purpose: Purpose) -> &'static str {
     match purpose {
-        Purpose::Request => "request, stamped request",
+        Purpose::Request => "request",
         Purpose::Reply => "reply",
-        Purpose::Peer => "message between replicas",
-        Purpose::Session => "installing, pinging",
+        Purpose::Peer => "replicas",
+        Purpose::Session => "sessions",
     }
 }
 
 fn role_meaning(role: Role) -> &'static str {
     match role {
-        Role::Leads => "leads its view",
+        Role::Leads => "leads",
         Role::Follows => "follows",
-        Role::Waits => "waits for its view to start",
+        Role::Waits => "waits",
     }
 }
 

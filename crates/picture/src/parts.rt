@@ -1,6 +1,6 @@
 //! Rectangles, texts and paths of SVG 1.1.
 
-use crate::layout::label_width;
+use crate::layout::BEND_WIDTH;
 use crate::text::Text;
 use nop_types::Actor;
 
@@ -44,7 +44,7 @@ fn put_size(width: u32, height: u32, to: &mut Text) {
 
 /// A picture of this size begins.
 pub fn open_picture(width: u32, height: u32, to: &mut Text) {
-    to.put("<svg xmlns=\"http://www.w3.org/2000/svg\" version=\"1.1\"");
+    to.put("<svg xmlns=\"http://www.w3.org/2000/svg\" version=\"1.1\" role=\"img\"");
     put_size(width, height, to);
     to.numbered(" viewBox=\"0 0 ", u64::from(width));
     to.numbered(" ", u64::from(height));
@@ -95,20 +95,12 @@ pub fn put_count(class: &str, at: Point, count: u32, to: &mut Text) {
     to.put("</text>\n");
 }
 
-pub fn put_name(class: &str, at: Point, actor: Actor, to: &mut Text) {
+/// The name of an actor, and what follows it.
+pub fn put_name(class: &str, at: Point, actor: Actor, behind: &str, to: &mut Text) {
     open_words(class, at, to);
     to.actor(actor);
+    to.put(behind);
     to.put("</text>\n");
-}
-
-/// A plate for a label, so that lines behind it do not cross it.
-pub fn put_plate(at: Point, characters: usize, to: &mut Text) {
-    let corner = Point {
-        x: at.x.saturating_sub(1),
-        y: at.y.saturating_sub(6),
-    };
-    let width = label_width(characters).saturating_add(2);
-    put_rect("plate", corner, width, 13, to);
 }
 
 fn put_point(before: &str, point: Point, to: &mut Text) {
@@ -147,7 +139,7 @@ pub fn put_level(weight: &str, class: &str, from: Point, end: u32, to: &mut Text
 
 /// A line that leaves its lane to the right, and comes back to it.
 pub fn put_bend(weight: &str, class: &str, from: Point, end: Point, to: &mut Text) {
-    let bend = from.x.saturating_add(24);
+    let bend = from.x.saturating_add(BEND_WIDTH);
     begin_path(weight, class, from, to);
     put_point("C", Point { x: bend, y: from.y }, to);
     put_point(" ", Point { x: bend, y: end.y }, to);

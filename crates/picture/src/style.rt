@@ -9,7 +9,7 @@ text{font-family:monospace;font-size:11px;fill:#24292f}
 .missed{fill:#cf222e}
 .page{fill:#ffffff}
 .band{fill:#f3f5f7}
-.plate{fill:#ffffff;fill-opacity:0.75}
+.plate{fill:#ffffff}
 path{fill:none;stroke-width:1}
 .follows{stroke:#8c959f}
 .leads{stroke:#24292f;stroke-width:3}
@@ -32,6 +32,7 @@ path{fill:none;stroke-width:1}
 .session{fill:#9a6700}
 .log{fill:#24292f}
 .noop{fill:#ffffff;stroke:#cf222e;stroke-width:1.6}
+.checkpoint{fill:#ffffff;stroke:#24292f;stroke-width:1.6}
 .enter{fill:#ffffff;stroke:#8250df;stroke-width:1.6}
 .start{fill:#8250df}
 .sync{fill:#0550ae}

@@ -5,19 +5,18 @@ ghost use Rattle.picture.specs.Texts.{IsWhole};
 
 use crate::data::{Arrow, Loss, Mark, Note, Picture, Purpose, Role, Row, Stretch};
 use crate::lane::Lane;
-use crate::layout::{HEAD_HEIGHT, LOSS_AT, Layout, NOTE_HEIGHT, lay_out, notes_height};
-use crate::legend::{Sign, meaning, signs};
+use crate::layout::{
+    HEAD_HEIGHT, Layout, MISSES, NOTE_HEIGHT, lay_out, misses_width, notes_height,
+};
+use crate::legend::{Sign, meaning, sign_width, signs};
 use crate::parts::{
     Point, open_picture, put_bend, put_count, put_level, put_line, put_name, put_outline, put_page,
-    put_plate, put_rect, put_words,
+    put_rect, put_words,
 };
 use crate::style::{ARROW_HEAD, ARROW_HEADS, STYLE};
 use crate::text::Text;
 use nop_types::NoMemory;
 use std::alloc::Global;
-
-/// From the middle of a lane to its labels.
-const LABEL_AT: u32 = 14;
 
 /// The class of a mark, and its outline from its middle.
 fn outline(mark: Mark) -> (&'static str, &'static str) {
@@ -29,6 +28,7 @@ fn outline(mark: Mark) -> (&'static str, &'static str) {
         Mark::Session => ("session", "m0,-5l5,5l-5,5l-5,-5z"),
         Mark::Logged => ("log", "m-4,0a4,4 0 1,0 8,0a4,4 0 1,0 -8,0z"),
         Mark::NoOp => ("noop", "m-5,0a5,5 0 1,0 10,0a5,5 0 1,0 -10,0zm1.5,3.5l7,-7"),
+        Mark::Checkpoint => ("checkpoint", "m-5,-5h10v10h-10zm0,4h10"),
         Mark::Entered => ("enter", "m0,-5l5,5l-5,5l-5,-5z"),
         Mark::Started => ("start", "m0,-5l5,5l-5,5l-5,-5z"),
         Mark::Synced => ("sync", "m0,-5l5,9h-10z"),
@@ -106,27 +106,31 @@ fn put_loss(layout: &Layout, loss: &Loss, to: &mut Text) {
     put_lost(arrow_class(loss.purpose), from, end, to);
 }
 
-/// A label on a plate.
 fn put_label(class: &str, text: &str, at: Point, to: &mut Text) {
     if !text.is_empty() {
-        put_plate(at, text.len(), to);
         put_words(class, at, text, to);
     }
 }
 
-fn put_loss_label(layout: &Layout, loss: &Loss, to: &mut Text) {
-    let lane = layout.lane(loss.to);
+/// Who misses a datagram, and which.
+fn put_loss_label(layout: &Layout, i: usize, loss: &Loss, to: &mut Text) {
     let at = Point {
-        x: lane.saturating_add(LOSS_AT),
+        x: layout.loss(i),
         y: layout.row(loss.sent),
     };
-    put_label("missed", loss.text.as_str(), at, to);
+    put_name("missed", at, loss.to, MISSES, to);
+    let what = Point {
+        x: at.x.saturating_add(misses_width(loss.to)),
+        y: at.y,
+    };
+    put_label("missed", loss.text.as_str(), what, to);
 }
 
-fn put_note(note: &Note, middle: Point, to: &mut Text) {
+/// The mark of a note in its lane, and its label right of all lanes.
+fn put_note(layout: &Layout, note: &Note, middle: Point, to: &mut Text) {
     put_mark(note.mark, middle, to);
     let at = Point {
-        x: middle.x.saturating_add(LABEL_AT),
+        x: layout.labels_at,
         y: middle.y,
     };
     put_label("note", note.text.as_str(), at, to);
@@ -135,7 +139,7 @@ fn put_note(note: &Note, middle: Point, to: &mut Text) {
 fn put_notes(layout: &Layout, i: usize, row: &Row, to: &mut Text) {
     let mut at = layout.point(row.actor, i);
     for note in &row.notes {
-        put_note(note, at, to);
+        put_note(layout, note, at, to);
         at.y = at.y.saturating_add(NOTE_HEIGHT);
     }
 }
@@ -179,7 +183,7 @@ fn put_lane_name(lane: Lane, y: u32, to: &mut Text) {
         y: y.saturating_sub(8),
     };
     put_rect("plate", corner, 28, 16, to);
-    put_name("name", Point { x: lane.x, y }, lane.actor, to);
+    put_name("name", Point { x: lane.x, y }, lane.actor, "", to);
 }
 
 /// The names of the lanes.
@@ -202,13 +206,13 @@ fn put_heads(to: &mut Text) {
     to.put("</defs>\n");
 }
 
-/// A sign of the legend, 24 pixels wide.
+/// A sign of the legend.
 fn put_sign(sign: Sign, at: Point, to: &mut Text) {
-    let end = at.x.saturating_add(24);
-    let tip = at.x.saturating_add(28);
+    let end = at.x.saturating_add(20);
+    let tip = at.x.saturating_add(24);
     match sign {
         Sign::Mark(mark) => {
-            let x = at.x.saturating_add(12);
+            let x = at.x.saturating_add(5);
             put_mark(mark, Point { x, y: at.y }, to);
         }
         Sign::Arrow(purpose) => put_level("arrow ", arrow_class(purpose), at, tip, to),
@@ -222,15 +226,31 @@ fn put_legend(layout: &Layout, signs: &[Sign], to: &mut Text) {
     for (i, sign) in signs.iter().enumerate() {
         let at = layout.sign(i);
         put_sign(*sign, at, to);
-        let x = at.x.saturating_add(34);
+        let x = at.x.saturating_add(sign_width(*sign));
         put_words("note", Point { x, y: at.y }, meaning(*sign), to);
     }
 }
 
-fn put_begin(layout: &Layout, to: &mut Text) {
+/// What the picture shows, for who does not see it.
+fn put_description(picture: &Picture, to: &mut Text) {
+    to.numbered("<title>A run of ", picture.rows.len() as u64);
+    to.put(" events</title>\n<desc>A column for each actor:");
+    for actor in &picture.lanes {
+        to.put(" ");
+        to.actor(*actor);
+    }
+    to.put(". A row for each event, from the top down: the number of its line, its words, what ");
+    to.put(
+        "was delivered or submitted; then marks and arrows in the columns; then what happened, ",
+    );
+    to.put("and who never got what was sent.</desc>\n");
+}
+
+fn put_begin(layout: &Layout, picture: &Picture, to: &mut Text) {
     let width = layout.width;
     let height = layout.bottom.saturating_add(HEAD_HEIGHT / 2);
     open_picture(width, height, to);
+    put_description(picture, to);
     to.put(STYLE);
     put_heads(to);
     put_page(width, height, to);
@@ -252,8 +272,8 @@ fn put_back(layout: &Layout, picture: &Picture, to: &mut Text) {
 }
 
 fn put_prefix(layout: &Layout, picture: &Picture, to: &mut Text) {
-    for loss in &picture.losses {
-        put_loss_label(layout, loss, to);
+    for (i, loss) in picture.losses.iter().enumerate() {
+        put_loss_label(layout, i, loss, to);
     }
     for (i, row) in picture.rows.iter().enumerate() {
         put_notes(layout, i, row, to);
@@ -269,9 +289,9 @@ pub fn draw(alloc: Global, picture: &Picture) -> Result<String, NoMemory>
     ensures { IfOk result (λ s. IsWhole (string_bytes s)) }
 {
     let signs = signs(alloc, picture)?;
-    let layout = lay_out(alloc, picture, signs.len())?;
+    let layout = lay_out(alloc, picture, &signs)?;
     let mut text = Text::new(alloc);
-    put_begin(&layout, &mut text);
+    put_begin(&layout, picture, &mut text);
     put_legend(&layout, &signs, &mut text);
     put_back(&layout, picture, &mut text);
     put_prefix(&layout, picture, &mut text);

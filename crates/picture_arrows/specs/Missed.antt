@@ -1,5 +1,5 @@
 -- What was sent and never delivered.
-use Rattle.std.specs.Prelude.{ℕ, ◌+◌, List, [], ◌∷◌, ◌++◌, map, filter, Bool, true, false, not, ◌&&◌, ◌||◌, nat_le}
+use Rattle.std.specs.Prelude.{ℕ, ◌+◌, List, [], ◌∷◌, ◌++◌, map, filter, Bool, not, ◌&&◌, nat_le}
 use Rattle.std.specs.List.{list_any}
 use Rattle.nop_types.specs.declared.output.Actor.{Actor}
 use Rattle.nop_types.specs.declared.output.Dest.{Dest}
@@ -15,17 +15,6 @@ is_for (One one) a = same one a
 is_for Replicas a = is_replica a
 is_for Sequencers a = is_sequencer a
 
-abbrev pub is_for_sequencers : Dest → Bool
-is_for_sequencers Sequencers = true
-is_for_sequencers _ = false
-
-abbrev pub has_sequencer : List Actor → Bool
-has_sequencer actors = list_any is_sequencer actors
-
--- the actor took it; what is for all sequencers is for any of them
-abbrev pub is_taken : Flight → Actor → Bool
-is_taken f a = has f.reached.items a || (is_for_sequencers f.leg.dest && has_sequencer f.reached.items)
-
 -- the actor crashed in that row or before
 abbrev pub had_crashed : List Crash → ℕ → Actor → Bool
 had_crashed crashes row a = list_any (λ c. same c.actor a && nat_le c.row row) crashes
@@ -33,7 +22,7 @@ had_crashed crashes row a = list_any (λ c. same c.actor a && nat_le c.row row) 
 -- it was sent to the actor by another, who never took it, though it had not crashed when it was sent
 abbrev pub misses : List Crash → Flight → Actor → Bool
 misses crashes f a =
-    ((is_for f.leg.dest a && not (same f.leg.from a)) && not (is_taken f a)) && not (had_crashed crashes f.leg.sent a)
+    ((is_for f.leg.dest a && not (same f.leg.from a)) && not (has f.reached.items a)) && not (had_crashed crashes f.leg.sent a)
 
 -- the actors that miss the datagram with this index
 abbrev pub missed_at : List Actor → List Crash → ℕ → Flight → List Miss

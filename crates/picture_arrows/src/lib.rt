@@ -8,8 +8,8 @@
 //! (`has_lane`).
 //!
 //! What was never delivered is `missed_from`: sent to an actor by another, not taken by it, and
-//! sent before it crashed; what is for all sequencers is missed where none took it. That is the
-//! contract of `missed`, inside; that the crosses of `losses` show it is tested.
+//! sent before it crashed; what is for all sequencers is missed by each that did not take it. That is
+//! the contract of `missed`, inside; that the crosses of `losses` show it is tested.
 //!
 //! Calls, for `drawing`: `deliver`, `losses`, `actors`, `lanes`, and the records `Flight`, `Leg`,
 //! `Crash`.

@@ -3,10 +3,7 @@
 ghost use Rattle.std.specs.Prelude.{◌≡◌, ◌++◌, OnOk, IfOk};
 ghost use Rattle.picture_arrows.specs.Missed.{
   had_crashed,
-  has_sequencer,
   is_for,
-  is_for_sequencers,
-  is_taken,
   missed_at,
   missed_from,
   misses,
@@ -60,29 +57,6 @@ fn is_for(dest: Dest, actor: Actor) -> bool
     }
 }
 
-fn is_for_sequencers(dest: Dest) -> bool
-    ensures { result ≡ is_for_sequencers dest }
-{
-    match dest {
-        Dest::Sequencers => true,
-        _ => false,
-    }
-}
-
-fn has_sequencer(actors: &[Actor]) -> bool
-    ensures { result ≡ has_sequencer actors.now }
-{
-    actors.iter().any(|one| is_sequencer(*one))
-}
-
-/// Whether the actor took the datagram. What is for all sequencers is for any of them.
-fn is_taken(flight: &Flight, actor: Actor) -> bool
-    ensures { result ≡ is_taken flight.now actor }
-{
-    let any = is_for_sequencers(flight.leg.dest) && has_sequencer(&flight.reached);
-    has(&flight.reached, actor) || any
-}
-
 fn had_crashed(crashes: &[Crash], row: usize, actor: Actor) -> bool
     ensures { result ≡ had_crashed crashes.now row actor }
 {
@@ -97,7 +71,7 @@ fn misses(crashes: &[Crash], flight: &Flight, actor: Actor) -> bool
 {
     is_for(flight.leg.dest, actor)
         && !same(flight.leg.from, actor)
-        && !is_taken(flight, actor)
+        && !has(&flight.reached, actor)
         && !had_crashed(crashes, flight.leg.sent, actor)
 }
 

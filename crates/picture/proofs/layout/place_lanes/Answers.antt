@@ -7,6 +7,6 @@ pub loop-actor-preserved : goal.loop-actor-preserved
 loop-actor-preserved c = record {
   actors = grind (arith, common_steps);
   apart = λ h. rw c.in_ok-push.ensures.items (stand_apart_push _ _ _
-      (c.loop-actor.invariant.apart (omega (arith, h, c.saturating_add-x.ensures, c.lane_width.ensures)))
-      (omega (arith, h, c.saturating_add-x.ensures, c.lane_width.ensures)));
+      (c.loop-actor.invariant.apart (omega (arith, h, c.saturating_add-x.ensures)))
+      (omega (arith, h, c.saturating_add-x.ensures)));
 }
