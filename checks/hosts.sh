@@ -1,10 +1,11 @@
 #!/bin/bash
 # Runs nodes by a list of hosts as real processes, on addresses 127.0.1.1 to 127.0.1.4 in place of four machines: host 1 has the leader, the
 # sequencer in use and the first controller. All of host 1 are killed: the next client is answered and reads what was put. What was killed is
-# started again and refused, as are a client number that was used, the 257th, a node with another list, and with marks a whole cluster. It
-# takes some ten seconds, leaves nothing behind, and ends with status 1 at any difference.
+# started again and refused, as are a client number that was used, the 257th, a node with another list, and with marks a whole cluster. Then
+# examples/hosts.sh is run. It takes some fifteen seconds, leaves nothing behind, and ends with status 1 at any difference.
 #
-#   checks/hosts.sh              the program is crates/nopaxos_hosts/out/nopaxos_hosts, or the file that HOSTS names
+#   checks/hosts.sh              the program is crates/nopaxos_hosts/out/nopaxos_hosts, or the file that HOSTS names, and that of kv_ops
+#                                the one that KV_OPS names
 . "$(dirname "$0")/common.bash" || exit 2
 needs "${HOSTS:-}" nopaxos_hosts
 . checks/nodes.bash
@@ -126,4 +127,16 @@ for name in ctl $nodes; do refused "$hosts" --marks "$folder/marks" "$name"; don
 list 10 > "$hosts"
 starts "$hosts" --marks "$folder/marks"
 answered '1 6e6f6e65' c0 "$get"
+
+# ---- the example: the second client and the one after host 1 was lost read what was put, and the leader is refused
+stop
+made=$((made + 1))
+hosted=$program
+needs "${KV_OPS:-}" kv_ops -- op get k
+if NOPAXOS_HOSTS=$hosted KV_OPS=$program BASE=$base examples/hosts.sh > "$folder/out" 2> "$folder/err"; then
+    [ "$(grep -c '^c[12]: get k: =v, after ' "$folder/out")" = 2 ] && grep -q '^r0 .* status 5,' "$folder/out" ||
+        differs "examples/hosts.sh writes '$(tail -n 8 "$folder/out")'"
+else
+    differs "examples/hosts.sh ends with status $?: $(tail -n 3 "$folder/err")"
+fi
 concludes

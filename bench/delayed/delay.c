@@ -1,6 +1,7 @@
 // Delays the datagrams that a process sends to the ports from DELAY_FIRST to DELAY_LAST by DELAY_MICROS, each by the same time, so that
 // they keep their order, and loses DELAY_LOST of each thousand of them, and, while the file CUT_FILE is there, all of those to the port
-// CUT_PORT (0: to each). A thread sends them when they are due, from the socket that they were sent from. Loaded by LD_PRELOAD.
+// CUT_PORT (0: to each). A thread sends them when they are due, from the socket that they were sent from; as root it goes before all other
+// threads, else on a loaded machine it wakes late, and sends what came due meanwhile at once, which no path does. Loaded by LD_PRELOAD.
 
 #define _GNU_SOURCE
 #include <arpa/inet.h>
@@ -39,6 +40,7 @@ static void *send_when_due(void *unused)
 {
     (void)unused;
     prctl(PR_SET_TIMERSLACK, 1UL);
+    pthread_setschedparam(pthread_self(), SCHED_FIFO, &(struct sched_param){.sched_priority = 1});
     for (;;) {
         pthread_mutex_lock(&lock);
         while (!front)

@@ -1,5 +1,8 @@
 //! The same work in plain Rust: the message as structs, its ops as vectors of their own.
 
+mod reading;
+
+use reading::{Bad, Header, header, split, within};
 use std::hint::black_box;
 use std::time::Instant;
 
@@ -23,23 +26,6 @@ struct StartView {
     log: Vec<Entry>,
 }
 
-#[derive(Debug)]
-enum Bad {
-    Short,
-    Kind,
-    Field,
-    Trailing,
-}
-
-fn split<const N: usize>(bytes: &[u8]) -> Result<([u8; N], &[u8]), Bad> {
-    let (front, rest) = bytes.split_first_chunk::<N>().ok_or(Bad::Short)?;
-    Ok((*front, rest))
-}
-
-fn within<T: PartialOrd>(n: T, least: T, most: T) -> Result<T, Bad> {
-    if least <= n && n <= most { Ok(n) } else { Err(Bad::Field) }
-}
-
 fn entry(bytes: &[u8]) -> Result<(Entry, &[u8]), Bad> {
     let ([tag], rest) = split(bytes)?;
     if within(tag, 0, 1)? == 0 {
@@ -56,16 +42,8 @@ fn entry(bytes: &[u8]) -> Result<(Entry, &[u8]), Bad> {
 }
 
 fn decode(bytes: &[u8]) -> Result<StartView, Bad> {
-    let ([kind], rest) = split(bytes)?;
-    if kind != 22 {
-        return Err(Bad::Kind);
-    }
-    let ([sender], rest) = split(rest)?;
-    let sender = within(sender, 0, 6)?;
-    let (leader, rest) = split(rest)?;
-    let leader = u32::from_be_bytes(leader);
-    let (session, rest) = split(rest)?;
-    let session = within(u64::from_be_bytes(session), 1, u64::MAX)?;
+    let (header, rest) = header(bytes, 22)?;
+    let Header { sender, leader, session } = header;
     let (next, rest) = split(rest)?;
     let next = within(u64::from_be_bytes(next), 1, 1 << 48)?;
     let (sync_point, rest) = split(rest)?;

@@ -1,5 +1,9 @@
 //! The same work in plain Rust: the table as a sorted vector of clients with their results, each a vector of its own.
 
+#[path = "../reading.rs"]
+mod reading;
+
+use reading::{Bad, Header, header, split, within};
 use std::collections::VecDeque;
 use std::hint::black_box;
 use std::time::Instant;
@@ -46,14 +50,6 @@ struct Fragment {
     payload: Vec<u8>,
 }
 
-#[derive(Debug)]
-enum Bad {
-    Short,
-    Kind,
-    Field,
-    Trailing,
-}
-
 impl Table {
     fn load(clients: Vec<SavedClient>) -> Table {
         let mut accounts = Vec::with_capacity(clients.len());
@@ -73,15 +69,6 @@ impl Table {
         };
         self.accounts.iter().map(account).collect()
     }
-}
-
-fn split<const N: usize>(bytes: &[u8]) -> Result<([u8; N], &[u8]), Bad> {
-    let (front, rest) = bytes.split_first_chunk::<N>().ok_or(Bad::Short)?;
-    Ok((*front, rest))
-}
-
-fn within<T: PartialOrd>(n: T, least: T, most: T) -> Result<T, Bad> {
-    if least <= n && n <= most { Ok(n) } else { Err(Bad::Field) }
 }
 
 fn answered(bytes: &[u8], least: u64, greatest: u64) -> Result<(Answered, &[u8]), Bad> {
@@ -116,16 +103,8 @@ fn client(bytes: &[u8], least: u64) -> Result<(SavedClient, &[u8]), Bad> {
 }
 
 fn decode(bytes: &[u8]) -> Result<SyncPrepare, Bad> {
-    let ([kind], rest) = split(bytes)?;
-    if kind != 23 {
-        return Err(Bad::Kind);
-    }
-    let ([sender], rest) = split(rest)?;
-    let sender = within(sender, 0, 6)?;
-    let (leader, rest) = split(rest)?;
-    let leader = u32::from_be_bytes(leader);
-    let (session, rest) = split(rest)?;
-    let session = within(u64::from_be_bytes(session), 1, u64::MAX)?;
+    let (header, rest) = header(bytes, 23)?;
+    let Header { sender, leader, session } = header;
     let (sync_point, rest) = split(rest)?;
     let sync_point = within(u32::from_be_bytes(sync_point), 1, u32::MAX)?;
     let (len, rest) = split(rest)?;
