@@ -33,14 +33,43 @@ if ! [[ $base =~ ^[1-9][0-9]{3,4}$ ]] || [ "$base" -lt 1024 ] || [ "$base" -gt 6
     usage "BASE is from 1024 to 65000, and not '$base'"
 fi
 site="--replicas $replicas --sequencers 2 --base $base"
-if [ ! -x "$program" ]; then
-    (cd crates/nopaxos && rt run -- replay < stdin > /dev/null 2>&1)
-fi
+# below CRATE: the crates that it is built on, and itself.
+below() {
+    awk -v top="$1" '
+        { sub(/#.*/, "") }
+        /:/ { name = $1; sub(/:.*/, "", name); $1 = ""; deps[name] = $0 }
+        function visit(crate, list, count, i) {
+            if (crate in seen || !(crate in deps)) return
+            seen[crate] = 1
+            count = split(deps[crate], list, " ")
+            for (i = 1; i <= count; i++) visit(list[i])
+            print crate
+        }
+        END { visit(top) }' crates.txt
+}
+
+# builds CRATE WORDS..: proves the crate and those below it, and builds its program; what is proved by now is said every ten seconds.
+builds() {
+    local crate=$1 all done name build
+    all=$(below "$crate" | wc -l)
+    echo "cluster.sh: there is no $crate yet: it is proved and built, once; the first time that takes half an hour or more" >&2
+    (cd "crates/$crate" && exec rt run "${@:2}" < stdin > /dev/null 2>&1) &
+    build=$!
+    while kill -0 "$build" 2> /dev/null; do
+        done=0
+        for name in $(below "$crate"); do
+            [ ! -e "crates/$name/out/rlib/$name.rlib" ] || done=$((done + 1))
+        done
+        echo "cluster.sh: $done of $all crates are proved" >&2
+        sleep 10 &
+        wait -n "$build" $! 2> /dev/null
+    done
+}
+
+[ -x "$program" ] || builds nopaxos -- replay
 [ -x "$program" ] || { echo "cluster.sh: there is no program file $program" >&2; exit 1; }
 kv_ops=${KV_OPS:-crates/kv_ops/out/kv_ops}
-if [ ! -x "$kv_ops" ]; then
-    (cd crates/kv_ops && rt run -- op get k > /dev/null 2>&1)
-fi
+[ -x "$kv_ops" ] || builds kv_ops -- op get k
 [ -x "$kv_ops" ] || { echo "cluster.sh: there is no program file $kv_ops" >&2; exit 1; }
 
 folder=$(mktemp -d) || exit 1

@@ -1,0 +1,101 @@
+#!/bin/bash
+# Histories of other recorders: examples/history.py makes lines of one in JSON and of the same in EDN, the example of docs/HISTORIES.md. Both
+# become the same lines; `kv_linearize` finds the order that the page names, and `check` calls it legal; with the second read changed there is
+# none. What is no history is refused. It takes a second, leaves nothing behind, and ends with status 1 at any difference.
+#
+#   checks/histories.sh          the programs are crates/NAME/out/NAME, or the files that KV_LINEARIZE and NOPAXOS name
+. "$(dirname "$0")/common.bash" || exit 2
+needs "${NOPAXOS:-}" nopaxos -- replay
+nopaxos=$program
+needs "${KV_LINEARIZE:-}" kv_linearize
+kv_linearize=$program
+
+# converts FORM [--keyed]: the lines of standard input lie in out.
+converts() {
+    python3 -B examples/history.py "$@" > "$folder/out" 2> "$folder/err"
+    status=$?
+}
+
+cat > "$folder/json" <<'END'
+{"process": 0, "type": "invoke", "f": "write", "value": 1}
+{"process": 1, "type": "invoke", "f": "read", "value": null}
+{"process": 1, "type": "ok", "f": "read", "value": 1}
+{"process": 0, "type": "info", "f": "write", "value": 1}
+{"process": 1, "type": "invoke", "f": "read", "value": null}
+{"process": 1, "type": "ok", "f": "read", "value": 1}
+END
+cat > "$folder/edn" <<'END'
+; as Jepsen writes it: what is of no client, what failed, and fields that are passed over
+{:process :nemesis, :type :info, :f :start, :value nil}
+#jepsen.history.Op{:index 0, :time 1, :type :invoke, :process 0, :f :write, :value 1}
+{:type :invoke, :process 1, :f :read, :value nil}
+{:type :ok, :process 1, :f :read, :value 1}
+{:type :invoke, :process 18, :f :cas, :value [2 3]}
+{:type :fail, :process 18, :f :cas, :value [2 3], :error "the value is 1"}
+{:type :info, :process 0, :f :write, :value 1, :error :timeout}
+{:type :invoke, :process 1, :f :read, :value nil}
+{:type :ok, :process 1, :f :read, :value 1}
+END
+lines='transcript 1 replicas 1 sequencers 1 clients 16
+submit c0 1 50000178000131
+submit c1 1 47000178
+accept c1 1 3d31
+submit c1 2 47000178
+accept c1 2 3d31'
+order='history 1 c0 1 50000178000131
+history 2 c1 1 47000178
+history 3 c1 2 47000178'
+for form in json edn; do
+    converts $form < "$folder/$form"
+    cp "$folder/out" "$folder/lines"
+    same "$form" "$status" 0 "$lines
+end"
+    "$kv_linearize" < "$folder/lines" > "$folder/out" 2> "$folder/err"
+    status=$?
+    cp "$folder/out" "$folder/found"
+    same "the order of $form" "$status" 0 "$lines
+$order
+end"
+    "$nopaxos" check < "$folder/found" > "$folder/out" 2> "$folder/err"
+    same "the judge of $form" $? 0 'legal 3 2 3'
+done
+
+sed '6s/"value": 1/"value": null/' "$folder/json" | python3 -B examples/history.py json | "$kv_linearize" > "$folder/out" 2> "$folder/err"
+same 'a read that is too old' $? 8 'none part 78 line 6'
+
+# a write whose ok says what was there before, one whose ok does not, a pair with a key, and a delete
+converts json --keyed <<'END'
+{"process": 3, "type": "invoke", "f": "write", "value": ["a", 5]}
+{"process": 3, "type": "ok", "f": "write", "value": ["a", 5], "previous": null}
+{"process": 4, "type": "invoke", "f": "cas", "value": ["a", [5, 6]]}
+{"process": 4, "type": "ok", "f": "cas", "value": ["a", [5, 6]]}
+END
+same 'keys' "$status" 0 'transcript 1 replicas 1 sequencers 1 clients 16
+submit c3 1 50000161000135
+accept c3 1 6e6f6e65
+submit c4 1 43000161000135000136
+accept c4 1 796573
+end'
+converts json <<'END'
+{"process": 0, "type": "invoke", "f": "delete", "key": "a"}
+{"process": 0, "type": "ok", "f": "delete", "key": "a"}
+END
+cat "$folder/err" >> "$folder/out"
+: > "$folder/err"
+same 'a result that was not recorded' "$status" 0 'transcript 1 replicas 1 sequencers 1 clients 16
+submit c0 1 44000161
+end
+history.py: 1 writes are left open: the values before them were not recorded'
+
+# refuses NAME REASON: standard input is no history.
+refuses() {
+    converts "${@:3}"
+    same "$1" "$status" 1 "$2" err
+}
+refuses 'an end without a beginning' 'history.py: this is no history: process 0 ends an operation that it did not begin' edn \
+    <<< '{:process 0 :type :ok :f :read :value 1}'
+refuses 'a bracket that is missing' "history.py: this is no history: '}' is missing" edn <<< '{:process 0 :type :ok'
+refuses 'an operation that nobody knows' "history.py: this is no history: there is no operation 'append'" json \
+    <<< '{"process": 0, "type": "invoke", "f": "append", "value": 1}'
+refuses 'no word' 'usage: history.py json|edn [--keyed] < HISTORY > LINES' < /dev/null
+concludes
