@@ -37,7 +37,8 @@ is_picture() {
     rm -f "$folder/my.svg"
 }
 
-echo .ci/run > "$folder/known"
+# Both examples are run, below and by checks/hosts.sh, at ports that nobody has.
+printf '%s\n' .ci/run examples/cluster.sh examples/hosts.sh > "$folder/known"
 runs README.md '(cd crates/nopaxos && rt try -- replay) < examples/one-put.schedule'
 cmp -s "$folder/out" examples/one-put.transcript || differs "the one put has another transcript"
 
@@ -56,6 +57,8 @@ runs README.md 'crates/nopaxos/out/nopaxos check < examples/one-put.transcript'
 grep -qx 'legal 1 1 1' "$folder/out" || differs "the put is judged '$(cat "$folder/out")'"
 runs README.md 'crates/kv_linearize/out/kv_linearize < examples/one-put.transcript'
 grep -qx 'history 1 c0 1 5000016b000176' "$folder/out" || differs "the order that is found of the put is '$(cat "$folder/out")'"
+runs README.md 'crates/kv_words/out/kv_words < examples/one-put.transcript'
+grep -qx 'submit c0 1 put k v' "$folder/out" && grep -qx 'accept c0 1 none' "$folder/out" || differs "the put in words is '$(cat "$folder/out")'"
 # `rt run` proves on its own what `rt ci` has proved, which takes long: it is run only where its program is not there.
 if [ -x crates/spacetime/out/spacetime ]; then
     echo '(cd crates/spacetime && rt run < stdin > /dev/null)' >> "$folder/known"
