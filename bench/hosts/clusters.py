@@ -258,7 +258,7 @@ class Load:
         with open(self.transcript) as history, open(self.cluster.path / "order", "w") as order:
             status = subprocess.run([LINEARIZE], stdin=history, stdout=order, check=False).returncode
         if status != 0:
-            kept = f"/tmp/hosts-{os.getpid()}-{len(FAILED)}.transcript"
+            kept = f"{tempfile.gettempdir()}/hosts-{os.getpid()}-{len(FAILED)}.transcript"
             pathlib.Path(kept).write_bytes(self.transcript.read_bytes())
             last = (self.cluster.path / "order").read_text()[-200:]
             differs(f"{what}: kv_linearize: status {status}, '{last.strip()}', the history is in {kept}")
