@@ -1,0 +1,10 @@
+pub mod Answering
+pub mod Closing
+pub mod Desks
+pub mod Entries
+pub mod Numbers
+pub mod Rows
+pub mod Served
+pub mod Serving
+pub mod Silence
+pub mod Taking

@@ -1,0 +1,160 @@
+-- Which numbers of users were passed.
+use Rattle.std.proofs.Common.{◌≡◌, ℕ, ◌+◌, ◌-◌, ◌^◌, length, Bool, true, false, cond, List, [], ◌∷◌, ◌++◌, Option, Some, None, refl, sym, ap, subst, ◌∙◌, inl, inr, arith}
+use Rattle.std.proofs.Common.{true≢false}
+use Rattle.std.specs.Prelude.{◌&&◌, nat_le, nat_lt, Ok, Err}
+use Rattle.std.specs.FinMap as finite
+use Rattle.std.proofs.lemmas.Bool.{and_left, and_parts, cases_Bool, leb-true, lt-leb}
+use Rattle.nop_types.specs.Given.{Given, Packet, Ticked}
+use Rattle.nop_types.specs.declared.input.Tick.TheVariants as ticks
+use Rattle.nop_types.specs.declared.output.Out.{Out}
+use Rattle.nop_types.specs.declared.output.Out.TheVariants as outs
+use Rattle.resp.specs.Reading.{Read, read_request}
+use Rattle.resp.specs.declared.parsed.Stop.TheVariants.{More, Wrong}
+use Rattle.kv_resp.specs.Table as table
+use Rattle.kv_resp.specs.Table.{Action, asked}
+use Rattle.kv_resp.specs.declared.demand.Form.{Form}
+use Rattle.desk.specs.Desks as desks
+use Rattle.desk.specs.Desks.{has_room, Take, Comes}
+use Rattle.desk.specs.declared.submitter.Labelled.{Labelled}
+use Rattle.users.specs.declared.event.UserEvent.TheVariants as users
+use Rattle.gate_core.specs.declared.act.Act.TheVariants.{Reply, Close}
+use Rattle.gate_core.specs.declared.act.Event.{Event}
+use Rattle.gate_core.specs.declared.act.Event.TheVariants as events
+use Rattle.gate_core.specs.declared.gate_state.GateState.{GateState}
+use Rattle.gate_core.specs.declared.session.Asked.{Asked}
+use Rattle.gate_core.specs.declared.session.Session.{Session}
+use Rattle.gate_core.specs.declared.limits.TheConstants.{MAX_USERS, MAX_WAITING_BYTES}
+use Rattle.gate_core.specs.Gates.{admitted, answer_owner, answer_user, busy, comes, demanded, ended, executed, fresh, idle_op, is_new, left_by, left_of, next, opened, quiet, read_as, read_of, read_session, replied, sent_to, session_of, take, tell, tell_all, tell_out, too_many, too_much, with_desk, with_owner, with_session, without_owner}
+use Rattle.gate_core.specs.Runs.{after}
+use Rattle.gate_core.proofs.Rows.{passed}
+use Rattle.gate_core.proofs.Silence.{IsNoOpening, row_silent}
+
+user_next : (o : Option Session) (g : GateState) (user ticket : ℕ) (result : List ℕ) → (answer_user o g user ticket result).0.next_user ≡ g.next_user
+user_next None g user ticket result = refl
+user_next (Some s) g user ticket result = refl
+
+owner_next : (o : Option (Option ℕ)) (g : GateState) (ticket : ℕ) (result : List ℕ) → (answer_owner o g ticket result).0.next_user ≡ g.next_user
+owner_next (Some (Some user)) g ticket result = user_next (session_of g user) g user ticket result
+owner_next (Some None) g ticket result = refl
+owner_next None g ticket result = refl
+
+out_next : (core : ℕ) (ticket : Option ℕ) (out : Out) (g : GateState) → (tell_out core ticket out g).0.next_user ≡ g.next_user
+out_next core ticket (outs.Send dest sent) g = refl
+out_next core ticket (outs.Submitted request) g = refl
+out_next core None (outs.Accepted client id result) g = refl
+out_next core (Some t) (outs.Accepted client id result) g = owner_next (finite.get g.owners t) (without_owner g t) t result
+out_next core ticket _ g = refl
+
+tell_next : (ls : List Labelled) (g : GateState) → (tell_all ls g).0.next_user ≡ g.next_user
+tell_next [] g = refl
+tell_next (l ∷ ls) g = tell_next ls (tell l g).0 ∙ out_next l.core l.ticket l.out g
+
+take_next : (g : GateState) (owner : Option ℕ) (op : List ℕ) → (take g owner op).0.next_user ≡ g.next_user
+take_next g owner op =
+    tell_next (desks.next g.desk.state (Take op)).1 (with_owner (with_desk g (desks.next g.desk.state (Take op)).0) g.desk.state.taken owner)
+
+comes_next : (g : GateState) (core : ℕ) (x : Given) → (comes g core x).0.next_user ≡ g.next_user
+comes_next g core x = tell_next (desks.next g.desk.state (Comes core x)).1 (with_desk g (desks.next g.desk.state (Comes core x)).0)
+
+op_next : (g : GateState) (user : ℕ) (s : Session) (op : List ℕ) (form : Form) (b : Bool)
+    → (cond b (executed g user s op form) (replied g user s busy)).0.next_user ≡ g.next_user
+op_next g user s op form true =
+    take_next (with_session g user (record s { asked = Some (record { ticket = g.desk.state.taken; form = form }) })) (Some user) op
+op_next g user s op form false = refl
+
+demand_next : (g : GateState) (user : ℕ) (s : Session) (action : Action) → (demanded g user s action).0.next_user ≡ g.next_user
+demand_next g user s (table.Execute op form) = op_next g user s op form (has_room g.desk.state)
+demand_next g user s (table.Answer bytes) = refl
+demand_next g user s (table.End bytes) = refl
+
+read_next : (g : GateState) (user : ℕ) (s : Session) (r : Read (List (List ℕ))) → (read_as g user s r).0.next_user ≡ g.next_user
+read_next g user s (Ok p) = demand_next g user (record s { waiting = p.1 }) (asked p.0)
+read_next g user s (Err More) = refl
+read_next g user s (Err (Wrong fault)) = refl
+
+session_next : (g : GateState) (user : ℕ) (s : Session) (o : Option Asked) → (read_session g user s o).0.next_user ≡ g.next_user
+session_next g user s None = read_next g user s (read_request s.waiting)
+session_next g user s (Some a) = refl
+
+reads_next : (g : GateState) (user : ℕ) (o : Option Session) → (read_of o g user).0.next_user ≡ g.next_user
+reads_next g user None = refl
+reads_next g user (Some s) = session_next g user s s.asked
+
+leave_next : (g : GateState) (a : Option Asked) → (left_by a g).next_user ≡ g.next_user
+leave_next g None = refl
+leave_next g (Some a) = refl
+
+left_next : (g : GateState) (user : ℕ) (o : Option Session) → (left_of o g user).0.next_user ≡ g.next_user
+left_next g user None = refl
+left_next g user (Some s) = leave_next g s.asked
+
+room_next : (g : GateState) (user : ℕ) (s : Session) (bytes : List ℕ) (b : Bool)
+    → (cond b (ended (left_by s.asked g) user too_much) (quiet (with_session g user (record s { waiting = s.waiting ++ bytes })))).0.next_user
+    ≡ g.next_user
+room_next g user s bytes true = leave_next g s.asked
+room_next g user s bytes false = refl
+
+sent_next : (g : GateState) (user : ℕ) (o : Option Session) (bytes : List ℕ) → (sent_to o g user bytes).0.next_user ≡ g.next_user
+sent_next g user None bytes = refl
+sent_next g user (Some s) bytes = room_next g user s bytes (nat_lt MAX_WAITING_BYTES (length s.waiting + length bytes))
+
+ask_next : (g : GateState) (b : Bool) → (cond b (take g None idle_op) (quiet g)).0.next_user ≡ g.next_user
+ask_next g true = take_next g None idle_op
+ask_next g false = refl
+
+admitted_next : (g : GateState) (user : ℕ) (b : Bool)
+    → (cond b (g, Reply user too_many ∷ Close user ∷ []) (quiet (with_session g user fresh))).0.next_user ≡ g.next_user
+admitted_next g user true = refl
+admitted_next g user false = refl
+
+-- one that is admitted is passed, and so are all below it
+pub admitted_passes : (g : GateState) (other : ℕ) → (admitted (record g { next_user = other + 1 }) other).0.next_user ≡ other + 1
+admitted_passes g other = admitted_next (record g { next_user = other + 1 }) other (nat_le MAX_USERS (finite.len g.sessions))
+
+module _ (user : ℕ) where
+  stays : (g h : GateState) → h.next_user ≡ g.next_user → is_new g user ≡ false → is_new h user ≡ false
+  stays g h e old = ap (λ (n : ℕ). nat_le n user && nat_lt user (2 ^ 64 - 1)) e ∙ old
+
+  opened_stays : (g : GateState) (other : ℕ) → is_new g user ≡ false → (b : Bool) → is_new g other ≡ b
+      → is_new (cond b (admitted (record g { next_user = other + 1 }) other) (quiet g)).0 user ≡ false
+  opened_stays g other old true new =
+      ap (λ (n : ℕ). nat_le n user && nat_lt user (2 ^ 64 - 1)) (admitted_passes g other)
+      ∙ passed user g.next_user other (nat_lt user (2 ^ 64 - 1)) old
+      (leb-true g.next_user other (and_parts (nat_le g.next_user other) (nat_lt other (2 ^ 64 - 1)) new).0)
+  opened_stays g other old false new = old
+
+  -- a number that was passed stays so
+  pub passed_step : (g : GateState) (e : Event) → is_new g user ≡ false → is_new (next g e).0 user ≡ false
+  passed_step g (events.Datagram core sent) old = stays g (comes g core (Packet sent)).0 (comes_next g core (Packet sent)) old
+  passed_step g (events.Retry core) old = stays g (comes g core (Ticked ticks.Retry)).0 (comes_next g core (Ticked ticks.Retry)) old
+  passed_step g (events.User (users.Opened other)) old = opened_stays g other old (is_new g other) refl
+  passed_step g (events.User (users.Sent other bytes)) old =
+      stays g (sent_to (session_of g other) g other bytes).0 (sent_next g other (session_of g other) bytes) old
+  passed_step g (events.User (users.Left other)) old = stays g (left_of (session_of g other) g other).0 (left_next g other (session_of g other)) old
+  passed_step g (events.Read other) old = stays g (read_of (session_of g other) g other).0 (reads_next g other (session_of g other)) old
+  passed_step g events.Idle old = stays g (next g events.Idle).0 (ask_next g (has_room g.desk.state)) old
+
+  -- who connects now was not there before
+  abbrev pub IsAbsent : GateState → Type 0
+  IsAbsent g = is_new g user ≡ true → session_of g user ≡ None
+
+  own_passed : (g : GateState) → is_new g user ≡ true → is_new (opened g user).0 user ≡ false
+  own_passed g new =
+      subst (λ (b : Bool). is_new (cond b (admitted (record g { next_user = user + 1 }) user) (quiet g)).0 user ≡ false) (sym new)
+      (ap (λ (n : ℕ). nat_le n user && nat_lt user (2 ^ 64 - 1)) (admitted_passes g user)
+      ∙ and_left (nat_le (user + 1) user) (nat_lt user (2 ^ 64 - 1)) (lt-leb (user + 1) user (omega arith)))
+
+  no_opening : (g : GateState) (e : Event) → is_new (next g e).0 user ≡ true → is_new g user ≡ true → IsNoOpening user g e
+  no_opening g (events.User (users.Opened other)) later now = λ same. absurd (true≢false (sym later
+      ∙ subst (λ (v : ℕ). is_new (opened g v).0 user ≡ false) (sym same) (own_passed g now)))
+  no_opening g _ later now = tt
+
+  pub absent_step : (g : GateState) (e : Event) → IsAbsent g → IsAbsent (next g e).0
+  absent_step g e h later = elim (cases_Bool (is_new g user)) [
+    | inl now ↦ (row_silent user g (h now) e (no_opening g e later now)).gone
+    | inr old ↦ absurd (true≢false (sym later ∙ passed_step g e old))
+  ]
+
+  pub absent_after : (es : List Event) (g : GateState) → IsAbsent g → IsAbsent (after g es)
+  absent_after [] g h = h
+  absent_after (e ∷ es) g h = absent_after es (next g e).0 (absent_step g e h)

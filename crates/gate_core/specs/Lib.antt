@@ -1,0 +1,4 @@
+pub mod Gates
+pub mod Next
+pub mod Runs
+pub mod Tables

@@ -1,0 +1,33 @@
+//! What holds of a gateway over any events, in any order.
+
+ghost use Rattle.std.specs.Prelude.{◌≡◌, ◌++◌, ℕ, List, [], true, false, None};
+ghost use Rattle.nop_types.specs.Configuration.{Configuration};
+ghost use Rattle.gate_core.specs.Gates.{is_new, opening, session_of};
+ghost use Rattle.gate_core.specs.Runs.{after, gave, replies_to, IsNoOpeningOf, IsServedFrom};
+ghost use Rattle.gate_core.specs.declared.act.Act.TheVariants.{Close};
+ghost use Rattle.gate_core.specs.declared.act.Event.{Event};
+ghost use Rattle.nop_types.specs.Lists.{Has};
+
+/// Of a user that connects after some events: the bytes that it sent begin with requests, and what it was replied are their replies, one
+/// each and in order. Where one asks for an op, its reply is the form of a result that the desk told for a ticket, under which it took this
+/// op for this user. Behind them is nothing, or why the gateway ended the connection.
+pub fn replies_are_of_requests()
+    ensures { (config : Configuration) (first count : ℕ) (before later : List Event) (user : ℕ) →
+        is_new (after (opening config first count) before) user ≡ true →
+        IsServedFrom (opening config first count) before later user }
+{}
+
+/// Who is not connected is replied nothing until it connects.
+pub fn nobody_else_is_replied_to()
+    ensures { (config : Configuration) (first count : ℕ) (before later : List Event) (user : ℕ) →
+        session_of (after (opening config first count) before) user ≡ None →
+        IsNoOpeningOf user later →
+        replies_to user (gave (after (opening config first count) before) later) ≡ [] }
+{}
+
+/// Once its connection is ended, a user is replied nothing.
+pub fn nothing_follows_a_close()
+    ensures { (config : Configuration) (first count : ℕ) (before later : List Event) (user : ℕ) →
+        Has (gave (opening config first count) before) (Close user) →
+        replies_to user (gave (after (opening config first count) before) later) ≡ [] }
+{}
