@@ -12,22 +12,22 @@ ghost use Rattle.nop_types.specs.Lists.{Has};
 /// each and in order. Where one asks for an op, its reply is the form of a result that the desk told for a ticket, under which it took this
 /// op for this user. Behind them is nothing, or why the gateway ended the connection.
 pub fn replies_are_of_requests()
-    ensures { (config : Configuration) (first count : ℕ) (before later : List Event) (user : ℕ) →
-        is_new (after (opening config first count) before) user ≡ true →
-        IsServedFrom (opening config first count) before later user }
+    ensures { (config : Configuration) (first count : ℕ) (before later : List Event)
+        (user : ℕ) → is_new (after (opening config first count) before) user ≡ true
+        → IsServedFrom (opening config first count) before later user }
 {}
 
 /// Who is not connected is replied nothing until it connects.
 pub fn nobody_else_is_replied_to()
-    ensures { (config : Configuration) (first count : ℕ) (before later : List Event) (user : ℕ) →
-        session_of (after (opening config first count) before) user ≡ None →
-        IsNoOpeningOf user later →
-        replies_to user (gave (after (opening config first count) before) later) ≡ [] }
+    ensures { (config : Configuration) (first count : ℕ) (before later : List Event)
+        (user : ℕ) → session_of (after (opening config first count) before) user ≡ None
+        → IsNoOpeningOf user later
+        → replies_to user (gave (after (opening config first count) before) later) ≡ [] }
 {}
 
 /// Once its connection is ended, a user is replied nothing.
 pub fn nothing_follows_a_close()
-    ensures { (config : Configuration) (first count : ℕ) (before later : List Event) (user : ℕ) →
-        Has (gave (opening config first count) before) (Close user) →
-        replies_to user (gave (after (opening config first count) before) later) ≡ [] }
+    ensures { (config : Configuration) (first count : ℕ) (before later : List Event)
+        (user : ℕ) → Has (gave (opening config first count) before) (Close user)
+        → replies_to user (gave (after (opening config first count) before) later) ≡ [] }
 {}
