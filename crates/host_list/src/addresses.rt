@@ -8,8 +8,8 @@ ghost use Rattle.host_list.specs.Places.{has_address, is_address};
 
 use std::net::SocketAddr;
 
-/// The address that a word spells.
-pub(crate) fn spelled_address(word: &[u8]) -> Option<SocketAddr>
+/// The address that a word spells, as `IPV4:PORT` or `[IPV6]:PORT`.
+pub fn spelled_address(word: &[u8]) -> Option<SocketAddr>
     ensures { result ≡ spelled_address word.now }
 {
     match SocketAddr::parse_ascii(word) {

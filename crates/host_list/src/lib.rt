@@ -10,7 +10,8 @@
 //! one list, and one digest, which is computed from the list alone (`specs/Digests`). The words that are addresses are those of the
 //! library's grammar (`addresses_are_of_the_grammar`).
 //!
-//! Calls: `read`; `HostList::cluster`, `config`, `address_of`, `actor_of`, `digest`; `Refusal` and `Rule::number`.
+//! Calls: `read`; `HostList::cluster`, `config`, `address_of`, `actor_of`, `digest`; `Refusal` and `Rule::number`; `spelled_address`, for
+//! addresses that stand elsewhere.
 //!
 //! To read in this order: `rule`, `list`, `words`, `places`, `addresses`, `entry`, `found`, `counts`, `reading`, `digest`, `laws`;
 //! then `specs/Words`, `Addresses`, `Places`, `Reading`, `Lists`, `Digests`.
@@ -28,6 +29,7 @@ mod reading;
 mod rule;
 mod words;
 
+pub use addresses::spelled_address;
 pub use laws::{
     addresses_are_apart, addresses_are_of_the_grammar, lists_say_what_lines_say, names_are_apart,
     order_says_nothing,

@@ -3,7 +3,8 @@ use Rattle.std.proofs.Common.{ℕ, List, Option, rules}
 use Rattle.host_list.specs.declared.rule.Refusal.{Refusal}
 use Rattle.outside.specs.Prefixes.{AppendsPrefix}
 use Rattle.udp_node.proofs.EffectLemmas.{Appends_none}
-use Rattle.hosted.specs.Texts.{refusal_line, usage_line}
+use Rattle.host_places.specs.Refusals.{refusal_line}
+use Rattle.hosted.specs.Texts.{usage_line}
 
 pub no_usage : (program : List ℕ) (h : Option (List ℕ)) → AppendsPrefix h h (usage_line program)
 unfolding usage_line

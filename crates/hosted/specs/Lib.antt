@@ -1,5 +1,4 @@
 pub mod Actors
 pub mod Arguments
 pub mod Plans
-pub mod Tables
 pub mod Texts

@@ -6,6 +6,7 @@ use Rattle.host_list.specs.Lists.{address_with}
 use Rattle.host_list.specs.Reading.{list_of}
 use Rattle.host_list.specs.declared.list.HostList.{HostList}
 use Rattle.host_list.specs.declared.rule.Refusal.{Refusal}
+use Rattle.host_places.specs.Tables.{address_in}
 use Rattle.command_line.specs.Commands.{command_of, texts_of}
 use Rattle.command_line.specs.declared.command.Command.{Command}
 use Rattle.command_line.specs.declared.command.Command.TheVariants.{Node, Sequencer, Controller, Client, Observer}
@@ -14,7 +15,6 @@ use Rattle.udp_node.specs.declared.address.Address.{Address}
 use Rattle.hosted.specs.Actors.{named}
 use Rattle.hosted.specs.Arguments.{Asked, own_words}
 use Rattle.hosted.specs.declared.plans.Plan.{Plan}
-use Rattle.hosted.specs.declared.plans.TheConstants.{BASE}
 use Rattle.hosted.specs.declared.unfit.Unfit.{Unfit}
 use Rattle.hosted.specs.declared.unfit.Unfit.TheVariants as unfits
 
@@ -27,10 +27,6 @@ if_listed list (Some actor) = if is_some (address_with list actor) then Some act
 -- the actor with this name, if the list has an address for it
 abbrev pub listed : HostList → List ℕ → Option Actor
 listed list name = if_listed list (named list.config name)
-
--- the actor among those of the list
-abbrev pub address_in : HostList → Actor → Address
-address_in list actor = record { base = BASE; own = actor; config = list.config }
 
 -- ---- a command
 

@@ -1,23 +1,17 @@
 -- What the user is told where nothing is run, and with what status the program ends then.
-use Rattle.std.specs.Prelude.{◌≡◌, ℕ, List, [], ◌∷◌, ◌++◌, Option, codes, decimal}
+use Rattle.std.specs.Prelude.{◌≡◌, ℕ, List, [], ◌∷◌, ◌++◌, Option, codes}
 use Rattle.std.specs.Io.KnownBytes.{Appends}
 use Rattle.commands.specs.declared.status.Status.{Status}
 use Rattle.commands.specs.declared.status.Status.TheVariants as statuses
-use Rattle.host_list.specs.Reading.{rule_number}
 use Rattle.host_list.specs.declared.rule.Refusal.{Refusal}
 use Rattle.outside.specs.Prefixes.{AppendsPrefix}
-use Rattle.transcript_text.specs.LineText.{line_of}
+use Rattle.host_places.specs.Refusals.{refusal_line}
 use Rattle.hosted.specs.declared.unfit.Unfit.{Unfit}
 use Rattle.hosted.specs.declared.unfit.Unfit.TheVariants as unfits
 
 -- by the name of the program
 unfoldable pub usage_line : List ℕ → List ℕ
 usage_line program = codes "usage: " ++ (program ++ (codes " LIST [--marks FOLDER] ACTOR [OPTION..] [OP..]" ++ 10 ∷ []))
-
--- the first line that breaks a rule, and the rule
-unfoldable pub refusal_line : Refusal → List ℕ
-refusal_line refusal =
-    line_of (codes "error") (codes "line" ∷ decimal refusal.line ∷ codes "rule" ∷ decimal (rule_number refusal.rule) ∷ [])
 
 -- the line was written, and the status is 2; or only a front of it, where a write failed or memory ran out
 abbrev pub Tells : List ℕ → Option (List ℕ) → Option (List ℕ) → Status → Type 0

@@ -12,20 +12,18 @@
 //! (`planned`, in `specs/Plans`); that the words that run it are those of its command, with the list's counts, and then the user's
 //! (`own_words`), and that the command that `command_line` reads in them is the one of this actor (`runs_own`): where it is not, the
 //! words are not taken. Of a list that is refused the line and the rule are told, and else the usage line, with status 2, or 4 exactly
-//! where a write failed (`Ends`, in `specs/Texts`). The table of places has for each actor of the list its address, under the port
-//! that nodes send to (`places_of`, in `specs/Tables`). The run is a call of `commands::run` as it is, so its clauses hold of it. No
-//! contract says what a file holds: that status 3 means that the list could not be read, 5 that a mark was there, and that the
-//! number of a process is drawn, is only tested.
+//! where a write failed (`Ends`, in `specs/Texts`). Who is where, is said at the head of `host_places`. The run is a call of
+//! `commands::run` as it is, so its clauses hold of it. No contract says what a file holds: that status 3 means that the list could
+//! not be read, and 5 that a mark was there, is only tested.
 //!
-//! Calls: `run_hosted`. Files: `actors` (which actor), `arguments` (what is asked for), `unfit`, `plans` (who is to run), `tables` (who
-//! is where), `texts` (lines for the user), `running`.
+//! Calls: `run_hosted`. Files: `actors` (which actor), `arguments` (what is asked for), `unfit`, `plans` (who is to run), `texts`
+//! (lines for the user), `running`.
 #![tactic(auto)]
 
 mod actors;
 mod arguments;
 mod plans;
 mod running;
-mod tables;
 mod texts;
 mod unfit;
 

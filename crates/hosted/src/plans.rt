@@ -3,21 +3,17 @@
 ghost use Rattle.std.specs.Prelude.{◌≡◌, IfOk};
 ghost use Rattle.command_line.specs.Commands.{command_of, texts_of};
 ghost use Rattle.hosted.specs.Arguments.{asked_of};
-ghost use Rattle.hosted.specs.Plans.{PlanIs, address_in, is_own, is_site, listed, runs_own};
+ghost use Rattle.hosted.specs.Plans.{PlanIs, is_own, is_site, listed, runs_own};
 
 use crate::actors::named;
 use crate::arguments::{Task, words_of};
 use crate::unfit::Unfit;
 use command_line::{Command, Site, read_words};
 use host_list::HostList;
+use host_places::address_in;
 use nop_types::{Actor, NoMemory};
 use std::alloc::Global;
-use udp_node::{Address, BasePort};
-
-/// The port of replica 0. With a list of hosts ports are only the names of actors.
-pub const BASE: u16 = 41000;
-
-const _: () = prove!(BASE == 41000);
+use udp_node::Address;
 
 /// Who is to run: the list, the actor in it, and the words by which `commands` runs it.
 #[derive(Drop)]
@@ -37,18 +33,6 @@ fn listed(list: &HostList, name: &[u8]) -> Option<Actor>
     } else {
         None
     }
-}
-
-/// The address of an actor among the actors of a list.
-fn address_in(list: &HostList, actor: Actor) -> Option<Address>
-    ensures { result ≡ Some (address_in list.now actor) }
-{
-    let base = BasePort::new(BASE)?;
-    Some(Address {
-        base,
-        own: actor,
-        config: list.config(),
-    })
 }
 
 /// Whether a site has the base port of an address, and as many replicas and sequencers.

@@ -2,49 +2,22 @@
 
 use crate::arguments::{Task, task_of};
 use crate::plans::{Plan, plan_of};
-use crate::tables::places_of;
 use crate::texts::{write_unfit, write_usage};
-use admission::Own;
 use commands::{Status, run};
-use host_list::HostList;
-use nop_types::{Actor, Host};
+use host_places::{is_marked, own_of, places_of};
+use nop_types::Host;
 use standard_io::{StandardIn, StandardOut};
 use std::fs;
-use std::io::{self, ErrorKind};
+use std::io::ErrorKind;
 use std::process::ExitCode;
-use std::random::RandomSource;
 use udp_ports::{Home, SystemClock, UdpPorts};
-
-/// Makes the mark of an actor, which may not be there yet. Both the file and the folder are on the disk then.
-fn make_mark(rt: &HostRuntime, folder: &str, mark: &str) -> io::Result<()> {
-    fs::File::create_new(rt, mark)?.sync_all()?;
-    fs::File::open(rt, folder)?.sync_all()
-}
-
-/// Whether the mark of an actor was made.
-fn is_marked(rt: &HostRuntime, folder: &str, cluster: u64, actor: &str) -> bool {
-    match format!(in rt.alloc(); "{folder}/{cluster}-{actor}") {
-        Ok(mark) => make_mark(rt, folder, mark.as_str()).is_ok(),
-        Err(_) => false,
-    }
-}
-
-/// What tells the process from others under the number of its actor.
-fn own_of(rt: &HostRuntime, list: &HostList, actor: Actor) -> Option<Own> {
-    let mut drawn = [0u8; 8];
-    rt.fill_bytes(&mut drawn).ok()?;
-    Some(Own {
-        actor,
-        digest: list.digest(),
-        process: u64::from_be_bytes(drawn),
-    })
-}
 
 /// Runs an actor at its place.
 fn run_at<H: Host>(rt: &HostRuntime, program: &str, words: &[String], home: Home<'_>) -> Status {
     let mut source = StandardIn::new(rt.reader());
     let mut sink = StandardOut::new(std::io::writer(rt));
-    let mut ports = UdpPorts::at_hosts(rt, rt.alloc(), home);
+    let homes = [home];
+    let mut ports = UdpPorts::at_hosts(rt, rt.alloc(), &homes);
     let mut clock = SystemClock::new(rt);
     run::<H, _, _, _, _>(
         rt.alloc(),

@@ -3,15 +3,16 @@
 ghost use Rattle.std.specs.Prelude.{◌≡◌, IfOk};
 ghost use Rattle.outside.specs.Causes.{CountsWhere};
 ghost use Rattle.commands.specs.declared.status.Status.TheVariants.{WriteFault};
-ghost use Rattle.hosted.specs.Texts.{Ends, Tells, refusal_line, usage_line};
+ghost use Rattle.host_places.specs.Refusals.{refusal_line};
+ghost use Rattle.hosted.specs.Texts.{Ends, Tells, usage_line};
 
 use crate::unfit::Unfit;
 use commands::Status;
 use host_list::Refusal;
+use host_places::refusal_line;
 use nop_types::NoMemory;
 use outside::{Sink, WriteError, write_all};
 use std::alloc::Global;
-use transcript_text::{Field, write_line};
 
 /// What stands behind the program's name in the usage line.
 const WORDS: &str = " LIST [--marks FOLDER] ACTOR [OPTION..] [OP..]\n";
@@ -36,21 +37,6 @@ fn usage_line(alloc: Global, program: &str) -> Result<Vec<u8>, NoMemory>
     let mut line = Vec::from_slice(alloc, b"usage: ")?;
     line.extend_from_slice(program.as_bytes())?;
     line.extend_from_slice(WORDS.as_bytes())?;
-    Ok(line)
-}
-
-#[tactic(auto, unfolding(crate::specs::Texts::refusal_line))]
-fn refusal_line(alloc: Global, refusal: Refusal) -> Result<Vec<u8>, NoMemory>
-    ensures { IfOk result (λ line. line.items ≡ refusal_line refusal) }
-{
-    let fields = [
-        Field::Word("line"),
-        Field::Number(refusal.line as u64),
-        Field::Word("rule"),
-        Field::Number(u64::from(refusal.rule.number())),
-    ];
-    let mut line = Vec::new(alloc);
-    write_line("error", &fields, &mut line)?;
     Ok(line)
 }
 

@@ -1,5 +1,5 @@
 -- Who has which number, as far as a link was told, and whether its own process may have its own.
-use Rattle.std.specs.Prelude.{◌≡◌, ◌≢◌, ◌⊎◌, ℕ, List, map, Option, Some, None, Ok}
+use Rattle.std.specs.Prelude.{◌≡◌, ◌≢◌, ◌⊎◌, ℕ, List, map, find, Bool, true, false, ◌==◌, Option, Some, None, Ok}
 use Rattle.nop_types.specs.Lists.{Has}
 use Rattle.nop_types.specs.declared.limits.TheConstants.{MAX_SERVED}
 use Rattle.nop_types.specs.declared.output.Actor.{Actor}
@@ -66,11 +66,26 @@ pub record IsAdmitted (own : Own) (actors : List Actor) (guard : Guard) : Type 0
   pub standing : guard.admission.standing ≡ Admitted
   pub noted : ByMost own ran.events guard.admission
 
--- a link at a port: with no home without a guard; else the port is the home's, and the process was admitted
-abbrev pub MayAttach : Option Home → ℕ → Option Guard → Type 0
-MayAttach None port guard = guard ≡ None
-MayAttach (Some home) port None = ⊥
-MayAttach (Some home) port (Some guard) = (port ≡ home.port) × IsAdmitted home.own (actors_at home.places.now) guard
+-- the first home with this port
+abbrev pub home_at : ℕ → List Home → Option Home
+home_at port homes = find (λ home. home.port == port) homes
+
+-- the guard of a link at a home: where a number is claimed, that of a process that was admitted; where links only listen, none
+abbrev pub IsGuarded : Bool → Home → Option Guard → Type 0
+IsGuarded false home guard = guard ≡ None
+IsGuarded true home None = ⊥
+IsGuarded true home (Some guard) = IsAdmitted home.own (actors_at home.places.now) guard
+
+-- a link at the port of one of the homes
+pub record Attaches (homes : List Home) (claims : Bool) (port : ℕ) (guard : Option Guard) : Type 0 where
+  pub home : Home
+  pub at : home_at port homes ≡ Some home
+  pub guarded : IsGuarded claims home guard
+
+-- a link at a port: with no homes at any, without a guard; else at that of a home
+abbrev pub MayAttach : Option (List Home) → Bool → ℕ → Option Guard → Type 0
+MayAttach None claims port guard = guard ≡ None
+MayAttach (Some homes) claims port guard = Attaches homes claims port guard
 
 -- the guard of a link goes on, where it has one
 abbrev pub MayGoOn : Option Guard → Option Guard → Type 0

@@ -1,8 +1,10 @@
 -- The places of actors: where a datagram to a port goes, and from whom one came.
-use Rattle.std.specs.Prelude.{◌≡◌, ℕ, List, [], ◌∷◌, Bool, true, false, nat_eq, ◌==◌, ◌&&◌, find, Option, Some, None, option_map}
+use Rattle.std.specs.Prelude.{◌≡◌, ℕ, List, [], ◌∷◌, Bool, true, false, not, nat_eq, ◌==◌, ◌&&◌, ◌||◌, find, Option, Some, None, option_map}
+use Rattle.std.specs.Result.{is_ok}
 use Rattle.std.specs.Cmp.Lexicographic.{pointwise}
 use Rattle.std.specs.declared.net.socket_addr.SocketAddr.{SocketAddr}
 use Rattle.std.specs.declared.net.socket_addr.SocketAddr.TheVariants.{V4, V6}
+use Rattle.admission.specs.Greetings.{reading}
 use Rattle.datagram_sources.specs.Sources.{comes_from}
 use Rattle.udp_ports.specs.declared.places.Place.{Place}
 use Rattle.udp_ports.specs.declared.places.Source.{Source}
@@ -55,6 +57,15 @@ may_send (sources.Port port) bytes = true
 may_send (sources.Known p) bytes = comes_from bytes p.actor
 may_send sources.Unknown bytes = false
 
--- the bytes came from an address whose actor may send them
-abbrev pub IsHeard : Option (List Place) → List ℕ → Type 0
-IsHeard places bytes = (from : SocketAddr) × (may_send (source_of places from) bytes ≡ true)
+-- someone whose place is known greets
+abbrev pub greets : Source → List ℕ → Bool
+greets (sources.Known p) bytes = is_ok (reading bytes)
+greets source bytes = false
+
+-- what a link hears: what the sender may send; and one without a guard, which asks nobody itself, greetings too
+abbrev pub is_heard : Bool → Source → List ℕ → Bool
+is_heard guarded source bytes = may_send source bytes || (not guarded && greets source bytes)
+
+-- the bytes came from an address from which such a link hears them
+abbrev pub IsHeard : Bool → Option (List Place) → List ℕ → Type 0
+IsHeard guarded places bytes = (from : SocketAddr) × (is_heard guarded (source_of places from) bytes ≡ true)

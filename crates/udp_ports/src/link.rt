@@ -8,17 +8,18 @@ ghost use Rattle.resending.specs.Repeating.{IsRequest, repeated};
 ghost use Rattle.udp_ports.specs.Guards.{MayGoOn};
 ghost use Rattle.udp_ports.specs.Places.{IsHeard};
 ghost use Rattle.udp_ports.specs.Turns.{AdmitsPart, HeedsAck};
-ghost use Rattle.std.specs.Option.{option_copied};
+ghost use Rattle.std.specs.Option.{is_some, option_copied};
 
 use crate::flows::Flows;
 use crate::guard::Guard;
 use crate::parts::is_part;
-use crate::places::{Source, may_send, sender};
+use crate::places::{Source, is_heard, sender};
 use crate::socket::{Patience, Socket};
 use nop_types::Bytes;
 use outside::{Link, LinkError};
 use resending::{Ack, MOST_WINDOW, Receipts, Repeats, is_request, name_of};
 use std::alloc::Global;
+use std::os::fd::{AsRawFd, RawFd};
 use std::time::Clock;
 
 /// How many acknowledgements a poll reads at most: as many as it may have caused, with six parts to each of six ports.
@@ -149,7 +150,7 @@ fn repeat<R: Clock>(repeats: &mut Repeats, socket: &Socket<'_, R>)
     }
 }
 
-/// The next datagram that is no greeting and no acknowledgement, and that its sender may send.
+/// The next datagram that is heard: no acknowledgement, and no greeting where the link has a guard.
 fn receive<R: Clock>(
     socket: &mut Socket<'_, R>,
     guard: &mut Option<Guard>,
@@ -160,12 +161,14 @@ fn receive<R: Clock>(
     ensures short { IfOk result (λ r. IfSome r (λ datagram. length datagram
         ≤ MAX_DATAGRAM_BYTES)) }
     ensures heeded { IfOk result (λ r. IfSome r IsNoAck) }
-    ensures heard { IfOk result (λ r. IfSome r (IsHeard (option_copied socket.old.places))) }
+    ensures heard { IfOk result (λ r. IfSome r (IsHeard (is_some guard.old)
+        (option_copied socket.old.places))) }
     ensures settled { result ≡ Ok None → receipts.new ≡ all_settled receipts.old }
     ensures recorded { IfOk result (λ r. IfSome r (λ datagram. IsPart datagram
         → (from : ℕ) × (receipts.new ≡ recorded from (name_of datagram) receipts.old))) }
     ensures guard { MayGoOn guard.old guard.new }
 {
+    let guarded = guard.is_some();
     let mut patience = patience;
     for _ in 0..MOST_ACKS {
         let Some(received) = socket.receive(patience)? else {
@@ -180,7 +183,7 @@ fn receive<R: Clock>(
         {
             continue;
         }
-        if may_send(received.source, received.bytes.as_slice()) {
+        if is_heard(guarded, received.source, received.bytes.as_slice()) {
             acknowledge_part(socket, receipts, from, received.bytes.as_slice());
             return Ok(Some(received.bytes));
         }
@@ -230,6 +233,13 @@ impl<'a, R: Clock> UdpLink<'a, R> {
     /// Sends all that still waits, for a link that is not polled any more. It stays among what waits.
     pub(crate) fn send_rest(&self) {
         self.flows.send_rest(&self.socket);
+    }
+}
+
+/// For whoever waits until something comes at the link.
+impl<'a, R: Clock> AsRawFd for UdpLink<'a, R> {
+    fn as_raw_fd(&self) -> RawFd {
+        self.socket.as_raw_fd()
     }
 }
 

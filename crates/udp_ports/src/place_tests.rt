@@ -54,7 +54,8 @@ fn request(client: u8) -> [u8; 18] {
 #[test]
 fn strangers_are_not_heard(rt: HostRuntime) {
     let places = places(42900);
-    let mut ports = UdpPorts::at_hosts(&rt, rt.alloc(), home(42900, &places));
+    let homes = [home(42900, &places)];
+    let mut ports = UdpPorts::at_hosts(&rt, rt.alloc(), &homes);
     assert!(rt; ports.attach(42916).is_err() && ports.faults() == 1);
     let mut link = ports.attach(42900).expect(&rt, "a link");
     let stranger = UdpSocket::bind(&rt, address(3, 42916)).expect(&rt, "a socket");
@@ -78,7 +79,8 @@ fn strangers_are_not_heard(rt: HostRuntime) {
 #[test]
 fn greetings_are_answered(rt: HostRuntime) {
     let places = places(42901);
-    let mut ports = UdpPorts::at_hosts(&rt, rt.alloc(), home(42901, &places));
+    let homes = [home(42901, &places)];
+    let mut ports = UdpPorts::at_hosts(&rt, rt.alloc(), &homes);
     let mut link = ports.attach(42901).expect(&rt, "a link");
     let client = UdpSocket::bind(&rt, address(2, 42917)).expect(&rt, "a socket");
     client
@@ -115,4 +117,43 @@ fn greetings_are_answered(rt: HostRuntime) {
         };
         assert!(rt; answer == wanted);
     }
+}
+
+/// Links that only listen are attached where nobody answers, hear greetings as what else their senders may send, and answer none.
+#[test]
+fn listeners_claim_nothing(rt: HostRuntime) {
+    let places = [
+        place(1, 42902, Actor::Observer(0)),
+        place(2, 42918, Actor::Replica(0)),
+    ];
+    let homes = [Home {
+        places: &places,
+        port: 42902,
+        own: Own {
+            actor: Actor::Observer(0),
+            digest: DIGEST,
+            process: 1,
+        },
+    }];
+    let mut ports = UdpPorts::at_hosts(&rt, rt.alloc(), &homes).without_claims();
+    let mut link = ports.attach(42902).expect(&rt, "a link");
+    let replica = UdpSocket::bind(&rt, address(2, 42918)).expect(&rt, "a socket");
+    replica
+        .set_read_timeout(Some(Duration::from_millis(100)))
+        .expect(&rt, "a time-out");
+    let greeting = Greeting {
+        word: Word::Ask,
+        digest: DIGEST,
+        number: 0,
+        process: 5,
+    };
+    let to = address(1, 42902);
+    replica.send_to(&request(0), to).expect(&rt, "a send");
+    replica
+        .send_to(&greeting.to_bytes(), to)
+        .expect(&rt, "a send");
+    let datagram = received(&mut link, &rt).expect(&rt, "a greeting");
+    assert!(rt; datagram.as_slice() == greeting.to_bytes().as_slice());
+    let mut buf = [0u8; 64];
+    assert!(rt; replica.recv_from(&mut buf).is_err());
 }

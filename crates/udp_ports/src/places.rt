@@ -3,8 +3,9 @@
 ghost use Rattle.std.specs.Prelude.{◌≡◌, find};
 ghost use Rattle.std.specs.Option.{option_copied};
 ghost use Rattle.udp_ports.specs.Places.{address_of, at_address, at_port, loopback, same_address};
-ghost use Rattle.udp_ports.specs.Places.{may_send, sender, source_of};
+ghost use Rattle.udp_ports.specs.Places.{greets, is_heard, may_send, sender, source_of};
 
+use admission::Greeting;
 use datagram_sources::comes_from;
 use nop_types::Actor;
 use std::net::{Ipv4Addr, SocketAddr, SocketAddrV4};
@@ -90,7 +91,7 @@ pub(crate) fn sender(source: Source) -> Option<u16>
 }
 
 /// Whether the sender may send these bytes. With no table of places anyone may.
-pub(crate) fn may_send(source: Source, bytes: &[u8]) -> bool
+fn may_send(source: Source, bytes: &[u8]) -> bool
     ensures { result ≡ may_send source bytes.now }
 {
     match source {
@@ -98,4 +99,21 @@ pub(crate) fn may_send(source: Source, bytes: &[u8]) -> bool
         Source::Known(place) => comes_from(bytes, place.actor),
         Source::Unknown => false,
     }
+}
+
+/// Whether someone whose place is known greets by these bytes.
+fn greets(source: Source, bytes: &[u8]) -> bool
+    ensures { result ≡ greets source bytes.now }
+{
+    match source {
+        Source::Known(_) => Greeting::read(bytes).is_ok(),
+        _ => false,
+    }
+}
+
+/// Whether a link hears these bytes. One without a guard, which asks nobody itself, hears greetings too.
+pub(crate) fn is_heard(guarded: bool, source: Source, bytes: &[u8]) -> bool
+    ensures { result ≡ is_heard guarded source bytes.now }
+{
+    may_send(source, bytes) || (!guarded && greets(source, bytes))
 }

@@ -1,5 +1,6 @@
-ghost use Rattle.std.specs.Prelude.{◌≡◌, ◌≤◌, [], IfOk, vec_len, vec_capacity};
-ghost use Rattle.udp_ports.specs.Guards.{MayAttach};
+ghost use Rattle.std.specs.Prelude.{◌≡◌, ◌≤◌, [], true, false, Some, None, IfOk, vec_len, vec_capacity};
+ghost use Rattle.std.specs.Option.{option_copied};
+ghost use Rattle.udp_ports.specs.Guards.{MayAttach, home_at};
 
 use crate::UdpLink;
 use crate::guard::{Guard, Home, admit};
@@ -11,12 +12,16 @@ use std::net::Net;
 use std::time::Clock;
 
 /// The ports of the loopback address, or those of a table of places, with a count of the attaches that failed. Of the links that are
-/// attached together only the first waits when it is polled, so a turn of a cluster waits once and not for each of its actors.
+/// attached together only the first waits when it is polled, so a turn of a cluster waits once and not for each of its actors; and none
+/// where something else waits for what comes at them (`without_waits`). At a place of a table a number is claimed, unless links only
+/// listen there (`without_claims`).
 #[derive(Drop)]
 pub struct UdpPorts<'a, R: Net + Clock> {
     net: &'a R,
     alloc: Global,
-    home: Option<Home<'a>>,
+    homes: Option<&'a [Home<'a>]>,
+    may_wait: bool,
+    claims: bool,
     attached: usize,
     detached: Vec<UdpLink<'a, R>>,
     faults: u64,
@@ -24,9 +29,17 @@ pub struct UdpPorts<'a, R: Net + Clock> {
     ghost room: { attached ≤ vec_capacity detached },
 }
 
+/// The home whose port this is.
+fn home_at<'b, 'a>(homes: &'b [Home<'a>], port: u16) -> Option<&'b Home<'a>>
+    ensures { option_copied result ≡ home_at port homes.now }
+{
+    homes.iter().find(|home| home.port == port)
+}
+
 impl<'a, R: Net + Clock> UdpPorts<'a, R> {
     /// Nothing is attached.
     pub fn new(net: &'a R, alloc: Global) -> UdpPorts<'a, R>
+        ensures homes { result.homes ≡ None }
         ensures attached { result.attached ≡ 0 }
         ensures detached { result.detached.items ≡ [] }
         ensures faults { result.faults ≡ 0 }
@@ -34,16 +47,20 @@ impl<'a, R: Net + Clock> UdpPorts<'a, R> {
         UdpPorts {
             net,
             alloc,
-            home: None,
+            homes: None,
+            may_wait: true,
+            claims: true,
             attached: 0,
             detached: Vec::new(alloc),
             faults: 0,
         }
     }
 
-    /// Nothing is attached. Only the own port can be, at the address that the table of places has for it, and only where the others
-    /// say that the process may have its number. The link takes only what comes from an address of the table.
-    pub fn at_hosts(net: &'a R, alloc: Global, home: Home<'a>) -> UdpPorts<'a, R>
+    /// Nothing is attached. Only the ports of the own homes can be, each at the address that its table of places has for it, and only
+    /// where the others say that the process may have its number. The link takes only what comes from an address of the table.
+    pub fn at_hosts(net: &'a R, alloc: Global, homes: &'a [Home<'a>]) -> UdpPorts<'a, R>
+        ensures homes { option_copied result.homes ≡ Some homes.entry.now }
+        ensures claims { result.claims ≡ true }
         ensures attached { result.attached ≡ 0 }
         ensures detached { result.detached.items ≡ [] }
         ensures faults { result.faults ≡ 0 }
@@ -51,11 +68,42 @@ impl<'a, R: Net + Clock> UdpPorts<'a, R> {
         UdpPorts {
             net,
             alloc,
-            home: Some(home),
+            homes: Some(homes),
+            may_wait: true,
+            claims: true,
             attached: 0,
             detached: Vec::new(alloc),
             faults: 0,
         }
+    }
+
+    /// The same ports, of which no link waits when it is polled.
+    pub fn without_waits(self) -> UdpPorts<'a, R>
+        ensures waits { result.may_wait ≡ false }
+        ensures homes { result.homes ≡ self.entry.homes }
+        ensures claims { result.claims ≡ self.entry.claims }
+        ensures attached { result.attached ≡ self.entry.attached }
+        ensures detached { result.detached.items ≡ self.entry.detached.items }
+        ensures faults { result.faults ≡ self.entry.faults }
+    {
+        let mut ports = self;
+        ports.may_wait = false;
+        ports
+    }
+
+    /// The same ports, at which links only listen: nobody is asked whether the process may have its number, so that none is used up,
+    /// and nothing is answered to who asks.
+    pub fn without_claims(self) -> UdpPorts<'a, R>
+        ensures claims { result.claims ≡ false }
+        ensures homes { result.homes ≡ self.entry.homes }
+        ensures waits { result.may_wait ≡ self.entry.may_wait }
+        ensures attached { result.attached ≡ self.entry.attached }
+        ensures detached { result.detached.items ≡ self.entry.detached.items }
+        ensures faults { result.faults ≡ self.entry.faults }
+    {
+        let mut ports = self;
+        ports.claims = false;
+        ports
     }
 
     fn socket_at(
@@ -69,24 +117,28 @@ impl<'a, R: Net + Clock> UdpPorts<'a, R> {
         }
     }
 
-    /// A socket at a port; at that of a home, where the process may have its number.
+    /// A socket at a port; at that of a home, where the process may have its number, or links only listen.
     fn open(&self, port: u16) -> Result<(Socket<'a, R>, Option<Guard>), AttachError>
-        ensures { IfOk result (λ opened. MayAttach self.now.home port opened.1) }
+        ensures { IfOk result (λ opened. MayAttach (option_copied self.now.homes) self.now.claims port opened.1) }
     {
-        let Some(home) = self.home else {
+        let Some(homes) = self.homes else {
             return Ok((self.socket_at(None, port)?, None));
         };
-        if port != home.port {
+        let Some(home) = home_at(homes, port) else {
             return Err(AttachError::Failed);
-        }
+        };
         let mut socket = self.socket_at(Some(home.places), port)?;
-        let guard = admit(self.alloc, &mut socket, home)?;
+        if !self.claims {
+            return Ok((socket, None));
+        }
+        let guard = admit(self.alloc, &mut socket, *home)?;
         Ok((socket, Some(guard)))
     }
 
-    /// A link at a port; at that of a home, one of a process that was admitted.
+    /// A link at a port; at that of a home, one of a process that was admitted, or one that only listens.
     fn link_at(&self, port: u16, waits: bool) -> Result<UdpLink<'a, R>, AttachError>
-        ensures guard { IfOk result (λ link. MayAttach self.now.home port link.guard) }
+        ensures guard { IfOk result (λ link. MayAttach (option_copied self.now.homes) self.now.claims
+            port link.guard) }
         ensures port { IfOk result (λ link. link.port ≡ port) }
         ensures faults { IfOk result (λ link. link.faults ≡ 0) }
         ensures losses { IfOk result (λ link. link.losses ≡ 0) }
@@ -112,7 +164,7 @@ impl<'a, R: Net + Clock> Ports for UdpPorts<'a, R> {
     fn attach(&mut self, port: u16) -> Result<UdpLink<'a, R>, AttachError> {
         let others = self.attached - self.detached.len();
         self.detached.reserve(others + 1)?;
-        let link = match self.link_at(port, others == 0) {
+        let link = match self.link_at(port, self.may_wait && others == 0) {
             Ok(link) => link,
             Err(AttachError::NoMemory) => return Err(AttachError::NoMemory),
             Err(AttachError::Failed) => {

@@ -11,6 +11,7 @@ use outside::LinkError;
 use std::alloc::Global;
 use std::io::ErrorKind;
 use std::net::{Net, UdpSocket};
+use std::os::fd::{AsRawFd, RawFd};
 use std::time::{Clock, Duration};
 use std::{io, mem, thread};
 
@@ -63,6 +64,12 @@ fn in_micros(time: Duration) -> Option<u64>
     ensures { SomeIff result (as_nanos time / 1_000 < 2 ^ 64) (as_nanos time / 1_000) }
 {
     u64::try_from(time.as_micros()).ok()
+}
+
+impl<'a, R: Clock> AsRawFd for Socket<'a, R> {
+    fn as_raw_fd(&self) -> RawFd {
+        self.socket.as_raw_fd()
+    }
 }
 
 impl<'a, R: Clock> Socket<'a, R> {

@@ -14,8 +14,8 @@ loop-preserved-then-greet g c = (
   ),
 )
 
-pub returns-then-may_send-clause-guard : goal.returns-then-may_send-clause-guard
-returns-then-may_send-clause-guard g c =
+pub returns-then-is_heard-clause-guard : goal.returns-then-is_heard-clause-guard
+returns-then-is_heard-clause-guard g c =
     may_and_then c.args.guard.now c.loop.guard c.greet.new.guard c.loop.invariant.1.1 c.greet.ensures
 
 pub loop-preserved : goal.loop-preserved

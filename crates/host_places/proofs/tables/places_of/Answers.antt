@@ -1,8 +1,8 @@
 use Rattle.std.proofs.Common.{ℕ, ◌++◌, ap, ◌∙◌}
 use Rattle.nop_types.specs.declared.output.Actor.TheVariants.{Controller, Client}
-use Rattle.hosted.specs.Tables.{place_of}
-use Rattle.hosted.proofs.Below.{one_more}
-use Rattle.hosted.proofs.tables.places_of.Goals as goal
+use Rattle.host_places.specs.Tables.{place_of}
+use Rattle.host_places.proofs.Below.{one_more}
+use Rattle.host_places.proofs.tables.places_of.Goals as goal
 
 pub loop-controller-preserved : goal.loop-controller-preserved
 loop-controller-preserved c =

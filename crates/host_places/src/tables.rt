@@ -1,15 +1,32 @@
-//! The table of places that a list of hosts gives.
+//! The table of places that a list of hosts gives, and the address of an actor among its actors.
 
-ghost use Rattle.std.specs.Prelude.{◌≡◌, ◌++◌, IfOk, OnOk};
-ghost use Rattle.hosted.specs.Tables.{place_of, places_of};
+ghost use Rattle.std.specs.Prelude.{◌≡◌, ◌++◌, IfOk, OnOk, Some};
+ghost use Rattle.host_places.specs.Tables.{address_in, place_of, places_of};
 
 use host_list::HostList;
 use nop_types::{
     Actor, MAX_CLIENTS, MAX_CONTROLLERS, MAX_OBSERVERS, MAX_REPLICAS, MAX_SEQUENCERS, NoMemory,
 };
 use std::alloc::Global;
-use udp_node::Address;
+use udp_node::{Address, BasePort};
 use udp_ports::Place;
+
+/// The port of replica 0. With a list of hosts ports are only the names of actors.
+pub const HOSTS_BASE: u16 = 41000;
+
+const _: () = prove!(HOSTS_BASE == 41000);
+
+/// The address of an actor among the actors of a list.
+pub fn address_in(list: &HostList, actor: Actor) -> Option<Address>
+    ensures { result ≡ Some (address_in list.now actor) }
+{
+    let base = BasePort::new(HOSTS_BASE)?;
+    Some(Address {
+        base,
+        own: actor,
+        config: list.config(),
+    })
+}
 
 /// Adds the place of an actor, if the list has it.
 fn add(places: &mut Vec<Place>, list: &HostList, at: &Address, actor: Actor) -> Result<(), NoMemory>
@@ -27,11 +44,7 @@ fn add(places: &mut Vec<Place>, list: &HostList, at: &Address, actor: Actor) -> 
 }
 
 /// The places of all actors of a list, under the ports that nodes send to.
-pub(crate) fn places_of(
-    alloc: Global,
-    list: &HostList,
-    at: &Address,
-) -> Result<Vec<Place>, NoMemory>
+pub fn places_of(alloc: Global, list: &HostList, at: &Address) -> Result<Vec<Place>, NoMemory>
     ensures { IfOk result (λ places. places.items ≡ places_of at.now.base list.now) }
 {
     let mut places = Vec::new(alloc);

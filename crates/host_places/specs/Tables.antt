@@ -7,7 +7,13 @@ use Rattle.std.specs.declared.net.socket_addr.SocketAddr.{SocketAddr}
 use Rattle.host_list.specs.Lists.{address_with}
 use Rattle.host_list.specs.declared.list.HostList.{HostList}
 use Rattle.udp_node.specs.Ports.{port_of}
+use Rattle.udp_node.specs.declared.address.Address.{Address}
 use Rattle.udp_ports.specs.declared.places.Place.{Place}
+use Rattle.host_places.specs.declared.tables.TheConstants.{HOSTS_BASE}
+
+-- an actor among those of the list
+abbrev pub address_in : HostList → Actor → Address
+address_in list actor = record { base = HOSTS_BASE; own = actor; config = list.config }
 
 abbrev pub place_at : ℕ → Actor → Option SocketAddr → List Place
 place_at base actor None = []

@@ -4,7 +4,7 @@ use Rattle.std.proofs.Math.Numerals.{add-one}
 use Rattle.nop_types.specs.declared.output.Actor.{Actor}
 use Rattle.host_list.specs.declared.list.HostList.{HostList}
 use Rattle.udp_ports.specs.declared.places.Place.{Place}
-use Rattle.hosted.specs.Tables.{place_of, places_below}
+use Rattle.host_places.specs.Tables.{place_of, places_below}
 
 pub one_more : (base : ℕ) (list : HostList) (kind : ℕ → Actor) (n : ℕ) (before now after : List Place)
     → now ≡ before ++ places_below base list kind n → after ≡ now ++ place_of base list (kind n)

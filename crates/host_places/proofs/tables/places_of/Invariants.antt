@@ -1,7 +1,7 @@
 use Rattle.std.proofs.Common.{◌≡◌, ◌++◌}
 use Rattle.nop_types.specs.declared.output.Actor.TheVariants.{Replica, Sequencer, Client, Controller, Observer}
-use Rattle.hosted.specs.Tables.{places_below}
-use Rattle.hosted.proofs.tables.places_of.Given as goal
+use Rattle.host_places.specs.Tables.{places_below}
+use Rattle.host_places.proofs.tables.places_of.Given as goal
 
 abbrev pub invariant-loop-replica : goal.invariant-loop-replica
 invariant-loop-replica l = l.places.items ≡ l.initial.places.items ++ places_below l.fn.at.base l.fn.list Replica l.replica
