@@ -1,13 +1,18 @@
 #!/bin/bash
 # Watches a cluster of real processes with `watch`: the state that it shows, the length of which an observer has; the line of the view change
-# after the leader was killed; and each way in which it ends. It takes some ten seconds, leaves nothing behind, and ends with status 1 at any
-# difference.
+# after the leader was killed; what a screen shows; and each way in which it ends. Then one over a list of hosts, on addresses 127.0.1.1 to
+# 127.0.1.4, with `watch_hosts`. It takes some fifteen seconds, leaves nothing behind, and ends with status 1 at any difference.
 #
 #   checks/watch.sh              the nodes are those of crates/nopaxos/out/nopaxos, or of the file that NOPAXOS names
-#                                and it is crates/watch/out/watch, or the file that WATCH names
+#                                and it is crates/watch/out/watch, or the file that WATCH names; likewise nopaxos_hosts and HOSTS,
+#                                watch_hosts and WATCH_HOSTS
 . "$(dirname "$0")/common.bash" || exit 2
 needs "${NOPAXOS:-}" nopaxos -- replay
 nopaxos=$program
+needs "${HOSTS:-}" nopaxos_hosts
+nopaxos_hosts=$program
+needs "${WATCH_HOSTS:-}" watch_hosts
+watch_hosts=$program
 needs "${WATCH:-}" watch
 . checks/nodes.bash
 finds_ports
@@ -52,7 +57,7 @@ has_line() {
 }
 
 # ---- what is not taken
-usage='usage: watch PORT REPLICAS OBSERVER [--once] [--turns TURNS]'
+usage='usage: watch PORT REPLICAS OBSERVER [--once | --redraw] [--turns TURNS]'
 ends 2 "$usage"
 ends 2 "$usage" 1023 3 o0
 ends 2 "$usage" "$base" 4 o0
@@ -60,6 +65,7 @@ ends 2 "$usage" "$base" 3 o4
 ends 2 "$usage" "$base" 3 r0
 ends 2 "$usage" "$base" 3 o0 --once --turns 0
 ends 2 "$usage" "$base" 3 o0 --turns 5 --once
+ends 2 "$usage" "$base" 3 o0 --once --redraw
 
 # ---- no cluster: nothing is told
 ends 7 '' "$base" 3 o0 --once --turns 100
@@ -106,4 +112,58 @@ made=$((made + 1))
 timeout 60 "$program" "$base" 3 o0 --once > /dev/full 2> "$folder/err"
 status=$?
 [ "$status" = 4 ] || differs "on a full disk: status $status and not 4"
+
+# ---- on a screen the last lines stand alone
+clearing=$'\e[H\e[J'
+made=$((made + 1))
+timeout 60 "$program" "$base" 3 o0 --redraw --turns 2500 > "$folder/out" 2> "$folder/err"
+status=$?
+text=$(cat "$folder/out"; echo .)
+[ "$status" = 0 ] && [ "${text:0:6}" = "$clearing" ] || differs "a screen: status $status, '$(head -c 300 "$folder/out")'"
+echo "${text##*"$clearing"}" | head -n -1 > "$folder/screen"
+made=$((made + 1))
+{ [ "$(wc -l < "$folder/screen")" = 1 ] && grep -qx "view $number $number leader r[0-2] controller ctl synced .*" "$folder/screen"; } ||
+    differs "on the screen stands '$(cat "$folder/screen")'"
+stop
+
+# ---- nodes on several hosts: what is not taken
+program=$watch_hosts
+hosts=$folder/list
+{
+    echo 'cluster 7'
+    echo "r0 127.0.1.1:$base"
+    echo "s0 127.0.1.1:$((base + 8))"
+    echo "ctl 127.0.1.1:$((base + 12))"
+    echo "r1 127.0.1.2:$((base + 1))"
+    echo "r2 127.0.1.3:$((base + 2))"
+    echo "c0 127.0.1.4:$((base + 16))"
+    echo "o0 127.0.1.4:$((base + 32))"
+} > "$hosts"
+usage='usage: watch_hosts LIST OBSERVER [--once | --redraw] [--turns TURNS]'
+ends 2 "$usage"
+ends 2 "$usage" "$hosts"
+ends 2 "$usage" "$hosts" o1
+ends 2 "$usage" "$hosts" r0
+ends 2 "$usage" "$hosts" o0 --now
+ends 3 '' "$folder/none" o0
+echo 'r0 here' > "$folder/bad"
+ends 2 'error line 1 rule 4' "$folder/bad" o0
+
+# ---- a cluster on several hosts: a watch takes no number, so another one may follow
+nodes_of "$nopaxos_hosts"
+site=
+for name in r0 r1 r2 s0; do start "$name" "$hosts" "$name"; done
+start ctl "$hosts" ctl --install 0
+are_up r0 r1 r2 s0 ctl
+made=$((made + 1))
+timeout 60 "$nopaxos_hosts" "$hosts" c0 $put $put $put > "$folder/client" 2>&1 ||
+    differs "client 0: '$(tail -c 300 "$folder/client")'"
+for again in 1 2; do
+    made=$((made + 1))
+    timeout 60 "$program" "$hosts" o0 --once > "$folder/out" 2> "$folder/err"
+    status=$?
+    read -r _ view _ _ leader _ _ _ synced _ < <(tail -n 1 "$folder/out")
+    [ "$status" = 0 ] && [ ! -s "$folder/err" ] && [ "$leader" = "r$((view % 3))" ] && [ "$synced" -ge 3 ] ||
+        differs "watch $again of a list: status $status, '$(head -c 300 "$folder/out")'"
+done
 concludes

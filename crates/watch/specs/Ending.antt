@@ -13,13 +13,13 @@ use Rattle.watching.specs.declared.status.Status.TheVariants.{Usage}
 use Rattle.watch.specs.declared.call.Call.{Call}
 
 unfoldable pub usage_line : List ℕ
-usage_line = codes "usage: watch PORT REPLICAS OBSERVER [--once] [--turns TURNS]" ++ 10 ∷ []
+usage_line = codes "usage: watch PORT REPLICAS OBSERVER [--once | --redraw] [--turns TURNS]" ++ 10 ∷ []
 
 module _ (answers : Option (List PollAnswer)) (values : Option (List ℕ)) (before now : Option (List ℕ)) where
   -- the watch was made, and this is the status of its end
   pub record EndsWatch (c : Call) (status : Status) : Type 0 where
     pub ended : Result Bool WatchError
-    pub watched : WatchedBy c.asked.once c.asked.turns (opening c.at.config.replicas) answers values before now ended
+    pub watched : WatchedBy c.asked.once c.asked.turns (opening c.asked.redraws c.at.config.replicas) answers values before now ended
     pub is : status ≡ status_of ended
 
   -- the usage line was written; or a write failed in it

@@ -2,6 +2,7 @@
 //!
 //!     watch 47000 3 o0             until it is ended
 //!     watch 47000 3 o0 --once      one state
+//!     watch 47000 3 o0 --redraw    until it is ended, on a terminal: the last lines alone
 //!
 //! The arguments are the port of replica 0, how many replicas there are, and the observer at whose place it listens; replicas tell it
 //! what they were started with `--observers` for. It has no number that is used up, and sends nothing.

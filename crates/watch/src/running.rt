@@ -15,7 +15,8 @@ use outside::{Clock, Ports, Sink, WriteError, write_all};
 use std::alloc::Global;
 use watching::{Status, status_of, watch_cluster};
 
-const USAGE_LINE: &str = "usage: watch PORT REPLICAS OBSERVER [--once] [--turns TURNS]\n";
+const USAGE_LINE: &str =
+    "usage: watch PORT REPLICAS OBSERVER [--once | --redraw] [--turns TURNS]\n";
 
 #[tactic(auto, unfolding(crate::specs::Ending::usage_line))]
 fn write_usage<W: Sink>(sink: &mut W) -> Result<(), WriteError>
@@ -47,15 +48,6 @@ pub fn run<P: Ports, C: Clock, W: Sink>(
     };
     let (at, asked) = (call.at, call.asked);
     let port = at.port_of(at.own);
-    let ended = watch_cluster(
-        alloc,
-        at.config,
-        port,
-        asked.once,
-        asked.turns,
-        ports,
-        clock,
-        sink,
-    );
+    let ended = watch_cluster(alloc, at.config, port, asked, ports, clock, sink);
     Ok(status_of(ended))
 }

@@ -1,3 +1,4 @@
+mod Drawing
 mod LineTexts
 mod Showing
 mod Turning

@@ -7,11 +7,11 @@ use Rattle.nop_types.specs.Lists.{Has}
 use Rattle.nop_types.specs.Views.{outranks}
 use Rattle.nop_types.specs.declared.view.View.{View}
 use Rattle.lemmas.proofs.Members.{Has-append_left, Has-push}
-use Rattle.lemmas.proofs.Views.{outranks-true, outranks-false, outranks-from_ranks, same_View-from_ranks}
+use Rattle.lemmas.proofs.Views.{outranks-true, outranks-from_ranks}
 use Rattle.watching.specs.Laws.{known_in, length_in, rose, Told, telling_at, heard_at, told_in, IsTold, IsOfTold}
 use Rattle.watching.specs.Tellings.{told_by}
 use Rattle.watching.specs.Turns.{Turn, heard, after_turn, after_turns}
-use Rattle.watching.specs.Watching.{Watching, opening, hear, told, tick, tick_by, tick_if, show_if, seen_after, change_by, known_after, is_news, state_at}
+use Rattle.watching.specs.Watching.{Watching, opening, hear, told, tick, tick_by, tick_if, show_if, seen_after, change_by, is_news, state_at}
 use Rattle.watching.specs.Watching.{next_second}
 use Rattle.watching.specs.declared.lines.Change.{Change}
 use Rattle.watching.specs.declared.lines.State.{State}
@@ -164,5 +164,6 @@ turns_are xs w [] h = rw append-nil h
 turns_are xs w (t ∷ ts) h =
     rw (← append_assoc) (turns_are (xs ++ heard_at w t.now t.datagram) (after_turn w t).0 ts (turn_is xs w t h))
 
-pub known_is_told : (n : ℕ) (ts : List Turn) → IsOfTold (told_in (opening n) ts) (known_in (after_turns (opening n) ts).0.seen)
-known_is_told n ts = turns_are [] (opening n) ts refl
+pub known_is_told : (redraws : Bool) (n : ℕ) (ts : List Turn)
+    → IsOfTold (told_in (opening redraws n) ts) (known_in (after_turns (opening redraws n) ts).0.seen)
+known_is_told redraws n ts = turns_are [] (opening redraws n) ts refl

@@ -1,20 +1,19 @@
 -- Turns of a watch, one after another.
-use Rattle.std.proofs.Common.{◌≡◌, ℕ, zero, suc, ◌+◌, ◌-◌, ◌<◌, ◌≤◌, max, List, [], ◌∷◌, ◌++◌, drop, length, take, Bool, true, false, Option}
+use Rattle.std.proofs.Common.{◌≡◌, ℕ, suc, ◌+◌, ◌-◌, ◌<◌, ◌≤◌, max, List, [], ◌∷◌, ◌++◌, drop, length, take, Bool, true, false, Option}
 use Rattle.std.proofs.Common.{Some, None, Result, Ok, Err, refl, ap, sym, subst, ◌∙◌, append_assoc, append-nil, arith, length-append}
 use Rattle.std.specs.Io.KnownBytes.{Appends}
 use Rattle.std.specs.Option.{is_some}
 use Rattle.std.specs.Prelude.{⊤}
 use Rattle.std.proofs.KnownBytes.{Appends-nil, Appends-trans}
 use Rattle.std.proofs.Math.Seq.{take-append-add}
-use Rattle.nop_types.specs.Lists.{IsPrefixOf}
 use Rattle.outside.specs.Clocks.{ReadsTime, next_value, later_values}
 use Rattle.outside.specs.Links.{next_poll, poll_result, Polls}
 use Rattle.outside.specs.Prefixes.{AppendsPrefix, AppendsUpTo}
 use Rattle.outside.specs.declared.errors.DeviceError.TheVariants.{Failed}
 use Rattle.outside.specs.declared.link.PollAnswer.{PollAnswer}
 use Rattle.outside.specs.declared.link.PollAnswer.TheVariants.{Received, Nothing, Failure}
-use Rattle.watching.specs.Turns.{Turn, after_turn, after_turns, ends, is_failure, datagram_of, turn_at, turn_then, turns_from, turns_over}
-use Rattle.watching.specs.Turns.{AreTurns, AreFirstTurns, Turned, TurnBroke, TurnStopped, TurnRanOut, TurnEnds, Watched, Broke, Stopped, RanOut, WatchedBy}
+use Rattle.watching.specs.Turns.{Turn, after_turn, after_turns, ends, is_failure, datagram_of, turn_then, turns_from, turns_over}
+use Rattle.watching.specs.Turns.{AreTurns, AreFirstTurns, Turned, TurnEnds, Watched, WatchedBy}
 use Rattle.watching.specs.Watching.{Watching}
 use Rattle.watching.specs.declared.running.WatchError.{WatchError}
 use Rattle.watching.specs.declared.running.WatchError.TheVariants.{PortFault, LinkFault, WriteFault, NoMemory}

@@ -16,14 +16,17 @@ turns_of [] = Some (2 ^ 64 - 1)
 turns_of (option ∷ n ∷ []) = if is_text (codes "--turns") option then from_one n else None
 turns_of words = None
 
-abbrev pub asked_with : Bool → Option ℕ → Option Asked
-asked_with once None = None
-asked_with once (Some turns) = Some (record { once = once; turns = turns })
+abbrev pub asked_with : (once redraws : Bool) → Option ℕ → Option Asked
+asked_with once redraws None = None
+asked_with once redraws (Some turns) = Some (record { once = once; redraws = redraws; turns = turns })
 
-abbrev pub with_once : Bool → List (List ℕ) → Option Asked
-with_once once words = asked_with once (turns_of words)
+abbrev pub with_turns : (once redraws : Bool) → List (List ℕ) → Option Asked
+with_turns once redraws words = asked_with once redraws (turns_of words)
 
--- `--once` comes first
+-- `--once` or `--redraw` comes first
 abbrev pub asked_of : List (List ℕ) → Option Asked
-asked_of [] = with_once false []
-asked_of (option ∷ words) = if is_text (codes "--once") option then with_once true words else with_once false (option ∷ words)
+asked_of [] = with_turns false false []
+asked_of (option ∷ words) =
+    if is_text (codes "--once") option then with_turns true false words
+    else if is_text (codes "--redraw") option then with_turns false true words
+    else with_turns false false (option ∷ words)

@@ -1,12 +1,11 @@
 -- The lines of a watch, and what they are read back as.
 use Rattle.std.specs.Prelude.{ℕ, List, [], ◌∷◌, ◌++◌, length, slice_get, Option, Some, None, codes, decimal, ◌==◌, if◌then◌else◌}
-use Rattle.std.specs.List.{flat_map}
 use Rattle.nop_types.specs.Sessions.{home}
 use Rattle.nop_types.specs.Views.{leader_of}
 use Rattle.nop_types.specs.declared.output.Actor.TheVariants.{Controller, Replica}
 use Rattle.nop_types.specs.declared.view.View.{View}
 use Rattle.line_fields.specs.Fields.{number_of}
-use Rattle.transcript_text.specs.LineText.{after_space, line_of}
+use Rattle.transcript_text.specs.LineText.{line_of}
 use Rattle.transcript_text.specs.Transcript.{actor_text}
 use Rattle.watching.specs.declared.lines.Change.{Change}
 use Rattle.watching.specs.declared.lines.State.{State}

@@ -11,6 +11,7 @@ use Rattle.outside.specs.declared.errors.DeviceError.TheVariants.{Failed}
 use Rattle.outside.specs.declared.link.PollAnswer.{PollAnswer}
 use Rattle.outside.specs.declared.link.PollAnswer.TheVariants.{Received, Failure}
 use Rattle.watching.specs.Lines.{change_lines, state_lines}
+use Rattle.watching.specs.Screens.{drawn}
 use Rattle.watching.specs.Watching.{Watching, hear, tick}
 use Rattle.watching.specs.declared.lines.Change.{Change}
 use Rattle.watching.specs.declared.running.WatchError.{WatchError}
@@ -26,12 +27,17 @@ abbrev pub heard : Watching → ℕ → Option (List ℕ) → Watching × Option
 heard w now None = (w, None)
 heard w now (Some bytes) = hear w now bytes
 
--- a datagram is heard, and then it is so late; the line of a change comes before that of a state
+-- a datagram is heard, and then it is so late
+abbrev pub turned : Watching → Turn → Watching
+turned w t = (tick (heard w t.now t.datagram).0 t.now).0
+
+-- what a turn has to show: the line of a change comes before that of a state
+abbrev pub news : Watching → Turn → List ℕ
+news w t =
+    change_lines w.replicas (heard w t.now t.datagram).1 ++ state_lines w.replicas (tick (heard w t.now t.datagram).0 t.now).1
+
 abbrev pub after_turn : Watching → Turn → Watching × List ℕ
-after_turn w t = (
-  (tick (heard w t.now t.datagram).0 t.now).0,
-  change_lines w.replicas (heard w t.now t.datagram).1 ++ state_lines w.replicas (tick (heard w t.now t.datagram).0 t.now).1,
-)
+after_turn w t = (turned w t, drawn w.redraws (turned w t) (news w t))
 
 abbrev pub after_turns : Watching → List Turn → Watching × List ℕ
 after_turns w [] = (w, [])

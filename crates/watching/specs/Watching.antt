@@ -1,5 +1,6 @@
 -- What a watch keeps of what was told, and what it shows of it.
 use Rattle.std.specs.Prelude.{ℕ, ◌-◌, ◌*◌, ◌/◌, max, List, Bool, true, false, cond, not, Option, Some, None, nat_le, ◌==◌, ◌&&◌, ◌||◌}
+use Rattle.std.specs.Option.{option_or}
 use Rattle.nop_types.specs.Views.{outranks, is_view}
 use Rattle.fragments.specs.Joining.{Waiting}
 use Rattle.fragments.specs.Joining as joining
@@ -11,15 +12,25 @@ use Rattle.watching.specs.declared.seen.Seen.{Seen}
 use Rattle.watching.specs.declared.telling.Telling.{Telling}
 use Rattle.watching.specs.declared.seen.TheConstants.{SECOND_MILLIS}
 
--- of so many replicas: the fragments that wait, what is known, if something is, and the state that was shown last
+-- of so many replicas, and whether lines are written over those before: the fragments that wait, what is known, if something is, and
+-- the change and the state that were shown last
 pub record Watching : Type 0 where
   pub replicas : ℕ
+  pub redraws : Bool
   pub kept : List Waiting
   pub seen : Option Seen
+  pub changed : Option Change
   pub shown : Option State
 
-abbrev pub opening : ℕ → Watching
-opening n = record { replicas = n; kept = joining.opening n; seen = None; shown = None }
+abbrev pub opening : Bool → ℕ → Watching
+opening redraws n = record {
+  replicas = n;
+  redraws = redraws;
+  kept = joining.opening n;
+  seen = None;
+  changed = None;
+  shown = None;
+}
 
 -- ---- what is told
 
@@ -46,7 +57,10 @@ change_by (Some s) now t = cond (outranks t.view s.known.view) (Some (record { v
 
 abbrev pub told : Watching → ℕ → Option Telling → Watching × Option Change
 told w now None = (w, None)
-told w now (Some t) = (record w { seen = Some (seen_after w.seen now t) }, change_by w.seen now t)
+told w now (Some t) = (
+  record w { seen = Some (seen_after w.seen now t); changed = option_or (change_by w.seen now t) w.changed },
+  change_by w.seen now t,
+)
 
 -- a datagram comes
 abbrev pub hear : Watching → ℕ → List ℕ → Watching × Option Change

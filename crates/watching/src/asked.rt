@@ -1,15 +1,16 @@
 //! What words ask of a watch.
 
 ghost use Rattle.std.specs.Prelude.{◌≡◌};
-ghost use Rattle.watching.specs.Asked.{asked_of, from_one, turns_of, with_once};
+ghost use Rattle.watching.specs.Asked.{asked_of, from_one, turns_of, with_turns};
 
 use line_fields::{is_word, number};
 use nop_types::Bytes;
 
-/// Whether one state is asked for, and the most turns, at least 1.
+/// Whether one state is asked for, or that lines are written over those before; and the most turns, at least 1.
 #[derive(Clone, Copy, Debug, PartialEq, Eq)]
 pub struct Asked {
     pub once: bool,
+    pub redraws: bool,
     pub turns: u64,
 }
 
@@ -38,22 +39,29 @@ fn turns_of(words: &[Bytes]) -> Option<u64>
     }
 }
 
-fn with_once(once: bool, words: &[Bytes]) -> Option<Asked>
-    ensures { result ≡ with_once once words.now }
+fn with_turns(once: bool, redraws: bool, words: &[Bytes]) -> Option<Asked>
+    ensures { result ≡ with_turns once redraws words.now }
 {
     let turns = turns_of(words)?;
-    Some(Asked { once, turns })
+    Some(Asked {
+        once,
+        redraws,
+        turns,
+    })
 }
 
-/// What the words ask for: `[--once] [--turns T]`.
+/// What the words ask for: `[--once | --redraw] [--turns T]`.
 pub fn asked_of(words: &[Bytes]) -> Option<Asked>
     ensures { result ≡ asked_of words.now }
 {
     let [option, others @ ..] = words else {
-        return with_once(false, words);
+        return with_turns(false, false, words);
     };
     if is_word(option.as_slice(), "--once") {
-        return with_once(true, others);
+        return with_turns(true, false, others);
     }
-    with_once(false, words)
+    if is_word(option.as_slice(), "--redraw") {
+        return with_turns(false, true, others);
+    }
+    with_turns(false, false, words)
 }

@@ -8,14 +8,13 @@
 //! Proved: `Watch` is exactly its definition, whatever comes, and over any list of turns so is what was written, also where a device
 //! fails (`WatchedBy`, in `specs/Turns`). Its laws: the length that is shown never falls, and is one that was told; the age counts from
 //! when something was told last of the view that is shown; a change is told of exactly where the view rises; lines are read back as
-//! what they show. That a length which a leader tells is synchronised is a fact of runs (`observer_laws`); here forged messages may
-//! come as well.
+//! what they show; and where lines are written over those before, a screen shows the last change and the last state, and nothing else.
+//! That a length which a leader tells is synchronised is a fact of runs (`observer_laws`); here forged messages may come as well.
 //!
 //! Calls: `watch_cluster`, for programs; `Watch` with `hear` and `tick`; `state_line` and `change_line`.
 //!
 //! Files: `telling` (messages), `seen` (what is kept of them), `watch`, `lines`, `turns`, `running`; `asked` and `status`,
-//! of programs; `laws`. Definitions:
-//! `specs/Tellings`, `Watching`, `Lines`, `Turns`, `Laws`; `Asked`, `Statuses`.
+//! of programs; `laws`. Definitions: `specs/Tellings`, `Watching`, `Lines`, `Screens`, `Turns`, `Laws`; `Asked`, `Statuses`.
 #![tactic(auto)]
 
 mod asked;
@@ -30,8 +29,8 @@ mod watch;
 
 pub use asked::{Asked, asked_of};
 pub use laws::{
-    changes_are_read, changes_are_rises, lengths_never_fall, states_are_read,
-    what_is_known_was_told,
+    changes_are_read, changes_are_rises, lengths_never_fall, screens_show_the_last,
+    states_are_read, what_is_known_was_told,
 };
 pub use lines::{Change, State, change_line, state_line};
 pub use running::{WatchError, watch_cluster};

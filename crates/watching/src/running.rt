@@ -7,6 +7,7 @@ ghost use Rattle.watching.specs.Turns.{WatchedBy};
 ghost use Rattle.watching.specs.Watching.{opening};
 ghost use Rattle.watching.specs.declared.running.WatchError.TheVariants as errors;
 
+use crate::asked::Asked;
 use crate::turns::{ends, take_turn};
 use crate::watch::Watch;
 use nop_types::{Config, NoMemory};
@@ -38,13 +39,13 @@ impl From<NoMemory> for WatchError {
 fn watch_over<L: Link, C: Clock, W: Sink>(
     alloc: Global,
     config: Config,
-    once: bool,
-    turns: u64,
+    asked: Asked,
     link: &mut L,
     clock: &mut C,
     sink: &mut W,
 ) -> Result<bool, WatchError>
-    ensures watched { WatchedBy once turns (opening config.replicas) (L.answers link.old)
+    ensures watched { WatchedBy asked.once asked.turns
+        (opening asked.redraws config.replicas) (L.answers link.old)
         (C.values clock.old) (W.held sink.old) (W.held sink.new) result }
     ensures attached { ¬ (result ≡ Err errors.PortFault) }
     ensures polls { CountsFor (L.fault_count link.old) (L.fault_count link.new)
@@ -53,18 +54,18 @@ fn watch_over<L: Link, C: Clock, W: Sink>(
         errors.WriteFault result }
     ensures port { L.own_port link.new ≡ L.own_port link.old }
 {
-    let mut watch = Watch::new(alloc, config)?;
+    let mut watch = Watch::new(alloc, config, asked.redraws)?;
     let begun = clock.now();
     let mut now = begun;
     let mut taken = 0;
-    while taken < turns {
+    while taken < asked.turns {
         let time = now.saturating_sub(begun);
         match take_turn(alloc, &mut watch, time, link, sink) {
             Ok(()) => {}
             Err(e) => return Err(e),
         }
         taken += 1;
-        if ends(once, &watch, time) {
+        if ends(asked.once, &watch, time) {
             return Ok(watch.has_shown());
         }
         now = now.max(clock.now());
@@ -73,20 +74,19 @@ fn watch_over<L: Link, C: Clock, W: Sink>(
 }
 
 /// Watches a cluster of so many replicas at a port, that of an observer, and writes lines of changes and states, as `specs/Watching`
-/// says. Times are in milliseconds since it began. Where `once` is asked for, it ends behind the first line of a state, a second after something was told first, or after five
-/// seconds in which nothing is. It takes at most `turns` turns, of about a millisecond each over sockets. Says whether a state was
-/// shown. Nothing is sent.
+/// says, over those before where `redraws` is asked for. Times are in milliseconds since it began. Where `once` is, it ends behind the
+/// first line of a state, a second after something was told first, or after five seconds in which nothing is. It takes at most as many
+/// turns as are asked for, of about a millisecond each over sockets. Says whether a state was shown. Nothing is sent.
 pub fn watch_cluster<P: Ports, C: Clock, W: Sink>(
     alloc: Global,
     config: Config,
     port: u16,
-    once: bool,
-    turns: u64,
+    asked: Asked,
     ports: &mut P,
     clock: &mut C,
     sink: &mut W,
 ) -> Result<bool, WatchError>
-    ensures watched { WatchedBy once turns (opening config.replicas)
+    ensures watched { WatchedBy asked.once asked.turns (opening asked.redraws config.replicas)
         (option_map next_link (P.to_come ports.old)) (C.values clock.old)
         (W.held sink.old) (W.held sink.new) result }
     ensures attaches { CountsFor (P.fault_count ports.old) (P.fault_count ports.new)
@@ -99,7 +99,7 @@ pub fn watch_cluster<P: Ports, C: Clock, W: Sink>(
     match ports.attach(port) {
         Ok(link) => {
             let mut link = link;
-            let shown = watch_over(alloc, config, once, turns, &mut link, clock, sink);
+            let shown = watch_over(alloc, config, asked, &mut link, clock, sink);
             ports.detach(link);
             shown
         }

@@ -3,7 +3,8 @@
 ghost use Rattle.std.specs.Prelude.{◌≡◌, ◌≤◌, ◌++◌, IfOk, OnErr, OnOk, option_map};
 ghost use Rattle.outside.specs.Causes.{CountsFor};
 ghost use Rattle.watching.specs.Lines.{change_lines, state_lines};
-ghost use Rattle.watching.specs.Turns.{after_turn, ends, TurnEnds};
+ghost use Rattle.watching.specs.Turns.{after_turn, ends, news, turned, TurnEnds};
+ghost use Rattle.watching.specs.Screens.{clearing, drawn, last_lines};
 ghost use Rattle.watching.specs.Turns as turns;
 ghost use Rattle.watching.specs.declared.running.WatchError.TheVariants as errors;
 
@@ -39,6 +40,31 @@ fn put_state(replicas: u8, state: Option<State>, to: &mut Vec<u8>) -> Result<(),
     }
 }
 
+/// The cursor goes to the first place of a screen, and all that stands on it is erased.
+const CLEARING: &[u8; 6] = b"\x1b[H\x1b[J";
+
+/// The lines of what was shown last, on a screen from which all else is erased.
+fn put_screen(watch: &Watch, to: &mut Vec<u8>) -> Result<(), NoMemory>
+    ensures { OnOk result (to.new.items ≡ to.old.items ++ (clearing ++ last_lines watch.now)) }
+{
+    let replicas = watch.replicas();
+    to.extend_from_slice(CLEARING)?;
+    put_change(replicas, watch.changed(), to)?;
+    put_state(replicas, watch.shown(), to)
+}
+
+/// What is written where these lines are to be shown.
+fn drawn(alloc: Global, watch: &Watch, lines: Vec<u8>) -> Result<Vec<u8>, NoMemory>
+    ensures { IfOk result (λ text. text.items ≡ drawn watch.now.redraws watch.now lines.items) }
+{
+    if !watch.redraws() || lines.is_empty() {
+        return Ok(lines);
+    }
+    let mut screen = Vec::new(alloc);
+    put_screen(watch, &mut screen)?;
+    Ok(screen)
+}
+
 /// A datagram is heard, if one came.
 fn hear(watch: &mut Watch, now: u64, datagram: Option<&Bytes>) -> Result<Option<Change>, NoMemory>
     ensures watch { OnOk result (watch.new
@@ -46,6 +72,7 @@ fn hear(watch: &mut Watch, now: u64, datagram: Option<&Bytes>) -> Result<Option<
     ensures change { IfOk result (λ r. r
         ≡ (turns.heard watch.old now (option_map (λ d. d.now) datagram.entry)).1) }
     ensures replicas { watch.new.replicas ≡ watch.old.replicas }
+    ensures redraws { watch.new.redraws ≡ watch.old.redraws }
 {
     match datagram {
         Some(bytes) => watch.hear(now, bytes.as_slice()),
@@ -53,17 +80,18 @@ fn hear(watch: &mut Watch, now: u64, datagram: Option<&Bytes>) -> Result<Option<
     }
 }
 
-/// The lines of a turn.
-fn lines_of(
+/// What is heard and shown in a turn, by its lines.
+fn news_of(
     alloc: Global,
     watch: &mut Watch,
     now: u64,
     datagram: Option<&Bytes>,
 ) -> Result<Vec<u8>, NoMemory>
-    ensures watch { OnOk result (watch.new ≡ (after_turn watch.old
-        (record { now = now; datagram = option_map (λ d. d.now) datagram.entry })).0) }
-    ensures lines { IfOk result (λ lines. lines.items ≡ (after_turn watch.old
-        (record { now = now; datagram = option_map (λ d. d.now) datagram.entry })).1) }
+    ensures watch { OnOk result (watch.new ≡ turned watch.old
+        (record { now = now; datagram = option_map (λ d. d.now) datagram.entry })) }
+    ensures lines { IfOk result (λ lines. lines.items ≡ news watch.old
+        (record { now = now; datagram = option_map (λ d. d.now) datagram.entry })) }
+    ensures redraws { watch.new.redraws ≡ watch.old.redraws }
 {
     let replicas = watch.replicas();
     let mut lines = Vec::new(alloc);
@@ -72,6 +100,22 @@ fn lines_of(
     let state = watch.tick(now);
     put_state(replicas, state, &mut lines)?;
     Ok(lines)
+}
+
+/// What a turn writes.
+fn text_of(
+    alloc: Global,
+    watch: &mut Watch,
+    now: u64,
+    datagram: Option<&Bytes>,
+) -> Result<Vec<u8>, NoMemory>
+    ensures watch { OnOk result (watch.new ≡ (after_turn watch.old
+        (record { now = now; datagram = option_map (λ d. d.now) datagram.entry })).0) }
+    ensures text { IfOk result (λ text. text.items ≡ (after_turn watch.old
+        (record { now = now; datagram = option_map (λ d. d.now) datagram.entry })).1) }
+{
+    let lines = news_of(alloc, watch, now, datagram)?;
+    drawn(alloc, watch, lines)
 }
 
 /// Takes a turn: a poll, and the lines that are to be shown then, in one write.
@@ -95,8 +139,8 @@ pub(crate) fn take_turn<L: Link, W: Sink>(
         Err(LinkError::Failed) => return Err(WatchError::LinkFault),
         Err(LinkError::NoMemory) => return Err(WatchError::NoMemory),
     };
-    let lines = lines_of(alloc, watch, now, datagram.as_ref())?;
-    match write_all(sink, &lines) {
+    let text = text_of(alloc, watch, now, datagram.as_ref())?;
+    match write_all(sink, &text) {
         Ok(()) => Ok(()),
         Err(WriteError::Failed) => Err(WatchError::WriteFault),
         Err(WriteError::NoMemory) => Err(WatchError::NoMemory),

@@ -15,8 +15,10 @@ use std::marker::Model;
 pub struct Watch {
     alloc: Global,
     config: Config,
+    redraws: bool,
     kept: Reassembly,
     seen: Option<Seen>,
+    changed: Option<Change>,
     shown: Option<State>,
 }
 
@@ -28,8 +30,10 @@ impl Model for Watch {
 
     ghost view = { λ w. record {
       replicas = w.config.replicas;
+      redraws = w.redraws;
       kept = w.kept;
       seen = w.seen;
+      changed = w.changed;
       shown = w.shown;
     } };
 
@@ -37,16 +41,18 @@ impl Model for Watch {
 }
 
 impl Watch {
-    /// Nothing is seen yet of a cluster of so many replicas.
-    pub fn new(alloc: Global, config: Config) -> Result<Watch, NoMemory>
-        ensures { IfOk result (λ w. w ≡ opening config.replicas) }
+    /// Nothing is seen yet of a cluster of so many replicas. Lines are written over those before, or behind them.
+    pub fn new(alloc: Global, config: Config, redraws: bool) -> Result<Watch, NoMemory>
+        ensures { IfOk result (λ w. w ≡ opening redraws config.replicas) }
     {
         let kept = Reassembly::new(alloc, config.replicas())?;
         Ok(Watch {
             alloc,
             config,
+            redraws,
             kept,
             seen: None,
+            changed: None,
             shown: None,
         })
     }
@@ -57,6 +63,27 @@ impl Watch {
         ensures some { 1 ≤ result }
     {
         self.config.replicas()
+    }
+
+    /// Whether lines are written over those before.
+    pub fn redraws(&self) -> bool
+        ensures { result ≡ self.now.redraws }
+    {
+        self.redraws
+    }
+
+    /// The change that was shown last.
+    pub fn changed(&self) -> Option<Change>
+        ensures { result ≡ self.now.changed }
+    {
+        self.changed
+    }
+
+    /// The state that was shown last.
+    pub fn shown(&self) -> Option<State>
+        ensures { result ≡ self.now.shown }
+    {
+        self.shown
     }
 
     /// Whether something was told.
@@ -79,6 +106,7 @@ impl Watch {
     {
         let change = change_by(self.seen, now, telling);
         self.seen = Some(seen_after(self.seen, now, telling));
+        self.changed = change.or(self.changed);
         change
     }
 

@@ -5,7 +5,7 @@ use nop_types::{Bytes, Config, MAX_DATAGRAM_BYTES};
 use outside::{ClockMem, Failing, LinkMem, PollAnswer, PortsMem, WriteMem};
 use std::alloc::Global;
 use std::process::Abort;
-use watching::{Status, WatchError, status_of, watch_cluster};
+use watching::{Asked, Status, WatchError, status_of, watch_cluster};
 
 /// SyncCommit of replica 0 in view 0 1, with the lengths 5 and 8; in this view by replica 1, which does not lead it.
 const FIRST: &str = "4e4f030800000000000000000100000001190000000000000000000000000100000005";
@@ -57,14 +57,14 @@ fn ports(rt: &impl Abort, alloc: Global, polls: [&str; 7], failing: &[u64]) -> P
     PortsMem::with_faults(alloc, links, failing).expect(rt, "memory")
 }
 
-/// The watch over these ports, at these times, ends so and writes this.
+/// The watch over these ports, at these times, that shows one state once, or redraws, or neither, ends so and writes this.
 fn check(
     rt: &impl Abort,
     alloc: Global,
     polls: [&str; 7],
     failing: &[u64],
     times: &[u64],
-    once: bool,
+    shows: &str,
     ended: Result<bool, WatchError>,
     lines: &str,
 ) {
@@ -72,8 +72,13 @@ fn check(
     let mut ports = ports(rt, alloc, polls, failing);
     let mut clock = ClockMem::with_values(alloc, times).expect(rt, "memory");
     let mut sink = WriteMem::new(alloc);
+    let asked = Asked {
+        once: shows == "once",
+        redraws: shows == "redraw",
+        turns: 9,
+    };
     let given = watch_cluster(
-        alloc, config, 41032, once, 9, &mut ports, &mut clock, &mut sink,
+        alloc, config, 41032, asked, &mut ports, &mut clock, &mut sink,
     );
     assert!(rt;
         given == ended && sink.as_slice() == lines.as_bytes(),
@@ -90,13 +95,38 @@ fn states_and_changes_are_written(rt: HostRuntime) {
         [FIRST, SECOND, STRANGE, RISEN, FIRST, MOVED, "nothing"],
         &[],
         &[100, 600, 1100, 1200, 2100, 2150, 3200],
-        false,
+        "lines",
         Ok(true),
         "view 0 1 leader r0 controller ctl synced 8 rate 3 age 500\n\
          view 1 1 leader r1 controller ctl changed 1100\n\
          view 1 1 leader r1 controller ctl synced 8 rate 0 age 900\n\
          view 1 4294967296 leader r1 controller ctl1 changed 2050\n\
          view 1 4294967296 leader r1 controller ctl1 synced 9 rate 0 age 1050\n",
+    );
+}
+
+/// On a screen the last change and the last state stand, over what was there.
+#[test]
+fn screens_are_drawn_again(rt: HostRuntime) {
+    check(
+        &rt,
+        rt.alloc(),
+        [FIRST, SECOND, STRANGE, RISEN, FIRST, MOVED, "nothing"],
+        &[],
+        &[100, 600, 1100, 1200, 2100],
+        "redraw",
+        Ok(true),
+        "\x1b[H\x1b[J\
+         view 0 1 leader r0 controller ctl synced 8 rate 3 age 500\n\
+         \x1b[H\x1b[J\
+         view 1 1 leader r1 controller ctl changed 1100\n\
+         view 0 1 leader r0 controller ctl synced 8 rate 3 age 500\n\
+         \x1b[H\x1b[J\
+         view 1 1 leader r1 controller ctl changed 1100\n\
+         view 1 1 leader r1 controller ctl synced 8 rate 0 age 900\n\
+         \x1b[H\x1b[J\
+         view 1 4294967296 leader r1 controller ctl1 changed 2000\n\
+         view 1 1 leader r1 controller ctl synced 8 rate 0 age 900\n",
     );
 }
 
@@ -114,18 +144,27 @@ fn one_state_is_written(rt: HostRuntime) {
         told,
         &[],
         &[0, 1, 2000, 2001],
-        true,
+        "once",
         Ok(true),
         line,
     );
-    check(&rt, alloc, none, &[], &[0, 4999, 5000], true, Ok(false), "");
+    check(
+        &rt,
+        alloc,
+        none,
+        &[],
+        &[0, 4999, 5000],
+        "once",
+        Ok(false),
+        "",
+    );
     check(
         &rt,
         alloc,
         breaks,
         &[],
         &[0],
-        true,
+        "once",
         Err(WatchError::LinkFault),
         "",
     );
@@ -135,7 +174,7 @@ fn one_state_is_written(rt: HostRuntime) {
         told,
         &[1],
         &[0],
-        true,
+        "once",
         Err(WatchError::PortFault),
         "",
     );

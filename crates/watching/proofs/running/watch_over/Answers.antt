@@ -1,11 +1,11 @@
-use Rattle.std.proofs.Common.{rules, arith, ◌+◌, ◌-◌, refl, sym, ◌∙◌}
+use Rattle.std.proofs.Common.{arith, ◌-◌, refl, sym, ◌∙◌}
 use Rattle.outside.proofs.Counts.{counts_alike, counts_none, counts_then}
 use Rattle.watching.proofs.Turning.{going_start, turn_goes, turn_shows, turn_fails, turns_end, no_attach}
 use Rattle.watching.proofs.running.watch_over.Goals as goal
 
 pub loop-taken-init : goal.loop-taken-init
 loop-taken-init g c = record {
-  going = going_start _ _ _ _ _ _ c.now-begun.result (c.args.turns - 0) c.in_ok-watch.watch _ (omega arith) c.in_ok-watch.ensures c.now-begun.ensures;
+  going = going_start _ _ _ _ _ _ c.now-begun.result (c.args.asked.turns - 0) c.in_ok-watch.watch _ (omega arith) c.in_ok-watch.ensures c.now-begun.ensures;
   within = omega arith;
   polls = refl;
   writes = refl;
@@ -14,7 +14,7 @@ loop-taken-init g c = record {
 
 pub loop-taken-preserved : goal.loop-taken-preserved
 loop-taken-preserved g c = record {
-  going = turn_goes _ _ _ _ _ _ c.now-begun.result c.args.turns c.loop-taken.taken _ _ _ _ _ c.loop-taken.invariant.going
+  going = turn_goes _ _ _ _ _ _ c.now-begun.result c.args.asked.turns c.loop-taken.taken _ _ _ _ _ c.loop-taken.invariant.going
       c.loop-taken-test.true c.saturating_sub-time.result c.saturating_sub-time.ensures _ _ _ _ _ _ c.in-Ok.ensures.turn
       (sym c.ends.ensures ∙ c.if-ends.false) c.now.ensures c.max-now.ensures;
   within = omega (arith, c.loop-taken-test.true);
@@ -25,7 +25,7 @@ loop-taken-preserved g c = record {
 
 pub returns-in-Err-clause-watched : goal.returns-in-Err-clause-watched
 returns-in-Err-clause-watched g c =
-    turn_fails _ _ _ _ _ _ c.now-begun.result c.args.turns c.loop-taken.taken _ _ _ _ _ c.loop-taken.invariant.going
+    turn_fails _ _ _ _ _ _ c.now-begun.result c.args.asked.turns c.loop-taken.taken _ _ _ _ _ c.loop-taken.invariant.going
     c.loop-taken-test.true c.saturating_sub-time.result c.saturating_sub-time.ensures _ _ _ c.in-Err.e c.in-Err.ensures.turn
 
 pub returns-in-Err-clause-attached : goal.returns-in-Err-clause-attached
@@ -42,7 +42,7 @@ returns-in-Err-clause-port g c = c.in-Err.ensures.port ∙ c.loop-taken.invarian
 
 pub returns-then-ends-clause-watched : goal.returns-then-ends-clause-watched
 returns-then-ends-clause-watched g c =
-    turn_shows _ _ _ _ _ _ c.now-begun.result c.args.turns c.loop-taken.taken _ _ _ _ _ c.loop-taken.invariant.going
+    turn_shows _ _ _ _ _ _ c.now-begun.result c.args.asked.turns c.loop-taken.taken _ _ _ _ _ c.loop-taken.invariant.going
     c.loop-taken-test.true c.saturating_sub-time.result c.saturating_sub-time.ensures _ _ _ _ c.in-Ok.ensures.turn
     (sym c.ends.ensures ∙ c.if-ends.true) (cc)
 
@@ -59,7 +59,7 @@ returns-then-ends-clause-port g c = c.in-Ok.ensures.port ∙ c.loop-taken.invari
 
 pub returns-clause-watched : goal.returns-clause-watched
 returns-clause-watched g c =
-    turns_end _ _ _ _ _ _ c.now-begun.result c.args.turns c.loop-taken.taken _ _ _ _ _ c.loop-taken.invariant.going
+    turns_end _ _ _ _ _ _ c.now-begun.result c.args.asked.turns c.loop-taken.taken _ _ _ _ _ c.loop-taken.invariant.going
     c.loop-taken-test.false _ (cc)
 
 pub returns-clause-polls : goal.returns-clause-polls
