@@ -146,6 +146,13 @@ answers 'what nobody accepted, in another order than it was submitted' 0 "$(tran
     "submit c0 1 $swap" "submit c1 1 $put" "submit c2 1 $get" 'accept c2 1 3d77')
 answers 'two orders that do not fit' 8 'none part 6c line 7' < <(transcript "submit c0 1 $put" "submit c1 1 ${get/6b/6c}" \
     "accept c0 1 $none" "submit c1 2 $get" "accept c1 2 $value" "accept c1 1 $value")
+answers 'a result that nobody noted' 0 "$(transcript "submit c0 1 $put" "accept c0 1 $none" "submit c1 1 $put" "accept c1 1 $value" \
+    "history 1 c0 1 $put" "history 2 c1 1 $put")" < <(transcript "submit c0 1 $put" 'accept c0 1 ?' "submit c1 1 $put" 'accept c1 1 ?')
+answers 'a lost write whose result nobody noted' 8 'none part 6b line 5' < <(transcript "submit c0 1 $put" 'accept c0 1 ?' "submit c1 1 $get" \
+    "accept c1 1 $none")
+answers 'a second accept, of no result' 8 'refuted line 4 clause 5' < <(transcript "submit c0 1 $get" 'accept c0 1 ?' 'accept c0 1 ?')
+answers 'a ? in place of an op' 8 'refuted line 2 clause 2' < <(transcript 'submit c0 1 ?')
+answers 'a ? behind a result' 8 'refuted line 3 clause 2' < <(transcript "submit c0 1 $get" "accept c0 1 $none?")
 answers 'bytes that are no op' 8 'none part - line 3' < <(transcript 'submit c0 1 -' "accept c0 1 $none")
 answers 'an accept without a submit' 8 'refuted line 2 clause 5' < <(transcript "accept c0 1 $none" "submit c0 1 $get")
 answers 'a second accept' 8 'refuted line 5 clause 5' < <(transcript "submit c0 1 $get" "submit c0 2 $get" "accept c0 1 $none" \

@@ -10,8 +10,8 @@ operations whose process is no number, as Jepsen's `:nemesis`. `f` is `read` or 
 pair of the old value and the new one). The key is the field `key`, or else the first of a pair with the option `--keyed`, or else `x`.
 
 What a write answers here is the value before it. Where the `ok` of a write or a delete has a field `previous` (null or nil: the key was
-absent), that is its result; where it has none, the operation is left open, which refutes nothing that is right, and asks less. `info` leaves
-an operation open too; what ended with `fail` did not happen, and is left out.
+absent), that is its result; where it has none, a `?` stands for it: the operation has to be in the order, with any result. `info` leaves an
+operation open; what ended with `fail` did not happen, and is left out.
 
 What comes out names no order: `kv_linearize` finds one. Don't take the slots of accepted replies for one: an operation that was sent again has
 two slots, is executed at the first, and may have been accepted by the second. Traces of nodes have the order of a run of this repository.
@@ -129,17 +129,17 @@ def found(value):
 
 
 def result_of(function, value, operation):
-    """The bytes of the result, or None where it was not recorded."""
+    """The result in hexadecimal, or `?` where it was not recorded."""
     if function == "get":
-        return found(value)
+        return found(value).hex()
     if function == "cas":
-        return b"yes"
-    return found(operation["previous"]) if "previous" in operation else None
+        return b"yes".hex()
+    return found(operation["previous"]).hex() if "previous" in operation else "?"
 
 
 def lines_of(history, keyed):
-    """The lines of a history, and how many operations whose `ok` was recorded are left open, since their results were not."""
-    lines, last_ids, under_way, unknown = [], [0] * CLIENTS, {}, 0
+    """The lines of a history."""
+    lines, last_ids, under_way = [], [0] * CLIENTS, {}
     for operation in history:
         process, kind = operation.get("process"), operation.get("type")
         if not isinstance(process, int):
@@ -163,12 +163,8 @@ def lines_of(history, keyed):
         if kind == "fail":
             lines[place] = None
         elif kind == "ok":
-            result = result_of(function, value, operation)
-            if result is None:
-                unknown += 1
-            else:
-                lines.append(f"accept {name} {result.hex()}")
-    return [line for line in lines if line is not None], unknown
+            lines.append(f"accept {name} {result_of(function, value, operation)}")
+    return [line for line in lines if line is not None]
 
 
 def main(words):
@@ -177,12 +173,10 @@ def main(words):
     if words not in (["json"], ["edn"]):
         sys.exit("usage: history.py json|edn [--keyed] < HISTORY > LINES")
     try:
-        lines, unknown = lines_of(operations(words[0], sys.stdin.read()), keyed)
+        lines = lines_of(operations(words[0], sys.stdin.read()), keyed)
     except (Malformed, ValueError, TypeError, AttributeError, StopIteration) as reason:
         sys.exit(f"history.py: this is no history: {reason}")
     print("transcript 1 replicas 1 sequencers 1 clients 16", *lines, "end", sep="\n")
-    if unknown:
-        print(f"history.py: {unknown} writes are left open: the values before them were not recorded", file=sys.stderr)
 
 
 if __name__ == "__main__":

@@ -6,12 +6,13 @@ SERVICE is `kv` or `lock`; PROGRAM reads a history and writes an order; JUDGE, w
 depends on SERVICE, NUMBER and I alone. Each case that differs is printed; the last line counts them. The status is 1 where one differs.
 
 A history is a list of claims in the order of time, (kind, who, content): the client and id `who` submits the op `content`, or accepts
-the result `content`. What an order has to be is `is_legal`, word by word what docs/THEOREMS.md says under "What safe means".
+the result `content`, which is None where nobody noted it: it may be any. What an order has to be is `is_legal`, word by word what docs/THEOREMS.md says under "What safe means".
 """
 
 import collections
 import itertools
 import random
+import re
 import subprocess
 import sys
 
@@ -26,6 +27,11 @@ def answers(service, ops):
     return [machine.answer(op) for op in ops]
 
 
+def differs(answer, noted):
+    """Whether an answer is another one than was noted, if one was."""
+    return noted is not None and answer != noted
+
+
 def is_legal(service, claims, order, known=()):
     """Whether an order, a list of clients and ids, is one in which the claims are linearizable; where it also has what is known to be
     accepted later, that has its result too."""
@@ -34,12 +40,12 @@ def is_legal(service, claims, order, known=()):
     given = answers(service, [ops[who] for who in order])
     for line, (kind, who, content) in enumerate(claims):
         if kind == "accept":
-            if who not in place or given[place[who]] != content:
+            if who not in place or differs(given[place[who]], content):
                 return False
             later = [it for kind, it, _ in claims[line:] if kind == "submit" and it in place]
             if any(place[it] < place[who] for it in later):
                 return False
-    return all(who not in place or given[place[who]] == content for _, who, content in known)
+    return not any(who in place and differs(given[place[who]], content) for _, who, content in known)
 
 
 def has_order(service, claims, known=()):
@@ -53,7 +59,8 @@ def has_order(service, claims, known=()):
 
 def drawn(rng, service):
     """A history of 2 to 6 ops of up to 3 clients, which may have several open ones. A machine carries out most of them while they are
-    open; some are not accepted; and in every other history another result is accepted, or two lines have changed places."""
+    open; some are not accepted; and in every other history another result is accepted, or two lines have changed places. Of every other one
+    some results were not noted."""
     machine, count, clients, lost = service(), rng.randrange(2, 7), rng.randrange(1, 4), rng.choice([2, 8])
     claims, ids, waiting, answered = [], collections.Counter(), [], []
     while sum(ids.values()) < count or waiting or answered:
@@ -73,6 +80,8 @@ def drawn(rng, service):
                 claims.append(claim)
     if rng.randrange(2):
         damage(rng, service, claims)
+    if rng.randrange(2):
+        claims = [("accept", who, None) if kind == "accept" and rng.randrange(3) else (kind, who, content) for kind, who, content in claims]
     return claims
 
 
@@ -89,7 +98,7 @@ def damage(rng, service, claims):
 
 def text(claim):
     kind, (client, number), content = claim
-    return f"{kind} c{client} {number} {content.hex() or '-'}"
+    return f"{kind} c{client} {number} {'?' if content is None else content.hex() or '-'}"
 
 
 def transcript(rng, claims):
@@ -116,12 +125,18 @@ def run(words, lines):
     return ended.returncode, ended.stdout.decode(), ended.stderr.decode()
 
 
+def is_noted(line, written):
+    """Whether a line was written as it was read, but with a result in place of a `?`."""
+    front, unnoted, _ = line.partition("?")
+    return written.startswith(front) and re.fullmatch(r"-|([0-9a-f]{2})+", written[len(front) :]) if unnoted else written == line
+
+
 def wrong_order(judge, claims, written):
     """What is wrong with a transcript that was written for claims, if anything is."""
     lines = written.split("\n")
     events = [FIRST, *map(text, claims)]
     members = lines[len(events) : -2]
-    if lines[: len(events)] != events or lines[-2:] != ["end", ""]:
+    if lines[-2:] != ["end", ""] or len(lines) < len(events) or not all(map(is_noted, events, lines)):
         return "it does not have the claims"
     if any(not line.startswith(f"history {at} ") for at, line in enumerate(members, 1)):
         return "its history is none"

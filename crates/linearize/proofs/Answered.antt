@@ -1,33 +1,42 @@
 -- The answer is right for what was read.
-use Rattle.std.proofs.Common.{◌≡◌, ◌+◌, ◌≤◌, ℕ, List, [], ◌∷◌, ◌++◌, length, map, sym, subst, arith, length-append}
+use Rattle.std.proofs.Common.{◌≡◌, ◌∙◌, ◌+◌, ◌≤◌, ℕ, Bool, List, [], ◌∷◌, ◌++◌, length, map, refl, sym, ap, subst, arith, length-append, inr}
 use Rattle.std.specs.Global.{Vec}
-use Rattle.std.specs.Prelude.{Option, Some, None, Result, Ok, Err, slice_get, IfErr, IfOk, OnOk}
-use Rattle.judge.proofs.Checked.{numbered}
+use Rattle.std.specs.List.{flat_map}
+use Rattle.std.specs.Prelude.{Option, Some, None, Result, Ok, Err, slice_get}
+use Rattle.std.proofs.lemmas.List.{length-map}
+use Rattle.std.proofs.lemmas.Option.{slice_get_within}
+use Rattle.filled_orders.proofs.Structure.{groundless_out}
+use Rattle.filled_orders.specs.FilledAnswers.{IsFilledAnswer, IsFilledOrder}
 use Rattle.joined_orders.specs.declared.linearized.Linearized.{Linearized}
 use Rattle.joined_orders.specs.declared.linearized.Linearized.TheVariants as linearized
+use Rattle.linearize.proofs.Filled.{filled_fit, legal_fits}
 use Rattle.linearize.proofs.Spelled.{claims_fit, fit_front, ordered_text}
-use Rattle.linearize.specs.Answering.{IsFound, IsInput}
-use Rattle.linearize.specs.Answers.{IsOrdered, IsRight, LacksGround}
+use Rattle.linearize.specs.Answering.{IsInLines, IsInOrder, IsInput, NamesOneOf}
+use Rattle.linearize.specs.Answers.{IsAnswered, IsOrdered, IsRight}
 use Rattle.linearize.specs.Texts.{answer_text, transcript_of}
+use Rattle.linearize.specs.Writing.{IsWritable}
 use Rattle.linearize.specs.declared.answer.Answer.{Answer}
-use Rattle.linearize.specs.declared.answer.Answer.TheVariants.{Order}
-use Rattle.nop_types.specs.Legality.{Legal}
+use Rattle.linearize.specs.declared.answer.Answer.TheVariants as answers
 use Rattle.nop_types.specs.Lines.{Line}
 use Rattle.nop_types.specs.Lines as lines
 use Rattle.nop_types.specs.Meaning.{Meaning}
+use Rattle.nop_types.specs.declared.limits.TheConstants.{MAX_RESULT_BYTES}
 use Rattle.order_search.specs.Searching.{requests_at, told_by}
 use Rattle.order_search.specs.Turns.{history_at}
 use Rattle.pairs.proofs.StopLemmas.{no_order}
-use Rattle.transcript_reader.specs.Reading.{IsTranscript}
+use Rattle.pairs.specs.Stops.{IsGroundless}
 use Rattle.transcript_reader.specs.Claims.{lines_of}
 use Rattle.transcript_reader.specs.Steps.{SoFar}
-use Rattle.transcript_reader.specs.Transcripts.{AllFit, members, transcript_text}
+use Rattle.transcript_reader.specs.Transcripts.{AllFit, members, places_of, said_by, transcript_text}
 use Rattle.transcript_reader.specs.declared.check_error.CheckError.{CheckError}
 use Rattle.transcript_reader.specs.declared.check_error.CheckError.TheVariants as errors
 use Rattle.transcript_reader.specs.declared.claim.Claim.{Claim}
-use Rattle.transcript_reader.specs.declared.limits.TheConstants.{MAX_TRANSCRIPT_LINES}
 use Rattle.transcript_rows.specs.LineRows.{row_of}
+use Rattle.transcript_rows.specs.declared.row.Row.{Row}
 use Rattle.transcript_rows.specs.declared.row.Row.TheVariants.{End}
+use Rattle.unknown_results.specs.Asking.{unknown_in}
+use Rattle.unknown_results.specs.Filling.{HasNoOrder}
+use Rattle.unnoted_reader.specs.Reading.{IsTranscript}
 
 -- ---- places of lines
 
@@ -44,45 +53,98 @@ history_short ls (i ∷ places) =
 
 -- ---- of claims
 
-module _ {S : Type 0} (m : Meaning S) (claims : Vec Claim) (places : Vec ℕ) where
-  order_right : IsOrdered m (lines_of claims.items)
+module _ {S : Type 0} (m : Meaning S) (IsSound : S → Type 0) (opens : IsSound m.opening)
+    (stays : (s : S) (op : List ℕ) → IsSound s → IsSound (m.after s op))
+    (short : (s : S) (op : List ℕ) → IsSound s → length (m.answer s op) ≤ MAX_RESULT_BYTES)
+    (part_of : List ℕ → List ℕ) (most_parts : ℕ) (unknown : ℕ → ℕ → Bool) (ls : List Line) (fit : AllFit (map row_of ls)) where
+  text_is : (claims : Vec Claim) (places : Vec ℕ) → IsOrdered m unknown ls
       (transcript_text (transcript_of (lines_of claims.items) (history_at (lines_of claims.items) places.items)))
-      → IsOrdered m (lines_of claims.items) (answer_text (Ok (Order claims places)))
+      → IsOrdered m unknown ls (answer_text (Ok (answers.Order claims places)))
   unfolding answer_text
-  order_right h = h
+  text_is claims places h = h
 
-  -- in this order, where there is room for it
-  pub ordered : (part_of : List ℕ → List ℕ) (most_parts : ℕ) (numbers : List ℕ) (most : ℕ) (r : Result Answer CheckError)
-      → IfOk r (λ answer. answer ≡ Order claims places)
-      → OnOk r (length claims.items + length places.items + 2 ≤ MAX_TRANSCRIPT_LINES) → IfErr r (λ e. e ≡ errors.NoMemory)
-      → AllFit (map row_of (lines_of claims.items)) → Legal m (lines_of claims.items) (history_at (lines_of claims.items) places.items)
-      → IsRight m part_of most_parts (lines_of claims.items) numbers most r
-  ordered part_of most_parts numbers most (Ok answer) is room none fit legal =
-      let short = history_short (lines_of claims.items) places.items in
-      rw is
-      (order_right (ordered_text m claims.items (history_at (lines_of claims.items) places.items) fit legal (omega (arith, short, room))))
-  ordered part_of most_parts numbers most (Err e) is room none fit legal = rw none tt
+  in_order : (numbers : List ℕ) (most : ℕ) (claims : Vec Claim) (places : Vec ℕ) (r : Result Answer CheckError)
+      → IsFilledOrder m part_of most_parts unknown ls (lines_of claims.items) places.items → IsInOrder claims places r
+      → IsRight m part_of most_parts unknown ls numbers most r
+  in_order numbers most claims places (Ok answer) order is =
+      let few = history_short (lines_of claims.items) places.items in
+      let history = history_at (lines_of claims.items) places.items in
+      let fits = filled_fit unknown ls (lines_of claims.items) order.fills fit
+      (legal_fits m IsSound opens stays short (lines_of claims.items) history order.legal is.bytes) in
+      rw is.ok
+      (text_is claims places
+      (ordered_text m claims.items history fits order.legal (omega (arith, few, is.room)) unknown ls order.fills))
+  in_order numbers most claims places (Err e) order is = rw is.err tt
 
-module _ {S : Type 0} (m : Meaning S) (part_of : List ℕ → List ℕ) (most_parts : ℕ) (claims : List Claim) (found : Linearized)
-    (is_found : IsFound m part_of most_parts claims found) where
-  pub legal_order : (places : Vec ℕ) → found ≡ linearized.Order places
-      → Legal m (lines_of claims) (history_at (lines_of claims) places.items)
-  legal_order places is = rw is at is_found.legal
+  none_filled : (k : ℕ) → IsGroundless ls k → HasNoOrder m unknown ls
+  none_filled k g filled fills = no_order m filled k (groundless_out unknown ls filled fills k g)
 
-  pub lacks_ground : (numbers : List ℕ) (k line : ℕ) → found ≡ linearized.Groundless k → slice_get numbers k ≡ Some line
-      → LacksGround m (lines_of claims) numbers line
-  lacks_ground numbers k line is at =
-      let x = rw is at is_found.groundless in
-      record { none = no_order m (lines_of claims) k x.0; place = k; at = at; groundless = x.0; first = x.1 }
+  pub right : (numbers : List ℕ) (most : ℕ) (claims : Vec Claim) (found : Linearized) (r : Result Answer CheckError)
+      → IsFilledAnswer m part_of most_parts unknown ls (lines_of claims.items) found → IsInLines claims numbers found r
+      → IsRight m part_of most_parts unknown ls numbers most r
+  right numbers most claims (linearized.Order places) r h is = in_order numbers most claims places r h is
+  right numbers most claims (linearized.Nothing part claim) r h is =
+      rw is.2 (record { none = h.none; part_lacks = h.part_lacks; place = claim; at = is.1; accepts = h.accepts })
+  right numbers most claims (linearized.Groundless claim) r h is =
+      rw is.2 (refl, record { none = none_filled claim h.0; place = claim; at = is.1; groundless = h.0; first = h.1 })
+  right numbers most claims (linearized.Repeated claim) r h is =
+      rw is.2 (record { place = claim; at = is.1; repeats = h.0; first = h.1 })
+
+  writable_order : (claims : Vec Claim) (places : Vec ℕ) (r : Result Answer CheckError)
+      → IsFilledOrder m part_of most_parts unknown ls (lines_of claims.items) places.items → IsInOrder claims places r → IsWritable r
+  writable_order claims places (Ok answer) order is =
+      rw is.ok (record { submit = order.submit; few = omega (arith, is.room) })
+  writable_order claims places (Err e) order is = tt
+
+  pub writable : (numbers : List ℕ) (claims : Vec Claim) (found : Linearized) (r : Result Answer CheckError)
+      → IsFilledAnswer m part_of most_parts unknown ls (lines_of claims.items) found → IsInLines claims numbers found r → IsWritable r
+  writable numbers claims (linearized.Order places) r h is = writable_order claims places r h is
+  writable numbers claims (linearized.Nothing part claim) r h is = rw is.2 tt
+  writable numbers claims (linearized.Groundless claim) r h is = rw is.2 tt
+  writable numbers claims (linearized.Repeated claim) r h is = rw is.2 tt
+
+  pub names : (filled : List Line) (found : Linearized) (count : ℕ) → IsFilledAnswer m part_of most_parts unknown ls filled found
+      → count ≡ length ls → NamesOneOf count found
+  names filled (linearized.Order places) count h e = tt
+  names filled (linearized.Nothing part claim) count h e = let within = h.within in omega (arith, within, e)
+  names filled (linearized.Groundless claim) count h e =
+      let g = h.0 in
+      let within = slice_get_within ls claim (lines.Accept g.client g.id g.result) g.line in
+      omega (arith, within, e)
+  names filled (linearized.Repeated claim) count h e =
+      let r = h.0 in
+      let within = slice_get_within ls claim (lines.Submit r.second) r.second_line in
+      omega (arith, within, e)
 
 -- ---- of a source
 
-module _ (before left : Option (List ℕ)) (s : SoFar) (count : ℕ) (read : IsTranscript before left s count) where
-  pub input : IsInput s
-  input = record {
-    fit = subst (λ (ls : List Line). AllFit (map row_of ls)) (sym read.claims)
-        (claims_fit read.whole.events
-        (fit_front read.whole.events (read.whole.states ++ (read.whole.observers ++ (members 1 read.whole.history ++ End ∷ [])))
-        read.spells.fits.rows));
-    numbered = (numbered before left s count read).places;
-  }
+numbered_each : (line : ℕ) (rows : List Row) → length (places_of line rows) ≡ length (flat_map said_by rows)
+numbered_each line [] = refl
+numbered_each line (row ∷ rows) =
+    omega (
+      arith,
+      numbered_each (line + 1) rows,
+      length-map (said_by row) (λ (l : Line). line),
+      length-append (map (λ (l : Line). line) (said_by row)) (places_of (line + 1) rows),
+      length-append (said_by row) (flat_map said_by rows),
+    )
+
+module _ (before left : Option (List ℕ)) (s : SoFar) (marks : List Bool) (read : IsTranscript before left s marks) where
+  pub input : IsInput s.said s.places
+  input =
+      let t = read.transcript in
+      record {
+        fit = subst (λ (ls : List Line). AllFit (map row_of ls)) (sym read.claims)
+            (claims_fit t.events
+            (fit_front t.events (t.states ++ (t.observers ++ (members 1 t.history ++ End ∷ []))) read.spells.fits.rows));
+        numbered = ap length read.places ∙ numbered_each 2 t.events ∙ ap length (sym read.claims);
+      }
+
+  pub answered : {S : Type 0} (m : Meaning S) (part_of : List ℕ → List ℕ) (most_parts most : ℕ) (r : Result Answer CheckError)
+      → IsRight m part_of most_parts (unknown_in marks s.said) s.said s.places most r
+      → IsAnswered m part_of most_parts most before left r
+  answered m part_of most_parts most (Ok answer) h = record { said = s; marks = marks; read = read; right = h }
+  answered m part_of most_parts most (Err (errors.Refuted line clause)) h =
+      inr (record { said = s; marks = marks; read = read; right = h })
+  answered m part_of most_parts most (Err errors.ReadFault) h = absurd h
+  answered m part_of most_parts most (Err errors.NoMemory) h = tt

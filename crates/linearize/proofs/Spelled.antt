@@ -24,6 +24,8 @@ use Rattle.transcript_rows.specs.LineRows.{row_of}
 use Rattle.transcript_rows.specs.Rows.{RowFits, request_fits, row_text}
 use Rattle.transcript_rows.specs.declared.row.Row.{Row}
 use Rattle.transcript_rows.specs.declared.row.Row.TheVariants.{Submit, Accept, Member, End}
+use Rattle.unknown_results.specs.Asking.{erased}
+use Rattle.unknown_results.specs.Filling.{Fills}
 use Rattle.transcript_text.specs.Transcript.{end_line, line_text, lines_text, transcript_line}
 
 -- ---- rows that fit
@@ -58,7 +60,7 @@ fits_at [] i line f e = absurd cc
 fits_at (c ∷ claims) zero line f e = let same : c ≡ line = cc in subst (λ (l : Line). RowFits (row_of l)) same f.0
 fits_at (c ∷ claims) (suc i) line f e = fits_at claims i line f.1 e
 
-both : (a b : Bool) → a ≡ true → b ≡ true → a && b ≡ true
+pub both : (a b : Bool) → a ≡ true → b ≡ true → a && b ≡ true
 both true b e f = f
 both false b e f = absurd cc
 
@@ -135,15 +137,16 @@ module _ {S : Type 0} (m : Meaning S) (claims : List Claim) (history : List Requ
       most = omega (arith, room, line_count (lines_of claims) history, length-map claims line_of);
     }
 
-    -- the text is a legal one, and says these claims
-    pub ordered_text : IsOrdered m (lines_of claims) (transcript_text whole)
-    ordered_text = record {
+    -- the text is a legal one, and says these claims, which differ from others in unknown results alone
+    pub ordered_text : (unknown : ℕ → ℕ → Bool) (ls : List Line) → Fills unknown ls (lines_of claims)
+        → IsOrdered m unknown ls (transcript_text whole)
+    ordered_text unknown ls fills = record {
       legal = record {
         whole = whole;
         spells = whole_spells;
         legal = subst (λ (ls : List Line). Legal m ls history) (sym (said_again claims)) legal;
       };
-      same = said_again claims;
+      fills = ap (map (erased unknown)) (said_again claims) ∙ fills;
     }
 
 -- ---- what is written, piece by piece

@@ -77,6 +77,51 @@ end
 => Refuted
 none part - line 3
 ----
+submit c0 1 50000178000131
+submit c1 1 50000178000132
+accept c1 1 ?
+submit c1 2 47000178
+accept c0 1 ?
+accept c1 2 3d32
+submit c2 1 470002787900
+accept c2 1 ?
+end
+=> Done
+found
+submit c0 1 50000178000131
+submit c1 1 50000178000132
+accept c1 1 3d31
+submit c1 2 47000178
+accept c0 1 6e6f6e65
+accept c1 2 3d32
+submit c2 1 470002787900
+accept c2 1 626164
+history 1 c0 1 50000178000131
+history 2 c1 1 50000178000132
+history 3 c1 2 47000178
+history 4 c2 1 470002787900
+end
+----
+submit c0 1 50000178000131
+accept c0 1 ?
+submit c1 1 47000178
+accept c1 1 6e6f6e65
+end
+=> Refuted
+none part 78 line 5
+----
+submit c0 1 47000178
+accept c0 1 ?
+accept c0 1 ?
+end
+=> Refuted
+refuted line 4 clause 5
+----
+accept c0 1 6e?
+end
+=> Refuted
+refuted line 2 clause 2
+----
 submit c0 1 47000178
 accept c1 1 6e6f6e65
 end

@@ -1,0 +1,5 @@
+pub mod Along
+pub mod Marked
+pub mod Placed
+pub mod Structure
+pub mod Found

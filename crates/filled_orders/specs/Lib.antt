@@ -1,0 +1,2 @@
+pub mod FilledAnswers
+pub mod Filling

@@ -1,0 +1,3 @@
+pub mod AnyResults
+pub mod Asking
+pub mod Filling
