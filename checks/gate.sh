@@ -1,0 +1,203 @@
+#!/bin/bash
+# Runs `kv_gate` on clusters of real processes, with a client of its own that speaks the protocol of Redis: each request of docs/GATEWAY.md;
+# requests sent at once, byte by byte, half, and not as the protocol has them; a user who never reads. Then the leader and the sequencer in
+# use are killed, and the same connection is answered. With one replica of three a user waits, and connections stay open. By a list of hosts
+# a gateway is answered, and another one with its numbers is refused. It takes some ten seconds, leaves nothing behind, and ends with status
+# 1 at any difference.
+#
+#   checks/gate.sh               the programs are those of crates/*/out/, or the files that NOPAXOS, HOSTS and GATE name
+. "$(dirname "$0")/common.bash" || exit 2
+needs "${NOPAXOS:-}" nopaxos -- replay
+nopaxos=$program
+needs "${HOSTS:-}" nopaxos_hosts
+at_hosts=$program
+needs "${GATE:-}" kv_gate
+. checks/nodes.bash
+finds_ports
+nodes_of "$nopaxos" --replicas 3 --sequencers 2 --base "$base"
+
+cat > "$folder/user.py" << 'END'
+import os, select, signal, socket, sys, time
+def spelled(*words):
+    words = [word.encode('latin1') for word in words]
+    return b'*%d\r\n' % len(words) + b''.join(b'$%d\r\n%s\r\n' % (len(word), word) for word in words)
+class User:
+    def __init__(self):
+        self.socket = socket.create_connection(('127.0.0.1', int(os.environ['PORT'])), 30)
+        self.socket.setsockopt(socket.IPPROTO_TCP, socket.TCP_NODELAY, 1)
+        self.lines = self.socket.makefile('rb')
+    def reply(self):
+        line = self.lines.readline().decode('latin1')
+        kind, rest = line[:1], line[1:-2]
+        if kind == '$': return None if rest == '-1' else self.lines.read(int(rest) + 2)[:-2].decode('latin1')
+        if kind == ':': return int(rest)
+        if kind == '*': return [self.reply() for _ in range(int(rest))]
+        return line[:4] if kind == '-' else line[:-2]
+    def ask(self, *words):
+        self.socket.sendall(spelled(*words))
+        return self.reply()
+made, wrong = 0, 0
+def same(what, got, wanted):
+    global made, wrong
+    made += 1
+    if got != wanted or type(got) != type(wanted):
+        wrong += 1
+        print('gate:', str(what)[:100], 'gave', repr(got)[:100], 'and not', repr(wanted)[:100])
+
+def table():
+    user, odd = User(), 'a b\r\n\0\xff'
+    for words, wanted in (
+        ('GET k', None), ('EXISTS k', 0), ('SET k v', '+OK'), ('GET k', 'v'), ('EXISTS k', 1), ('SET k w GET', 'v'), ('GETSET k x', 'w'),
+        ('set k v get', 'x'), ('GETSET n 1', None), ('SET m 2 GET', None), ('CAS k v w', 1), ('CAS k v x', 0), ('GET k', 'w'), ('CAS none v w', 0),
+        ('DEL k', 1), ('DEL k', 0), ('GETDEL n', '1'), ('GETDEL n', None), ('GETDEL m', '2'), (('SET', 'e', ''), '+OK'), ('GET e', ''),
+        ('EXISTS e', 1), (('CAS', 'e', '', odd), 1), ('GET e', odd), (('SET', odd, odd), '+OK'), (('GETDEL', odd), odd), ('PING', '+PONG'),
+        ('PING a', 'a'), (('ECHO', odd), odd), ('SELECT 0', '+OK'), ('CLIENT SETNAME a', '+OK'), ('SET ' + 'k' * 64 + ' ' + 'v' * 256, '+OK'),
+        ('GET ' + 'k' * 64, 'v' * 256)):
+        same(words, user.ask(*(words.split() if isinstance(words, str) else words)), wanted)
+    for words in ('COMMAND', 'COMMAND DOCS', 'CONFIG GET save'): same(words, type(user.ask(*words.split())), list)
+    same('INFO', type(user.ask('INFO')), str)
+    user.ask('SET', 'k', 'v')
+    for words in ('SELECT 1', 'INCR k', 'HELLO 3', 'GET', 'GET k k', 'SET k', 'SET k w EX 5', 'SET k w NX', 'SET k w GET NX', 'DEL k k', 'CAS k v',
+                  'CAS k v w w', 'GET ' + 'k' * 65, 'SET ' + 'k' * 65 + ' v', 'SET k ' + 'w' * 257, 'CAS k v ' + 'w' * 257):
+        same(words, user.ask(*words.split()), '-ERR')
+    for words in (('SET', '', 'v'), ('GET', ''), ('',)): same(words, user.ask(*words), '-ERR')
+    same('after errors', user.ask('GET', 'k'), 'v')
+    same('QUIT', [user.ask('QUIT'), user.reply()], ['+OK', ''])
+
+def order():
+    user = User()
+    user.socket.sendall(b''.join(spelled('SET', 'o', str(i), 'GET') for i in range(300)))
+    same('300 at once', [user.reply() for _ in range(300)], [None] + [str(i) for i in range(299)])
+    for i in range(0, len(spelled('GET', 'o'))): user.socket.sendall(spelled('GET', 'o')[i:i + 1])
+    same('byte by byte', user.reply(), '299')
+
+def odd():
+    for bytes in (b'*1\r\n$x\r\n', b'GET k\r\n', b'*1\r\n$-1\r\n', b'*2\r\n$3\r\nGET\r\n$1\r\nkk\r\n', b'*1\r\n$99999999\r\n'):
+        user = User()
+        user.socket.sendall(spelled('PING') + bytes + spelled('PING'))
+        same(bytes, [user.reply() for _ in range(3)], ['+PONG', '-ERR', ''])
+    halves, user = [User() for _ in range(50)], User()
+    for half in halves: half.socket.sendall(spelled('ECHO', 'abc')[:-4])
+    same('beside halves', [user.ask('SET', 'h', str(i)) for i in range(100)], ['+OK'] * 100)
+    for _ in range(500): User().socket.close()
+    same('after 500 who left', user.ask('GET', 'h'), '99')
+    greedy, sent = User(), 0
+    try:
+        while sent < 1 << 27: sent += greedy.socket.send(spelled('ECHO', 'e' * 400) * 100)
+    except OSError: pass
+    same('who never reads has its connection ended', sent < 1 << 27, True)
+    same('beside who never reads', user.ask('GET', 'h'), '99')
+    for half in halves: half.socket.sendall(spelled('ECHO', 'abc')[-4:])
+    same('halves at last', [half.reply() for half in halves], ['abc'] * 50)
+
+def fails(leader, sequencer, replica, most):
+    user, other = User(), User()
+    same('before', user.ask('SET', 'f', '0'), '+OK')
+    for count, (name, process) in enumerate((('leader', leader), ('sequencer', sequencer))):
+        os.kill(int(process), signal.SIGKILL)
+        began = time.time()
+        same(name + ' killed', user.ask('SET', 'f', str(count + 1), 'GET'), str(count))
+        took = time.time() - began
+        same(f'{name} killed: {took} s, at most {most}', took <= float(most), True)
+    os.kill(int(replica), signal.SIGKILL)
+    user.socket.sendall(spelled('GET', 'f'))
+    same('with one replica a user waits', select.select([user.socket], [], [], 1.5)[0], [])
+    same('and another is answered what needs none', other.ask('PING'), '+PONG')
+
+def hosts(before, after):
+    user = User()
+    same('by a list', [user.ask('GET', 'k'), user.ask('SET', 'k', after)], [before or None, '+OK'])
+
+globals()[sys.argv[1]](*sys.argv[2:])
+print(made, wrong, file=open(os.environ['COUNTS'], 'w'))
+END
+
+# users NAME WORDS..: users do this, and what they see is counted.
+users() {
+    local more=1 bad=1
+    rm -f "$folder/counts"
+    COUNTS=$folder/counts PORT=$tcp timeout 60 python3 "$folder/user.py" "$@" 2>&1
+    read -r more bad 2> /dev/null < "$folder/counts" || echo "gate: the users of '$1' ended before their time"
+    made=$((made + more))
+    wrong=$((wrong + bad))
+}
+
+# gate NAME WORDS..: a gateway for users at the TCP port $tcp.
+gate() {
+    "$program" "127.0.0.1:$tcp" "${@:2}" > "$folder/$1" 2>&1 &
+    pids[$1]=$!
+    awaits is_heard "$tcp" || differs "no gateway: '$(head -c 300 "$folder/$1")'"
+}
+
+# is_heard PORT: somebody listens at this TCP port, at any address.
+is_heard() {
+    grep -qE "^ *[0-9]+: [0-9A-F]+:$(printf %04X "$1") [0-9A-F]+:0000 0A " /proc/net/tcp /proc/net/tcp6 2> /dev/null
+}
+tcp=$base
+while is_heard "$tcp"; do tcp=$((tcp + 1)); done
+
+# ends WANTED_STATUS WANTED WORDS..: the program is run with these words, and writes what is wanted.
+ends() {
+    local wanted=$1 text=$2
+    shift 2
+    timeout 20 "$program" "$@" > "$folder/out" 2> "$folder/err"
+    same "'$*'" $? "$wanted" "$text"
+}
+
+# ---- what is not taken
+usage='usage: kv_gate LISTEN (PORT REPLICAS SEQUENCERS | LIST [--marks FOLDER]) FIRST COUNT'
+listen=127.0.0.1:$tcp
+for words in '' "$listen" "$listen $base 3 2 0" "$listen $base 3 2 0 0" "$listen $base 3 2 0 17" "$listen $base 3 2 4294967295 2" \
+    "$listen $base 2 2 0 1" "$listen $base 3 0 0 1" "$listen 1023 3 2 0 1" "127.0.0.1 $base 3 2 0 1" "localhost:$base $base 3 2 0 1" \
+    "$listen $base 3 2 -1 1" "$listen $folder/none 0" "$listen $folder/none --marks 0 1"; do
+    # shellcheck disable=SC2086
+    ends 2 "$usage" $words
+done
+ends 3 '' "$listen" "$folder/none" 0 1
+echo 'r0 here' > "$folder/bad"
+ends 2 'error line 1 rule 4' "$listen" "$folder/bad" 0 1
+
+# ---- a cluster of this machine
+for i in 0 1; do start "s$i" sequencer --id $i; done
+for i in 0 1 2; do start "r$i" node --id $i; done
+for i in 0 1; do start "ctl$i" controller --id $i; done
+are_up s0 s1 r0 r1 r2 ctl0 ctl1
+gate gate "$base" 3 2 0 2
+ends 5 '' "$listen" "$base" 3 2 2 1
+ends 5 '' "[::1]:$tcp" "$base" 3 2 0 1
+users table
+users order
+users odd
+made=$((made + 1))
+memory=$(sed -n 's/^VmHWM:[^0-9]*\([0-9]*\) kB/\1/p' "/proc/${pids[gate]}/status")
+[ "${memory:-99999}" -lt 32768 ] || differs "the gateway had $memory kB of memory"
+# Four seconds, or more where more processes want a processor than there are.
+most=4
+[ "$(cut -d. -f1 /proc/loadavg)" -lt "$(nproc)" ] || most=20
+users fails "${pids[r0]}" "${pids[s0]}" "${pids[r1]}" "$most" 2> /dev/null
+stop
+
+# ---- a list of hosts: a number is one gateway's
+{
+    echo 'cluster 1'
+    for i in 0 1 2; do echo "r$i 127.0.1.$((i + 1)):$((base + i))"; done
+    echo "s0 127.0.1.1:$((base + 8))"
+    echo "ctl 127.0.1.1:$((base + 12))"
+    for i in {0..15}; do echo "c$i 127.0.1.4:$((base + 16 + i))"; done
+} > "$folder/list"
+nodes_of "$at_hosts" "$folder/list"
+for name in r0 r1 r2 s0 ctl; do
+    "$at_hosts" "$folder/list" "$name" > "$folder/$name" 2>&1 &
+    pids[$name]=$!
+done
+are_up r0 r1 r2 s0 ctl
+gate gate "$folder/list" 0 3
+users hosts '' first
+kills gate
+ends 5 '' "$listen" "$folder/list" 2 1
+mkdir "$folder/marks"
+gate gate "$folder/list" --marks "$folder/marks" 3 3
+users hosts first second
+[ "$(ls "$folder/marks" | xargs)" = '1-c3 1-c4 1-c5' ] || differs "the marks are '$(ls "$folder/marks")'"
+ends 5 '' "[::1]:$tcp" "$folder/list" --marks "$folder/marks" 5 1
+concludes

@@ -1,0 +1,6 @@
+use Rattle.gate.proofs.Running.{runs_then}
+use Rattle.gate.proofs.site.Site.ask_and_take.Goals as goal
+
+pub returns-in-Ok : goal.returns-in-Ok
+returns-in-Ok g c =
+    runs_then c.take_from_outside.result _ _ _ c.in-Ok.ensures c.take_from_outside.ensures

@@ -1,0 +1,5 @@
+pub mod Sides
+pub mod Carrying
+pub mod Attaching
+pub mod Serving
+pub mod Faults

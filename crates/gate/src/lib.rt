@@ -1,0 +1,46 @@
+//! A gateway over its devices: links of the client cores, connections of users, and a clock.
+//!
+//! `serve` attaches a link for each client number at that client's port, and takes turns. In a turn
+//! the cores whose time has come send their open requests again, datagrams and events of users are
+//! taken, and requests are read, of each user in turn; what the core (`gate_core`) gives is carried
+//! out at once, in order. A turn in which nothing comes waits for users, where nothing came in the
+//! turns before it either.
+//!
+//! A request is sent again after the smoothed round trip and four times its deviation, as RFC 6298
+//! has it, but after 5 ms at least and 200 ms at most, and after twice as long each time without an
+//! answer (`retry`). Where nobody asked for anything for half a second, the gateway asks for a
+//! value itself: so a service whose leader failed finds it out while nobody asks.
+//!
+//! Proved: over any devices what `serve` takes and does is a run of the core over some events, in
+//! order (`Runs` in `specs/Carrying`):
+//! - `serves`: among these events, those of users and the datagrams of each core are what the devices
+//!   gave, each in its order, where they are observable. The trace of users holds the events that
+//!   came, and the replies and closes that the core gives in its steps, in order and no others. So
+//!   the laws of `gate_core` hold: replies are those to the requests that a user sent.
+//! - The same clause: at an error it is a first part of that, with its cause: LinkFault where one poll
+//!   of one link failed, UsersFault where the users failed as a whole; else no call failed. Where not
+//!   all links were attached, nothing was done for users.
+//! - `attaches`: PortFault exactly where an attach failed. `back`: as many links are given back as were
+//!   attached; those over which the gateway ran, in the order of the cores.
+//! - `RoundTrip::timeout`: 5 ms at least, 200 ms at most.
+//!
+//! No clause says which datagrams are sent, when a request is sent again, or how many turns were
+//! taken.
+//!
+//! Calls: `serve`.
+//!
+//! Files: `serving`, `attaching`, `turn`, `site`, `lines`, `retry`, `errors`. Definitions:
+//! `specs/Sides`, `Carrying`, `Attaching`, `Serving`, `Faults`.
+#![tactic(auto)]
+
+mod attaching;
+mod errors;
+mod lines;
+mod retry;
+mod serving;
+mod site;
+mod turn;
+
+pub use errors::GateError;
+pub use retry::{RetryTimer, RoundTrip};
+pub use serving::serve;

@@ -1,0 +1,94 @@
+//! The client cores' way out.
+
+ghost use Rattle.std.specs.Prelude.{◌≡◌};
+ghost use Rattle.outside.specs.Causes.{CountsFor};
+ghost use Rattle.outside.specs.Links.{Polls};
+ghost use Rattle.outside.specs.Observed.{Stays};
+ghost use Rattle.outside.specs.declared.errors.DeviceError.TheVariants as devices;
+ghost use Rattle.gate.specs.Carrying.{Untaken};
+ghost use Rattle.gate.specs.Sides.{lines_seen};
+
+use crate::retry::RetryTimer;
+use nop_types::{Bytes, Dest, NoMemory};
+use outside::{Link, LinkError};
+use udp_node::{Address, poll_link, send_to};
+
+/// The way out of a client core: its link, where it is, when it sends again, and how many datagrams
+/// could not be sent.
+pub(crate) struct Line<L> {
+    pub(crate) link: L,
+    pub(crate) at: Address,
+    pub(crate) timer: RetryTimer,
+    pub(crate) lost: u64,
+}
+
+/// Those of all cores, in the order of their places.
+pub(crate) struct Lines<L> {
+    pub(crate) lines: Vec<Line<L>>,
+}
+
+impl<L: Link> Line<L> {
+    fn send(&mut self, dest: Dest, bytes: &[u8]) -> Result<(), NoMemory>
+        ensures answers { Stays (L.answers self.old.link) (L.answers self.new.link) }
+        ensures faults { L.fault_count self.new.link ≡ L.fault_count self.old.link }
+    {
+        send_to(&self.at, dest, bytes, &mut self.link, &mut self.lost)
+    }
+
+    pub(crate) fn poll(&mut self) -> Result<Option<Bytes>, LinkError>
+        ensures answer { Polls (L.answers self.old.link) (L.answers self.new.link) result }
+        ensures count { CountsFor (L.fault_count self.old.link) (L.fault_count self.new.link)
+            devices.Failed result }
+    {
+        poll_link(&mut self.link, &mut self.lost)
+    }
+}
+
+impl<L: Link> Lines<L> {
+    /// The core at a place sends a datagram.
+    pub(crate) fn send(&mut self, core: usize, dest: Dest, bytes: &[u8]) -> Result<(), NoMemory>
+        ensures { Untaken (lines_seen L.Link self.old.lines.items)
+            (lines_seen L.Link self.new.lines.items) }
+    {
+        if core >= self.lines.len() {
+            return Ok(());
+        }
+        let line = &mut self.lines[core];
+        line.send(dest, bytes)
+    }
+
+    /// The core at a place submitted a request.
+    pub(crate) fn submitted(&mut self, core: usize, id: u64, now: u64) -> Result<(), NoMemory>
+        ensures { lines_seen L.Link self.new.lines.items
+            ≡ lines_seen L.Link self.old.lines.items }
+    {
+        if core >= self.lines.len() {
+            return Ok(());
+        }
+        let line = &mut self.lines[core];
+        line.timer.submitted(id, now)
+    }
+
+    /// The core at a place accepted the result of a request.
+    pub(crate) fn accepted(&mut self, core: usize, id: u64, now: u64)
+        ensures { lines_seen L.Link self.new.lines.items
+            ≡ lines_seen L.Link self.old.lines.items }
+    {
+        if core < self.lines.len() {
+            let line = &mut self.lines[core];
+            line.timer.accepted(id, now);
+        }
+    }
+
+    /// Whether the core at a place sends its open requests again now.
+    pub(crate) fn is_due(&mut self, core: usize, now: u64) -> bool
+        ensures { lines_seen L.Link self.new.lines.items
+            ≡ lines_seen L.Link self.old.lines.items }
+    {
+        if core >= self.lines.len() {
+            return false;
+        }
+        let line = &mut self.lines[core];
+        line.timer.is_due(now)
+    }
+}

@@ -1,0 +1,69 @@
+-- The task that words ask for.
+use Rattle.std.specs.Prelude.{ℕ, ◌+◌, ◌-◌, ◌^◌, ◌≤◌, List, [], ◌∷◌, Option, Some, None, codes, if◌then◌else◌}
+use Rattle.std.specs.Option.{option_copied}
+use Rattle.std.specs.declared.net.socket_addr.SocketAddr.{SocketAddr}
+use Rattle.oum_codec.specs.Numbers.{◌>>=◌}
+use Rattle.line_fields.specs.Fields.{is_text}
+use Rattle.client_call.specs.declared.call.Service.{Service}
+use Rattle.host_list.specs.Addresses.{spelled_address}
+use Rattle.call_words.specs.Services.{number_in, service_of}
+use Rattle.gate_words.specs.declared.task.TheConstants.{MAX_NUMBERS}
+use Rattle.gate_words.specs.declared.task.Numbers.{Numbers}
+use Rattle.gate_words.specs.declared.task.Site.{Site}
+use Rattle.gate_words.specs.declared.task.Site.TheVariants.{Near, Listed}
+use Rattle.gate_words.specs.declared.task.Task.{Task}
+
+-- a service on this machine, or the texts of a list's file and of a folder of marks
+pub data Place : Type 0 where
+  AtPorts : Service → Place
+  AtHosts : List ℕ → Option (List ℕ) → Place
+
+pub record Asked : Type 0 where
+  pub listen : SocketAddr
+  pub place : Place
+  pub numbers : Numbers
+
+-- a task, with its texts themselves
+abbrev pub place_seen : Site → Place
+place_seen (Near service) = AtPorts service
+place_seen (Listed list marks) = AtHosts list.now (option_copied marks)
+
+abbrev pub seen : Task → Asked
+seen task = record { listen = task.listen; place = place_seen task.site; numbers = task.numbers }
+
+-- the numbers from the first one on, all below 2^32
+abbrev pub numbers_of : List ℕ → List ℕ → Option Numbers
+numbers_of first count = do
+  n ← number_in 1 MAX_NUMBERS count
+  from ← number_in 0 (2 ^ 32 - n) first
+  Some (record { first = from; count = n })
+
+-- none is over 2^32 - 1
+abbrev pub AreBelow : Numbers → Type 0
+AreBelow numbers = numbers.first + numbers.count ≤ 2 ^ 32
+
+-- the address for users, and the numbers
+abbrev pub ends_of : List ℕ → List ℕ → List ℕ → Option (SocketAddr × Numbers)
+ends_of listen first count = do
+  address ← spelled_address listen
+  numbers ← numbers_of first count
+  Some (address, numbers)
+
+abbrev pub asked : List ℕ → Place → List ℕ → List ℕ → Option Asked
+asked listen place first count = do
+  ends ← ends_of listen first count
+  Some (record { listen = ends.0; place = place; numbers = ends.1 })
+
+abbrev pub asked_at : List ℕ → Option Service → List ℕ → List ℕ → Option Asked
+asked_at listen service first count = do
+  s ← service
+  asked listen (AtPorts s) first count
+
+-- six words behind the program's name, or four
+abbrev pub task_of : List (List ℕ) → Option Asked
+task_of (program ∷ listen ∷ a ∷ b ∷ c ∷ first ∷ count ∷ []) =
+    if is_text (codes "--marks") b
+    then asked listen (AtHosts a (Some c)) first count
+    else asked_at listen (service_of a b c) first count
+task_of (program ∷ listen ∷ list ∷ first ∷ count ∷ []) = asked listen (AtHosts list None) first count
+task_of words = None

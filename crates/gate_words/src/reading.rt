@@ -1,0 +1,117 @@
+//! The task that words ask for.
+
+ghost use Rattle.std.specs.Prelude.{◌≡◌, None, Some, IfSome, option_map, map, string_bytes};
+ghost use Rattle.gate_words.specs.Tasks.{AreBelow, AtHosts, asked, asked_at, ends_of, numbers_of, seen, task_of};
+ghost use Rattle.call_words.specs.Services.{service_of};
+
+use crate::task::{MAX_NUMBERS, Numbers, Site, Task};
+use call_words::{number_in, service_of};
+use host_list::spelled_address;
+use line_fields::is_word;
+use std::net::SocketAddr;
+
+fn numbers_of(first: &[u8], count: &[u8]) -> Option<Numbers>
+    ensures numbers { result ≡ numbers_of first.now count.now }
+    ensures below { IfSome result AreBelow }
+{
+    let count = number_in(1, u64::from(MAX_NUMBERS), count)?;
+    let first = number_in(0, 4_294_967_296 - count, first)?;
+    Some(Numbers {
+        first: first as u32,
+        count: count as u32,
+    })
+}
+
+/// The address for users, and the gateway's numbers.
+fn ends_of(listen: &str, first: &str, count: &str) -> Option<(SocketAddr, Numbers)>
+    ensures ends { result ≡ ends_of listen.now first.now count.now }
+    ensures below { IfSome result (λ ends. AreBelow ends.1) }
+{
+    let address = spelled_address(listen.as_bytes())?;
+    let numbers = numbers_of(first.as_bytes(), count.as_bytes())?;
+    Some((address, numbers))
+}
+
+/// A task of a service on this machine.
+fn near<'a>(
+    listen: &str,
+    port: &str,
+    replicas: &str,
+    sequencers: &str,
+    first: &str,
+    count: &str,
+) -> Option<Task<'a>>
+    ensures task { option_map seen result ≡ asked_at listen.now
+        (service_of port.now replicas.now sequencers.now) first.now count.now }
+    ensures below { IfSome result (λ task. AreBelow task.numbers) }
+{
+    let service = service_of(port.as_bytes(), replicas.as_bytes(), sequencers.as_bytes())?;
+    let (listen, numbers) = ends_of(listen, first, count)?;
+    Some(Task {
+        listen,
+        site: Site::Near(service),
+        numbers,
+    })
+}
+
+/// A task of a service where a list of hosts says, with a folder of marks.
+fn marked<'a>(
+    listen: &str,
+    list: &'a str,
+    folder: &'a str,
+    first: &str,
+    count: &str,
+) -> Option<Task<'a>>
+    ensures task { option_map seen result
+        ≡ asked listen.now (AtHosts list.now (Some folder.now)) first.now count.now }
+    ensures below { IfSome result (λ task. AreBelow task.numbers) }
+{
+    let (listen, numbers) = ends_of(listen, first, count)?;
+    Some(Task {
+        listen,
+        site: Site::Listed {
+            list,
+            marks: Some(folder),
+        },
+        numbers,
+    })
+}
+
+/// A task of a service where a list of hosts says.
+fn listed<'a>(listen: &str, list: &'a str, first: &str, count: &str) -> Option<Task<'a>>
+    ensures task { option_map seen result
+        ≡ asked listen.now (AtHosts list.now None) first.now count.now }
+    ensures below { IfSome result (λ task. AreBelow task.numbers) }
+{
+    let (listen, numbers) = ends_of(listen, first, count)?;
+    Some(Task {
+        listen,
+        site: Site::Listed { list, marks: None },
+        numbers,
+    })
+}
+
+/// The task that words ask for; the first one is the program's name.
+pub fn task_of(words: &[String]) -> Option<Task<'_>>
+    ensures task { option_map seen result ≡ task_of (map string_bytes words.now) }
+    ensures below { IfSome result (λ task. AreBelow task.numbers) }
+{
+    if let [_, listen, list, first, count] = words {
+        return listed(
+            listen.as_str(),
+            list.as_str(),
+            first.as_str(),
+            count.as_str(),
+        );
+    }
+    let [_, listen, a, b, c, first, count] = words else {
+        return None;
+    };
+    let (listen, a, b, c) = (listen.as_str(), a.as_str(), b.as_str(), c.as_str());
+    let (first, count) = (first.as_str(), count.as_str());
+    if is_word(b.as_bytes(), "--marks") {
+        marked(listen, a, c, first, count)
+    } else {
+        near(listen, a, b, c, first, count)
+    }
+}

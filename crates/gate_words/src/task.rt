@@ -1,0 +1,36 @@
+//! What a gateway does.
+
+use client_call::Service;
+use std::net::SocketAddr;
+
+/// The most numbers of a gateway: as many as there are places of clients.
+pub const MAX_NUMBERS: u32 = 16;
+
+const _: () = prove!(MAX_NUMBERS == 16);
+
+/// Where a service is.
+#[derive(Clone, Copy, Debug)]
+pub enum Site<'a> {
+    /// On this machine.
+    Near(Service),
+    /// Where the list of hosts in a file says. With a folder, marks of the numbers are made there.
+    Listed {
+        list: &'a str,
+        marks: Option<&'a str>,
+    },
+}
+
+/// The numbers of clients from the first one on, `count` of them: none is over 2^32 - 1.
+#[derive(Clone, Copy, Debug, PartialEq, Eq)]
+pub struct Numbers {
+    pub first: u32,
+    pub count: u32,
+}
+
+/// The address for users, the service, and the gateway's numbers.
+#[derive(Clone, Copy, Debug)]
+pub struct Task<'a> {
+    pub listen: SocketAddr,
+    pub site: Site<'a>,
+    pub numbers: Numbers,
+}

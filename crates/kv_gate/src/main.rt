@@ -1,0 +1,41 @@
+//! The program `kv_gate`: a gateway to the key-value store, for users who speak the protocol of Redis (RESP 2).
+//!
+//!     kv_gate LISTEN PORT REPLICAS SEQUENCERS FIRST COUNT       the nodes are on this machine
+//!     kv_gate LISTEN LIST [--marks FOLDER] FIRST COUNT          they are where a list of hosts says
+//!
+//!     kv_gate 127.0.0.1:6379 47000 3 2 4 2
+//!     redis-cli set k v                                         OK
+//!
+//! LISTEN is the address for users. The gateway submits their ops as the clients FIRST to FIRST + COUNT - 1, whose numbers were never used
+//! before. It runs until it is killed, or a device fails. docs/GATEWAY.md says what it answers.
+//!
+//! Proved: which words ask for what (`gate_words`), and what the gateway replies to its users over any devices (`gate`); of `main` that it is
+//! safe and ends. Over sockets it is seen on running clusters by `checks/gate.sh`.
+//!
+//! Files: `running` (what the words ask for), `hosts` (with a list), `waking` (ports at which a wait for users ends), `texts`, `status`.
+#![tactic(auto)]
+
+mod hosts;
+mod running;
+mod status;
+mod texts;
+mod waking;
+
+use running::run;
+use status::Status;
+use std::io::ErrorKind;
+use std::process::ExitCode;
+
+fn main(rt: HostRuntime) -> ExitCode {
+    let words = match std::env::args(&rt) {
+        Ok(args) => args.collect(rt.alloc()),
+        // A word that is no text: no words are taken.
+        Err(e) if e.kind() == ErrorKind::InvalidData => Ok(Vec::new(rt.alloc())),
+        Err(_) => return ExitCode::from(Status::NoMemory as u8),
+    };
+    let Ok(words) = words else {
+        return ExitCode::from(Status::NoMemory as u8);
+    };
+    let words: Vec<String> = words;
+    ExitCode::from(run(&rt, &words) as u8)
+}

@@ -1,0 +1,68 @@
+//! What the words ask for.
+
+ghost use Rattle.gate_words.specs.Tasks.{AreBelow};
+
+use crate::hosts::run_at_hosts;
+use crate::status::Status;
+use crate::texts::write_usage;
+use crate::waking::WakingPorts;
+use client_call::Service;
+use gate::{GateError, serve};
+use gate_words::{Numbers, Site, Task, task_of};
+use std::net::SocketAddr;
+use tcp_users::TcpUsers;
+use udp_ports::{SystemClock, UdpPorts};
+
+/// Answers users until a device fails.
+pub(crate) fn serve_over(
+    rt: &HostRuntime,
+    listen: SocketAddr,
+    numbers: Numbers,
+    service: &Service,
+    ports: UdpPorts<'_, HostRuntime>,
+) -> Status
+    requires { AreBelow numbers }
+{
+    let Ok(mut users) = TcpUsers::listen(rt, rt.alloc(), listen) else {
+        return Status::LinkFault;
+    };
+    let Ok(registry) = users.registry() else {
+        return Status::LinkFault;
+    };
+    let mut ports = WakingPorts::new(ports.without_waits(), registry);
+    let mut clock = SystemClock::new(rt);
+    let ended = serve(
+        rt.alloc(),
+        service,
+        numbers.first,
+        numbers.count as usize,
+        u64::MAX,
+        &mut ports,
+        &mut users,
+        &mut clock,
+    );
+    match ended {
+        Ok(()) => Status::Done,
+        Err(GateError::NoMemory) => Status::NoMemory,
+        Err(_) => Status::LinkFault,
+    }
+}
+
+/// Runs the gateway that the words ask for; the first one is the program's name.
+pub(crate) fn run(rt: &HostRuntime, words: &[String]) -> Status {
+    let Some(task) = task_of(words) else {
+        return write_usage(&mut std::io::writer(rt));
+    };
+    let Task {
+        listen,
+        site,
+        numbers,
+    } = task;
+    match site {
+        Site::Near(service) => {
+            let ports = UdpPorts::new(rt, rt.alloc());
+            serve_over(rt, listen, numbers, &service, ports)
+        }
+        Site::Listed { list, marks } => run_at_hosts(rt, listen, numbers, list, marks),
+    }
+}
