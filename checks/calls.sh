@@ -1,13 +1,13 @@
 #!/bin/bash
-# Runs `kv_call`, which calls the key-value store in words, on a cluster of real processes, also after its leader was killed, and looks at
-# each way in which it ends. A client that was told the slot of its write reads it of an observer at once, and waits while the observer does
-# not have it. It takes a few seconds, leaves nothing behind, and ends with status 1 at any difference.
+# Runs `kv`, the key-value store in words, on a cluster of real processes with an observer, also after its leader was killed, and on a full
+# disk; `checks/tool.sh` has the wrong calls. A client that was told the slot of its write reads it of the observer at once, and waits while the
+# observer does not have it. It takes a few seconds, leaves nothing behind, and ends with status 1 at any difference.
 #
-#   checks/calls.sh              the nodes are those of crates/nopaxos/out/nopaxos, or of the file that NOPAXOS names
+#   checks/calls.sh              the nodes are those of crates/nopaxos/out/nopaxos, or of the file that NOPAXOS names; KV names the tool
 . "$(dirname "$0")/common.bash" || exit 2
 needs "${NOPAXOS:-}" nopaxos -- replay
 nopaxos=$program
-needs "" kv_call
+needs "${KV:-}" kv -- --version
 
 . checks/nodes.bash
 finds_ports
@@ -38,7 +38,8 @@ fails() {
 called() {
     local client=$1 wanted=$2
     shift 2
-    ends 0 "$wanted" "$base" 3 1 "$client" 20000 "$@"
+    # shellcheck disable=SC2086
+    ends 0 "$wanted" $site --id "$client" "$@"
 }
 
 # slotted CLIENT WANTED OP..: a new client is answered so, behind a line of the op's slot, which is then $slot.
@@ -46,7 +47,8 @@ slotted() {
     local client=$1 wanted=$2
     shift 2
     made=$((made + 1))
-    timeout 60 "$program" --slot "$base" 3 1 "$client" 20000 "$@" > "$folder/out" 2> "$folder/err"
+    # shellcheck disable=SC2086
+    timeout 60 "$program" $site --id "$client" --slot "$@" > "$folder/out" 2> "$folder/err"
     if ! grep -qx 'slot [1-9][0-9]*' <(head -n 1 "$folder/out") || [ "$(tail -n +2 "$folder/out")" != "$wanted" ]; then
         differs "'--slot $*': '$(head -c 300 "$folder/out")', and on standard error '$(head -c 300 "$folder/err")'"
     fi
@@ -129,25 +131,11 @@ wait "${pids[waiting]}"
 sees waiting $? "$later" '3d3[1-9]'
 unset 'pids[waiting]'
 
-fails "$base" 3 1 4 20000 put k x
+# shellcheck disable=SC2086
+fails $site --id 4 put k x
+fails --help
 kills r0
 called 5 '=x' get k
 called 6 yes compare-and-set k x 0x206b
 called 4294967295 '=0x206b' delete k
-
-# Sequencer 0 holds its port, which is that of client 0 of a service 8 ports below.
-ends 5 '' "$((base - 8))" 3 1 0 20000 get k
-# Nobody is at these ports.
-ends 7 '' "$((base + 64))" 3 1 0 20 get k
-
-usage='usage: kv_call [--slot] PORT REPLICAS SEQUENCERS CLIENT TURNS OP'
-for words in '' "$base 3 1 7 20" "$base 3 1 7 20 take k" "$base 3 1 7 20 get" "$base 3 1 7 20 get k v" "$base 3 1 7 20 get 0x" \
-    "$base 2 1 7 20 get k" "$base 259 1 7 20 get k" "$base 3 0 7 20 get k" '1023 3 1 7 20 get k' '65001 3 1 7 20 get k' \
-    '66559 3 1 7 20 get k' "$base 3 1 4294967296 20 get k" "$base 3 1 x 20 get k" "$base 3 1 7 0 get k" \
-    "$base 3 1 7 18446744073709551616 get k" '--slot' "--slot $base 3 1 7 20 get" "$base --slot 3 1 7 20 get k"; do
-    # shellcheck disable=SC2086
-    ends 2 "$usage" $words
-done
-ends 2 "$usage" "$base" 3 1 7 20 get $'\377'
-fails stop
 concludes

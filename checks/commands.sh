@@ -78,21 +78,24 @@ grep -qx 'accept c0 1 6772616e7465640000000000000001' "$folder/out" || differs "
 runs docs/OWN-SERVICE.md 'crates/lock_spacetime/out/lock_spacetime < crates/lock_service/stdin > my.svg'
 is_picture
 
-# A cluster of processes, whose leader is killed, and then its sequencer and a controller: five clients put and get, and the last reads
-# what the one before it put; an observer is read before and after the leader's end.
-made=$((made + 1))
-finds_ports
-if BASE=$base examples/cluster.sh > "$folder/out" 2> "$folder/err"; then
-    [ "$(grep -c '^status 0$' "$folder/out")" = 7 ] || differs "not each client of examples/cluster.sh ends with status 0"
-    grep -qE '^answer c[0-9]+ 1 o0 [1-9][0-9]* 3d77$' "$folder/out" && grep -qE '^answer c[0-9]+ 1 o0 [1-9][0-9]* 3d78$' "$folder/out" ||
-        differs "the observer of examples/cluster.sh is behind"
-    grep -qx 'accept c1 1 3d76' "$folder/out" && grep -qx 'accept c1 2 3d77' "$folder/out" ||
-        differs "the second client of examples/cluster.sh reads other values"
-    grep -qx 'accept c6 1 3d79' "$folder/out" && grep -qx 'answer: =y' "$folder/out" ||
-        differs "the last client of examples/cluster.sh reads another value"
-else
-    differs "examples/cluster.sh ends with status $?: $(tail -n 3 "$folder/err")"
-fi
+# A cluster of processes, of three replicas and of five, whose leader is killed, and then its sequencer and a controller: five clients put
+# and get, and the last reads what the one before it put; an observer is read before and after the leader's end.
+for replicas in 3 5; do
+    made=$((made + 1))
+    finds_ports
+    cluster="examples/cluster.sh $replicas"
+    if BASE=$base examples/cluster.sh "$replicas" > "$folder/out" 2> "$folder/err"; then
+        [ "$(grep -c '^status 0$' "$folder/out")" = 7 ] || differs "not each client of $cluster ends with status 0"
+        grep -qE '^answer c[0-9]+ 1 o0 [1-9][0-9]* 3d77$' "$folder/out" && grep -qE '^answer c[0-9]+ 1 o0 [1-9][0-9]* 3d78$' "$folder/out" ||
+            differs "the observer of $cluster is behind"
+        grep -qx 'accept c1 1 3d76' "$folder/out" && grep -qx 'accept c1 2 3d77' "$folder/out" ||
+            differs "the second client of $cluster reads other values"
+        grep -qx 'accept c6 1 3d79' "$folder/out" && grep -qx 'answer: =y' "$folder/out" ||
+            differs "the last client of $cluster reads another value"
+    else
+        differs "$cluster ends with status $?: $(tail -n 3 "$folder/err")"
+    fi
+done
 # With an argument that is not taken it starts nothing.
 made=$((made + 1))
 examples/cluster.sh 4 > "$folder/out" 2> "$folder/err"

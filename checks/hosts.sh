@@ -4,8 +4,7 @@
 # started again and refused, as are a client number that was used, the 257th, a node with another list, and with marks a whole cluster. Then
 # examples/hosts.sh is run. It takes some fifteen seconds, leaves nothing behind, and ends with status 1 at any difference.
 #
-#   checks/hosts.sh              the program is crates/nopaxos_hosts/out/nopaxos_hosts, or the file that HOSTS names, and that of kv_ops
-#                                the one that KV_OPS names
+#   checks/hosts.sh              the program is crates/nopaxos_hosts/out/nopaxos_hosts, or the file that HOSTS names; KV names that of kv
 . "$(dirname "$0")/common.bash" || exit 2
 needs "${HOSTS:-}" nopaxos_hosts
 . checks/nodes.bash
@@ -132,8 +131,8 @@ answered '1 6e6f6e65' c0 "$get"
 stop
 made=$((made + 1))
 hosted=$program
-needs "${KV_OPS:-}" kv_ops -- op get k
-if NOPAXOS_HOSTS=$hosted KV_OPS=$program BASE=$base examples/hosts.sh > "$folder/out" 2> "$folder/err"; then
+needs "${KV:-}" kv -- --version
+if NOPAXOS_HOSTS=$hosted KV=$program BASE=$base examples/hosts.sh > "$folder/out" 2> "$folder/err"; then
     [ "$(grep -c '^c[12]: get k: =v, after ' "$folder/out")" = 2 ] && grep -q '^r0 .* status 5,' "$folder/out" ||
         differs "examples/hosts.sh writes '$(tail -n 8 "$folder/out")'"
 else

@@ -3,25 +3,25 @@
 # their leader, and grant the lock again by a greater token. It takes some ten seconds, leaves nothing behind, and ends with status 1 at any
 # difference.
 #
-#   checks/locks.sh              the program is crates/lock_service/out/lock_service, or the file that LOCKS names
+#   checks/locks.sh              the program is crates/lock_service/out/lock_service, or the file that LOCKS names; LOCK_TOOL names the tool
 . "$(dirname "$0")/common.bash" || exit 2
 needs "${LOCKS:-}" lock_service -- replay
 
 locks=$program
-needs "" lock_ops -- op inspect db
-lock_ops=$program
+needs "${LOCK_TOOL:-}" locks -- --version
+tool=$program
 program=$locks
 
 # Acquires of the lock db by ann and bob, ann's release by token 1, and an inspect.
-ann=$("$lock_ops" op acquire db ann)
-bob=$("$lock_ops" op acquire db bob)
-release=$("$lock_ops" op release db ann 1)
-inspect=$("$lock_ops" op inspect db)
+ann=$("$tool" op acquire db ann)
+bob=$("$tool" op acquire db bob)
+release=$("$tool" op release db ann 1)
+inspect=$("$tool" op inspect db)
 
 # results: each result of the lines of a client, in the order of its ops, in words, with a semicolon after it.
 results() {
     local result
-    sed -n 's/^accept [^ ]* //p' "$1" | sort -n | cut -d' ' -f2 | while read -r result; do echo "$("$lock_ops" result "$result");"; done | xargs
+    sed -n 's/^accept [^ ]* //p' "$1" | sort -n | cut -d' ' -f2 | while read -r result; do echo "$("$tool" result "$result");"; done | xargs
 }
 
 . checks/nodes.bash

@@ -1,8 +1,8 @@
 #!/bin/bash
-# Ops and results in words: what `kv_ops` and `lock_ops` make of them, against bytes that are written out by hand, and what they refuse. It
-# takes a second, leaves nothing behind, and ends with status 1 at any difference.
+# Ops and results in words: what `kv` and `locks` make of them behind `op`, `text` and `result`, against bytes that are written out by hand,
+# and what they refuse. It takes a second, leaves nothing behind, and ends with status 1 at any difference.
 #
-#   checks/ops.sh                the programs are crates/kv_ops/out/kv_ops and crates/lock_ops/out/lock_ops
+#   checks/ops.sh                the programs are crates/kv/out/kv and crates/locks/out/locks, or those that KV and LOCK_TOOL name
 . "$(dirname "$0")/common.bash" || exit 2
 
 # answers WANTED ARGUMENTS..: the program writes this one line, and ends with status 0.
@@ -23,19 +23,20 @@ op() {
     answers "$*" text "$hex"
 }
 
-# refuses ARGUMENTS..: the usage line, and status 2.
+# refuses ARGUMENTS..: status 2, and on standard error what is wanted.
 refuses() {
     local status
     made=$((made + 1))
-    "$program" "$@" > "$folder/out" 2>&1
+    "$program" "$@" > "$folder/out" 2> "$folder/err"
     status=$?
-    [ "$status" = 2 ] && grep -q '^usage: ' "$folder/out" || differs "'$*': status $status, '$(head -c 300 "$folder/out")'"
+    same "'$*'" "$status" 2 "$tool: want op WORDS, text OP or result RESULT, by an op of this service" err
 }
 
 long=$(printf 'k%.0s' {1..64})
 hex=$(printf '6b%.0s' {1..64})
 value=$(printf 'v%.0s' {1..256})
-needs "" kv_ops -- op get k
+tool=kv
+needs "${KV:-}" kv -- --version
 op 4700016b get k
 op 5000016b000176 put k v
 op 4400016b delete k
@@ -46,8 +47,8 @@ op "470040$hex" get "$long"
 answers 5000016b0000 op put k ''
 op 47000430783030 get 0x30783030
 answers 4700024b6b op get 0x4B6b
-for words in '' 'op' 'op get' 'op get k v' 'op put k' 'op put k v w' 'op take k' 'op get 0x' 'op get 0x0' 'op get 0xgg' "op get ${long}k" \
-    "op put k ${value}v" 'text' 'text 47' 'text 4700016b00' 'text xx' 'result' 'result 0' 'stop' 'text 4700016b 4700016b'; do
+for words in 'op' 'op get' 'op get k v' 'op put k' 'op put k v w' 'op take k' 'op get 0x' 'op get 0x0' 'op get 0xgg' "op get ${long}k" \
+    "op put k ${value}v" 'text' 'text 47' 'text 4700016b00' 'text xx' 'result' 'result 0' 'text 4700016b 4700016b'; do
     # shellcheck disable=SC2086
     refuses $words
 done
@@ -58,7 +59,8 @@ answers '=0x' result 3d
 answers '=0x20' result 3d20
 answers bad result 626164
 
-needs "" lock_ops -- op inspect db
+tool=locks
+needs "${LOCK_TOOL:-}" locks -- --version
 op 4102646203616e6e acquire db ann
 op 5202646203616e6e0000000000000001 release db ann 1
 op 5202646203616e6effffffffffffffff release db ann 18446744073709551615

@@ -5,7 +5,7 @@
 # are ended, by their ids. docs/FORMATS.md says what the lines mean, docs/RUNNING.md what else there is to know.
 #
 #   examples/cluster.sh [REPLICAS]       3 replicas, or 1, 5 or 7; with 1, the leader is not killed, and there is no observer
-#   KV_OPS   the program file of `kv_ops`, which turns words into ops and results into words (crates/kv_ops/out/kv_ops)
+#   KV       the program file of `kv`, which turns words into ops and results into words (crates/kv/out/kv)
 #   NOPAXOS  the program file (crates/nopaxos/out/nopaxos, which `rt run` leaves); a relative name counts from the repository
 #   BASE     the port of replica 0, 1024 to 65000 (47000): the ports from there to BASE + 35 belong to the cluster
 #
@@ -17,7 +17,7 @@ cd "$(dirname "$0")/.." || exit 2
 # usage REASON: the arguments are not taken.
 usage() {
     echo "cluster.sh: $1" >&2
-    echo "usage: [NOPAXOS=FILE] [KV_OPS=FILE] [BASE=PORT] examples/cluster.sh [1 | 3 | 5 | 7]" >&2
+    echo "usage: [NOPAXOS=FILE] [KV=FILE] [BASE=PORT] examples/cluster.sh [1 | 3 | 5 | 7]" >&2
     exit 2
 }
 
@@ -68,9 +68,9 @@ builds() {
 
 [ -x "$program" ] || builds nopaxos -- replay
 [ -x "$program" ] || { echo "cluster.sh: there is no program file $program" >&2; exit 1; }
-kv_ops=${KV_OPS:-crates/kv_ops/out/kv_ops}
-[ -x "$kv_ops" ] || builds kv_ops -- op get k
-[ -x "$kv_ops" ] || { echo "cluster.sh: there is no program file $kv_ops" >&2; exit 1; }
+kv=${KV:-crates/kv/out/kv}
+[ -x "$kv" ] || builds kv -- --version
+[ -x "$kv" ] || { echo "cluster.sh: there is no program file $kv" >&2; exit 1; }
 
 folder=$(mktemp -d) || exit 1
 declare -A pids=()
@@ -110,7 +110,7 @@ client() {
     for op in "$@"; do
         echo "client $number: $op"
         # shellcheck disable=SC2086
-        ops+=("$("$kv_ops" op $op)")
+        ops+=("$("$kv" op $op)")
     done
     # shellcheck disable=SC2086
     timeout 60 "$program" client --id "$number" $site "${ops[@]}" > "$folder/client" 2>&1 &
@@ -119,7 +119,7 @@ client() {
     status=$?
     unset 'pids[client]'
     while read -r word _ _ result; do
-        if [ "$word" = accept ]; then echo "answer: $("$kv_ops" result "$result")"; fi
+        if [ "$word" = accept ]; then echo "answer: $("$kv" result "$result")"; fi
     done < "$folder/client"
     cat "$folder/client"
     echo "status $status"
@@ -132,7 +132,7 @@ client() {
 # 16 more, asks it a second later, ten of them at most.
 reads() {
     local number op status answer
-    op=$("$kv_ops" op get "$2")
+    op=$("$kv" op get "$2")
     for ((number = $1; number < $1 + 160; number += 16)); do
         sleep 1
         # The op is a letter, the length of the key in two bytes, and the key.
@@ -142,7 +142,7 @@ reads() {
         wait "${pids[client]}"
         status=$?
         unset 'pids[client]'
-        answer=$("$kv_ops" result "$(sed -n 's/^answer .* //p' "$folder/client")")
+        answer=$("$kv" result "$(sed -n 's/^answer .* //p' "$folder/client")")
         [ "$answer" != "$3" ] || break
     done
     echo

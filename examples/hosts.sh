@@ -3,7 +3,7 @@
 # is where; each node is a process that reads it. A client puts, another one gets; then host 1 is lost, with the leader, the sequencer in use
 # and a controller, and the next client still reads what was put. A node of it that is started again is refused. It takes some six seconds.
 #
-#   examples/hosts.sh    NOPAXOS_HOSTS  the program file (crates/nopaxos_hosts/out/nopaxos_hosts);  KV_OPS  that of kv_ops
+#   examples/hosts.sh    NOPAXOS_HOSTS  the program file (crates/nopaxos_hosts/out/nopaxos_hosts);  KV  that of kv
 #                        BASE  the first of 32 ports that nobody has at these addresses (41000)
 #
 # Status 0: all went so; 1: not so; 130 or 143: interrupted or terminated, with all that was started. On machines of your own: put their
@@ -11,9 +11,9 @@
 set -u
 cd "$(dirname "$0")/.." || exit 2
 program=${NOPAXOS_HOSTS:-crates/nopaxos_hosts/out/nopaxos_hosts}
-kv_ops=${KV_OPS:-crates/kv_ops/out/kv_ops}
+kv=${KV:-crates/kv/out/kv}
 base=${BASE:-41000}
-for file in "$program" "$kv_ops"; do
+for file in "$program" "$kv"; do
     [ -x "$file" ] || { echo "hosts.sh: there is no program file $file; 'rt run' in its crate makes it" >&2; exit 1; }
 done
 folder=$(mktemp -d) || exit 1
@@ -27,14 +27,14 @@ client() {
     local name=$1 op status began=${EPOCHREALTIME/[.,]/}
     shift
     # shellcheck disable=SC2048,SC2086
-    op=$("$kv_ops" op $*) || exit 1
+    op=$("$kv" op $*) || exit 1
     timeout 20 "$program" "$folder/list" "$name" "$op" > "$folder/client" 2>&1 &
     pids[client]=$!
     wait "${pids[client]}"
     status=$?
     unset 'pids[client]'
     [ "$status" = 0 ] || { echo "$name: $*: no answer, status $status" >&2; exit 1; }
-    answer=$("$kv_ops" result "$(sed -n 's/^accept .* //p' "$folder/client")")
+    answer=$("$kv" result "$(sed -n 's/^accept .* //p' "$folder/client")")
     echo "$name: $*: $answer, after $(((${EPOCHREALTIME/[.,]/} - began) / 1000)) ms"
 }
 

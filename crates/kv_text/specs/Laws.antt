@@ -1,12 +1,11 @@
 -- Proofs: nothing here has to be believed.
 -- The words of an op name it, and what words name is spelled by their bytes.
-use Rattle.std.proofs.Common.{◌≡◌, ℕ, zero, suc, ◌<◌, Bool, true, false, cond, List, [], ◌∷◌, ◌++◌, length, Option, Some, None, refl, sym, ap, subst, ◌∙◌}
+use Rattle.std.proofs.Common.{◌≡◌, ℕ, zero, suc, List, [], ◌∷◌, ◌++◌, length, Option, Some, None, refl, sym, ap, subst, ◌∙◌}
 use Rattle.std.proofs.Common.{arith, inl, inr}
-use Rattle.std.specs.Prelude.{⊤, IfSome, nat_le, ◌&&◌}
+use Rattle.std.specs.Prelude.{⊤, IfSome}
 use Rattle.std.specs.Int.{w16, to_be_bytes}
 use Rattle.std.specs.Option.{option_and_then}
 use Rattle.hex.specs.Hex.{IsBytes}
-use Rattle.op_text.specs.Words.{bytes_of, word_of}
 use Rattle.op_text.proofs.WordLemmas.{read_back}
 use Rattle.kv_host.specs.declared.op.TheConstants.{GET, PUT, DELETE, SWAP}
 use Rattle.kv_host.specs.Op.{Op, Get, Put, Delete, Swap, Bad, read_op}

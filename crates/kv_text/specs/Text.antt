@@ -1,5 +1,5 @@
 -- The ops and results of the key-value service as words.
-use Rattle.std.specs.Prelude.{ℕ, List, [], ◌∷◌, ◌++◌, Option, Some, None, codes, ◌==◌, if◌then◌else◌}
+use Rattle.std.specs.Prelude.{ℕ, List, [], ◌∷◌, ◌++◌, Option, Some, None, codes, ◌==◌, ◌||◌, if◌then◌else◌}
 use Rattle.std.specs.Option.{option_and_then}
 use Rattle.line_fields.specs.Fields.{is_text}
 use Rattle.op_text.specs.Words.{bytes_of, word_of}
@@ -20,7 +20,8 @@ abbrev pub value_op : List ℕ → List ℕ → List ℕ → Option Op
 value_op word key value = if is_text (codes "put") word then Some (Put key value) else None
 
 abbrev pub swap_op : List ℕ → List ℕ → List ℕ → List ℕ → Option Op
-swap_op word key old new = if is_text (codes "compare-and-set") word then Some (Swap key old new) else None
+swap_op word key old new =
+    if is_text (codes "compare-and-set") word || is_text (codes "swap") word then Some (Swap key old new) else None
 
 -- the op that the words name
 unfoldable pub named : List (List ℕ) → Option Op

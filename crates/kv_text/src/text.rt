@@ -80,7 +80,7 @@ fn swap_op(
     ensures { IfOk result (λ op. op
         ≡ option_and_then spell (swap_op word.now key.now old.now new.now)) }
 {
-    if is_word(word, "compare-and-set") {
+    if is_word(word, "compare-and-set") || is_word(word, "swap") {
         spell(alloc, KvOp::Swap(key, old, new))
     } else {
         Ok(None)

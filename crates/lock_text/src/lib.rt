@@ -8,7 +8,7 @@
 //! spell none have no words. The words of an answer tell its token and owner (law
 //! `answers_are_told_in_words`).
 //!
-//! Calls: `LockText`, by the trait, for the program `lock_ops`.
+//! Calls: `LockText`, by the trait, for the programs of the lock service, as `locks`.
 //!
 //! Files: `spell` (from an op to bytes), `text` (from words, and to words), `laws`. Definitions:
 //! `specs/Text`.

@@ -8,7 +8,7 @@
 //! that op.
 //!
 //! Calls: `bytes_of` and `Words`, for an `OpText`; `run`, for the programs that turn one into the
-//! other (`kv_ops`, `lock_ops`). Proved of `run`: what it answers to its arguments is the line of
+//! other (`kv`, `locks`). Proved of `run`: what it answers to its arguments is the line of
 //! `specs/Answers`, and with which status it ends; on an error it wrote a proper prefix of that line,
 //! and `Failed` comes exactly where a write failed.
 //!

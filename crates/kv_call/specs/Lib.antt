@@ -1,4 +1,0 @@
-pub mod Arguments
-pub mod Calls
-pub mod Ending
-pub mod Statuses

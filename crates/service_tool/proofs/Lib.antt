@@ -1,0 +1,4 @@
+pub mod CallLemmas
+pub mod FaultLemmas
+pub mod OptionLemmas
+pub mod ReplLemmas

@@ -1,0 +1,7 @@
+use Rattle.std.proofs.Common.{◌≡◌, ◌++◌, take}
+use Rattle.std.specs.List.{flat_map}
+use Rattle.service_tool.specs.Telling.{texts_about}
+use Rattle.service_tool.proofs.telling.put_rows_about.Given as goal
+
+abbrev pub invariant-loop-row : goal.invariant-loop-row
+invariant-loop-row l = l.to.items ≡ l.fn.to.items ++ flat_map (texts_about l.word) (take l.row-index l.rows)

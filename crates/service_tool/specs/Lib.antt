@@ -1,0 +1,9 @@
+pub mod Asked
+pub mod Calls
+pub mod Options
+pub mod Outputs
+pub mod Reasons
+pub mod Repl
+pub mod Running
+pub mod Statuses
+pub mod Telling

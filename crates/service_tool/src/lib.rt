@@ -1,0 +1,39 @@
+//! A tool of a service for people: its ops in words, executed by a running service.
+//!
+//!     kv --id 7 put k v              none
+//!     kv --id 8 --slot get k         slot 3, =v
+//!     kv --id 9 repl < ops           the results of the ops of all lines, as they come
+//!
+//! A program brings an `OpText` and a `Tool`, its name and its words. What it writes on standard
+//! output are results; why there is none, and what would be right, it tells on standard error.
+//!
+//! Proved: which command the words ask for, or which word is at fault and why (`asked_of`, exactly
+//! `specs/Asked`), so that the op which is submitted is the one that the words name, by the
+//! definitions of its `OpText`; what is told of it (`told`, exactly `specs/Telling`). Of
+//! `run_command`: for an op that the lines of the answer of f + 1 replicas to the request with this
+//! op are written, or why there are none is told, with which status; for `repl` that such lines are
+//! written, one answer behind another, and nothing else; that the client's port is given back; that
+//! an error comes exactly where a write failed, and ReadFault only where a read did. That `repl` takes
+//! all lines of its input, in order, is tested only (`checks/tool.sh`).
+//!
+//! Calls, for `tool_program`: `told` and `run_command`, with `Tool` and `Row`. Files: `options`,
+//! `asked`, `reason` (the words), `telling` (texts), `status`, `calling` and `repl` (ops), `running`.
+//! Definitions: `specs/Options`, `Asked`, `Reasons`, `Telling`; `Outputs`, `Statuses`, `Calls`,
+//! `Repl`, `Running`.
+#![tactic(auto)]
+
+mod asked;
+mod calling;
+mod options;
+mod reason;
+mod repl;
+mod running;
+mod status;
+mod telling;
+
+pub use asked::{Asked, Command, asked_of};
+pub use options::Options;
+pub use reason::{Fault, Reason};
+pub use running::{run_command, told};
+pub use status::Status;
+pub use telling::{Row, Tool};

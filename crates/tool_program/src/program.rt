@@ -1,0 +1,249 @@
+//! The program of a tool: its words, and its devices.
+
+use crate::rows::all_rows;
+use client_call::Service;
+use host_list::HostList;
+use host_places::{address_in, own_of, places_of};
+use nop_types::{Actor, Bytes, Config, MAX_CONTROLLERS, NoMemory};
+use op_text::{OpText, Words};
+use outside::{WriteError, WriteMem, write_all};
+use service_tool::{Asked, Command, Row, Status, Tool, run_command, told};
+use standard_io::{StandardIn, StandardOut};
+use std::fs;
+use std::io::ErrorKind;
+use std::process::ExitCode;
+use udp_node::BasePort;
+use udp_ports::{Home, SystemClock, UdpPorts};
+
+/// Tells a reason on standard error.
+fn tell(rt: &HostRuntime, tool: &Tool<'_>, reason: &str, status: Status) -> Status {
+    let mut err = StandardOut::new(rt.stderr());
+    let program = tool.program;
+    match format!(in rt.alloc(); "{program}: {reason}\n") {
+        Ok(text) => match write_all(&mut err, text.as_str().as_bytes()) {
+            Ok(()) => status,
+            Err(_) => Status::WriteFault,
+        },
+        Err(_) => Status::NoMemory,
+    }
+}
+
+/// The status of a command that was done, or of a write that failed.
+fn status_of(ended: Result<Status, WriteError>) -> Status {
+    match ended {
+        Ok(status) => status,
+        Err(WriteError::Failed) => Status::WriteFault,
+        Err(WriteError::NoMemory) => Status::NoMemory,
+    }
+}
+
+/// Runs a command over ports, as this client.
+fn run_over<T: OpText>(
+    rt: &HostRuntime,
+    tool: &Tool<'_>,
+    service: &Service,
+    number: u32,
+    asked: &Asked,
+    ports: &mut UdpPorts<'_, HostRuntime>,
+) -> Status {
+    let mut source = StandardIn::new(rt.reader());
+    let mut out = StandardOut::new(std::io::writer(rt));
+    let mut err = StandardOut::new(rt.stderr());
+    let mut clock = SystemClock::new(rt);
+    status_of(run_command::<T, _, _, _, _, _>(
+        rt.alloc(),
+        tool,
+        service,
+        number,
+        asked,
+        &mut source,
+        ports,
+        &mut clock,
+        &mut out,
+        &mut err,
+    ))
+}
+
+/// Runs a command on this machine, at the ports of a service.
+fn run_here<T: OpText>(rt: &HostRuntime, tool: &Tool<'_>, number: u32, asked: &Asked) -> Status {
+    let options = asked.options;
+    let config = Config::new(options.replicas, options.sequencers, 1, MAX_CONTROLLERS, 0);
+    let (Some(base), Some(config)) = (BasePort::new(options.base), config) else {
+        return Status::Usage;
+    };
+    let service = Service { base, config };
+    let mut ports = UdpPorts::new(rt, rt.alloc());
+    run_over::<T>(rt, tool, &service, number, asked, &mut ports)
+}
+
+/// Runs a command as a client of a list of hosts.
+fn run_in<T: OpText>(
+    rt: &HostRuntime,
+    tool: &Tool<'_>,
+    list: &HostList,
+    number: u32,
+    asked: &Asked,
+) -> Status {
+    let own = Actor::Client(number);
+    if list.address_of(own).is_none() {
+        return tell(
+            rt,
+            tool,
+            "the list of hosts has no place for this client number",
+            Status::Usage,
+        );
+    }
+    let Some(at) = address_in(list, own) else {
+        return Status::Usage;
+    };
+    let Ok(places) = places_of(rt.alloc(), list, &at) else {
+        return Status::NoMemory;
+    };
+    let Some(own) = own_of(rt, list, own) else {
+        return Status::LinkFault;
+    };
+    let homes = [Home {
+        places: &places,
+        port: at.port_of(at.own),
+        own,
+    }];
+    let service = Service {
+        base: at.base,
+        config: at.config,
+    };
+    let mut ports = UdpPorts::at_hosts(rt, rt.alloc(), &homes);
+    run_over::<T>(rt, tool, &service, number, asked, &mut ports)
+}
+
+/// The text of a word that names a file.
+fn name_at(words: &[Bytes], at: usize) -> Option<&str> {
+    let word = words.get(at)?;
+    std::str::from_utf8(word.as_slice()).ok()
+}
+
+/// Runs a command as a client of the list in a file.
+fn run_listed<T: OpText>(
+    rt: &HostRuntime,
+    tool: &Tool<'_>,
+    words: &[Bytes],
+    at: usize,
+    number: u32,
+    asked: &Asked,
+) -> Status {
+    let Some(name) = name_at(words, at) else {
+        return tell(rt, tool, "want a file name behind --hosts", Status::Usage);
+    };
+    let Ok(text) = fs::read(rt, name) else {
+        return tell(
+            rt,
+            tool,
+            "the file of the list of hosts can't be read",
+            Status::ReadFault,
+        );
+    };
+    match host_list::read(&text) {
+        Ok(list) => run_in::<T>(rt, tool, &list, number, asked),
+        Err(refusal) => {
+            let (line, rule) = (refusal.line, refusal.rule.number());
+            match format!(in rt.alloc(); "the list of hosts breaks rule {rule} at line {line}") {
+                Ok(reason) => tell(rt, tool, reason.as_str(), Status::Usage),
+                Err(_) => Status::NoMemory,
+            }
+        }
+    }
+}
+
+/// The words as those of `op_text`.
+fn words_of(rt: &HostRuntime, words: &[Bytes]) -> Result<Words, NoMemory> {
+    let mut turned = Words::new(rt.alloc());
+    for word in words {
+        turned.put(word.as_slice())?;
+    }
+    Ok(turned)
+}
+
+/// Turns an op or a result into bytes, or into words, or tells what would be right.
+fn turn<T: OpText>(
+    rt: &HostRuntime,
+    tool: &Tool<'_>,
+    words: &[Bytes],
+) -> Result<Status, WriteError> {
+    let words = words_of(rt, words)?;
+    let mut text = WriteMem::new(rt.alloc());
+    let usage = "want op WORDS, text OP or result RESULT, by an op of this service";
+    match op_text::run::<T, _>(rt.alloc(), usage, &words, &mut text)? {
+        op_text::Status::Done => {
+            let mut out = StandardOut::new(std::io::writer(rt));
+            write_all(&mut out, text.as_slice())?;
+            Ok(Status::Done)
+        }
+        op_text::Status::Usage => Ok(tell(rt, tool, usage, Status::Usage)),
+        op_text::Status::WriteFault => Ok(Status::WriteFault),
+        op_text::Status::NoMemory => Ok(Status::NoMemory),
+    }
+}
+
+/// Does what is asked for.
+fn run_asked<T: OpText>(
+    rt: &HostRuntime,
+    tool: &Tool<'_>,
+    words: &[Bytes],
+    asked: &Asked,
+) -> Status {
+    if let Command::Turn(at) = asked.command {
+        let (_options, turned) = words.split_at(at.min(words.len()));
+        return status_of(turn::<T>(rt, tool, turned));
+    }
+    match (asked.options.id, asked.options.hosts) {
+        (None, _) => Status::Usage,
+        (Some(number), None) => run_here::<T>(rt, tool, number, asked),
+        (Some(number), Some(at)) => run_listed::<T>(rt, tool, words, at, number, asked),
+    }
+}
+
+/// Does what the words ask for, but for the first one, which is the program's name.
+fn run_words<T: OpText>(rt: &HostRuntime, tool: &Tool<'_>, words: &[String]) -> Status {
+    let Ok(words) = Words::of_arguments(rt.alloc(), words) else {
+        return Status::NoMemory;
+    };
+    let mut out = StandardOut::new(std::io::writer(rt));
+    let mut err = StandardOut::new(rt.stderr());
+    match told::<T, _, _>(rt.alloc(), tool, words.as_slice(), &mut out, &mut err) {
+        Ok(Ok(asked)) => run_asked::<T>(rt, tool, words.as_slice(), &asked),
+        Ok(Err(status)) => status,
+        Err(WriteError::Failed) => Status::WriteFault,
+        Err(WriteError::NoMemory) => Status::NoMemory,
+    }
+}
+
+/// The words of the command line, and the status where there are none.
+fn words_in(rt: &HostRuntime, tool: &Tool<'_>) -> Result<Vec<String>, Status> {
+    let words = match std::env::args(rt) {
+        Ok(args) => args.collect(rt.alloc()),
+        Err(e) if e.kind() == ErrorKind::InvalidData => {
+            return Err(tell(rt, tool, "a word is no text", Status::Usage));
+        }
+        Err(_) => return Err(Status::NoMemory),
+    };
+    match words {
+        Ok(words) => Ok(words),
+        Err(_) => Err(Status::NoMemory),
+    }
+}
+
+/// The program of a tool, whose rows are the ops of a service: does what the command line asks for,
+/// and ends with its status.
+pub fn run_tool<T: OpText>(rt: &HostRuntime, program: &str, ops: &[Row<'_>]) -> ExitCode {
+    let Ok(rows) = all_rows(rt.alloc(), ops) else {
+        return ExitCode::from(Status::NoMemory as u8);
+    };
+    let tool = Tool {
+        program,
+        rows: &rows,
+    };
+    let status = match words_in(rt, &tool) {
+        Ok(words) => run_words::<T>(rt, &tool, &words),
+        Err(status) => status,
+    };
+    ExitCode::from(status as u8)
+}
