@@ -105,6 +105,7 @@ watching SECOND_MILLIS 1000
 watching WAIT_MILLIS 5000
 replay MAX_DRAWN_EVENTS 100_000
 linearize DEFAULT_STEPS 100_000_000
+unknown_results ANY 1
 braiding MAX_TRACE_LINES 4_000_000
 service_words MAX_TEXT_LINES 4_294_967_294
 picture BEND_WIDTH 24
@@ -118,6 +119,18 @@ users MAX_EVENT_BYTES 16_384
 gate_core MAX_USERS 10_000
 gate_core MAX_WAITING_BYTES 1_048_576
 gate_core MANY_READ 4096
+tcp_users MAX_CONNECTIONS 10_240
+tcp_users MAX_UNSENT_BYTES 1_048_576
+gate_words MAX_NUMBERS 16
+gate QUIET_TURNS 2
+gate PATIENCE_MILLIS 1
+gate MOST_DATAGRAMS 64
+gate MOST_EVENTS 64
+gate MOST_READS 1024
+gate IDLE_MILLIS 500
+gate LEAST_RETRY_MILLIS 5
+gate MOST_RETRY_MILLIS 200
+gate FIRST_RETRY_MILLIS 50
 resp MAX_ARGUMENTS 32
 resp MAX_ARGUMENT_BYTES 32_000
 resp MAX_REQUEST_BYTES 1_048_576
@@ -146,6 +159,7 @@ fragments PARTS_AHEAD
 fronts MAX_PARTS
 kv_parts MAX_PARTS
 lock_parts MAX_PARTS
+unknown_results MAX_PARTS
 linearize MOST
 network SHARED_LEN
 network LOOKBACK
@@ -157,11 +171,14 @@ transcript_rows MAX_OP_TEXT
 replay GATHERED_BYTES
 braiding MANY
 picture_arrows MAX_ACTORS
-hosted BASE
+host_places HOSTS_BASE
 udp_ports DIGEST
 udp_ports PORTS
 udp_ports MOST_ACKS
 udp_ports NAP_MICROS
+tcp_users MOST_CALLS
+tcp_users MOST_EVENTS
+tcp_users USERS_END
 END
 }
 
