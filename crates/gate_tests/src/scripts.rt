@@ -7,7 +7,7 @@ use std::process::Abort;
 use users::UserEvent;
 
 /// A reply of view (0, 1), whose leader is replica 0, in hexadecimal: replica, client and id; the leader's has the result.
-fn reply(rt: &impl Abort, alloc: Global, words: &str) -> Vec<u8> {
+pub(crate) fn reply(rt: &impl Abort, alloc: Global, words: &str) -> Vec<u8> {
     let (replica, words) = words.split_once(' ').expect(rt, "a replica");
     let (client, words) = words.split_once(' ').expect(rt, "a client");
     let (id, result) = words.split_once(' ').expect(rt, "a result");
@@ -32,12 +32,12 @@ fn reply(rt: &impl Abort, alloc: Global, words: &str) -> Vec<u8> {
     bytes
 }
 
-fn put_text(rt: &impl Abort, text: &str, to: &mut String) {
+pub(crate) fn put_text(rt: &impl Abort, text: &str, to: &mut String) {
     to.push_str(text).expect(rt, "memory");
 }
 
 /// Bytes as text, with `;` where a line ends.
-fn text_of(rt: &impl Abort, alloc: Global, bytes: &[u8]) -> String {
+pub(crate) fn text_of(rt: &impl Abort, alloc: Global, bytes: &[u8]) -> String {
     let mut text = String::new(alloc);
     for byte in bytes {
         match *byte {
@@ -50,7 +50,7 @@ fn text_of(rt: &impl Abort, alloc: Global, bytes: &[u8]) -> String {
 }
 
 /// The bytes of a text in which `;` stands for the end of a line.
-fn bytes_of(rt: &impl Abort, alloc: Global, text: &str) -> Bytes {
+pub(crate) fn bytes_of(rt: &impl Abort, alloc: Global, text: &str) -> Bytes {
     let mut bytes = Vec::new(alloc);
     for byte in text.as_bytes() {
         if *byte == b';' {
