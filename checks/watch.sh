@@ -166,4 +166,37 @@ for again in 1 2; do
     [ "$status" = 0 ] && [ ! -s "$folder/err" ] && [ "$leader" = "r$((view % 3))" ] && [ "$synced" -ge 3 ] ||
         differs "watch $again of a list: status $status, '$(head -c 300 "$folder/out")'"
 done
+
+# ---- which nodes answer: a killed replica does not any more, and the killed controller of the session in use is a warning
+nodes_of "$program"
+start watch "$hosts" o0
+nodes_of "$nopaxos_hosts"
+made=$((made + 4))
+for name in r0 r1 r2 s0 ctl; do
+    awaits has_line "^node $name answers $number\$" || differs "$name answers, and it is not shown: '$(cat "$folder/watch")'"
+done
+has_line ' silent ' && differs "all nodes answer, and '$(grep ' silent ' "$folder/watch")' is shown"
+for name in r0 r1 r2; do
+    [ "$name" = "$leader" ] || other=$name
+done
+kills "$other"
+awaits has_line "^node $other silent $number\$" || differs "$other was killed, and it is not shown: '$(cat "$folder/watch")'"
+has_line '^warning ' && differs "the controller answers, and '$(grep '^warning ' "$folder/watch")' is shown"
+kills ctl
+awaits has_line "^warning ctl silent $number\$" || differs "the controller was killed, and there is no warning: '$(cat "$folder/watch")'"
+kills watch
+
+# ---- the recorded lines of docs/RUNNING.md: each is a line of a watch, the view rises where a line says so and only there, and the length
+# never falls
+made=$((made + 1))
+sed -n '/^\*\*A leader is killed/,/^- /s/^    //p' docs/RUNNING.md > "$folder/told"
+wrongs=$(awk -v form='^view [0-9]+ [0-9]+ leader r[0-9] controller ctl ' '
+    !($0 ~ form "synced [0-9]+ rate [0-9]+ age [0-9]+$" || $0 ~ form "changed [0-9]+$") || $5 != "r" $2 % 3 { print NR; next }
+    NR > 1 && ($8 == "changed") != ($3 > session || $3 == session && $2 > number) { print NR }
+    $3 < session || $3 == session && $2 < number || $8 == "synced" && $9 < length_told { print NR }
+    { number = $2; session = $3 }
+    $8 == "synced" { length_told = $9 }
+    $8 == "changed" { changes++ }
+    END { if (changes != 1 || NR < 5) print "all" }' "$folder/told")
+[ -z "$wrongs" ] || differs "docs/RUNNING.md records what no watch writes: lines $wrongs"
 concludes

@@ -12,6 +12,7 @@ ghost use Rattle.watch.specs.Ending.{Ends, usage_line};
 use crate::call::call_of;
 use op_text::Words;
 use outside::{Clock, Ports, Sink, WriteError, write_all};
+use roll_call::Roll;
 use std::alloc::Global;
 use watching::{Status, status_of, watch_cluster};
 
@@ -48,6 +49,15 @@ pub fn run<P: Ports, C: Clock, W: Sink>(
     };
     let (at, asked) = (call.at, call.asked);
     let port = at.port_of(at.own);
-    let ended = watch_cluster(alloc, at.config, port, asked, ports, clock, sink);
+    let ended = watch_cluster(
+        alloc,
+        at.config,
+        port,
+        asked,
+        Roll::none(alloc),
+        ports,
+        clock,
+        sink,
+    );
     Ok(status_of(ended))
 }

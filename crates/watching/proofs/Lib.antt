@@ -1,3 +1,4 @@
+mod Asking
 mod Drawing
 mod LineTexts
 mod Showing

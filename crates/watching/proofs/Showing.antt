@@ -8,11 +8,13 @@ use Rattle.nop_types.specs.Views.{outranks}
 use Rattle.nop_types.specs.declared.view.View.{View}
 use Rattle.lemmas.proofs.Members.{Has-append_left, Has-push}
 use Rattle.lemmas.proofs.Views.{outranks-true, outranks-from_ranks}
+use Rattle.roll_call.specs.Rolls as rolls
+use Rattle.roll_call.specs.Rolls.{Rolled, is_due}
 use Rattle.watching.specs.Laws.{known_in, length_in, rose, Told, telling_at, heard_at, told_in, IsTold, IsOfTold}
 use Rattle.watching.specs.Tellings.{told_by}
 use Rattle.watching.specs.Turns.{Turn, heard, after_turn, after_turns}
 use Rattle.watching.specs.Watching.{Watching, opening, hear, told, tick, tick_by, tick_if, show_if, seen_after, change_by, is_news, state_at}
-use Rattle.watching.specs.Watching.{next_second}
+use Rattle.watching.specs.Watching.{next_second, round, round_if}
 use Rattle.watching.specs.declared.lines.Change.{Change}
 use Rattle.watching.specs.declared.lines.State.{State}
 use Rattle.watching.specs.declared.seen.Known.{Known}
@@ -39,6 +41,14 @@ tick_by_keeps (Some s) w now is = tick_if_keeps (nat_le SECOND_MILLIS (now - s.s
 pub tick_keeps : (w : Watching) (now : ℕ) → known_in (tick w now).0.seen ≡ known_in w.seen
 tick_keeps w now = tick_by_keeps w.seen w now refl
 
+round_if_keeps : (b : Bool) (w : Watching) (now : ℕ) → (round_if b w now).seen ≡ w.seen
+round_if_keeps true w now = refl
+round_if_keeps false w now = refl
+
+-- neither does a round
+round_keeps : (w : Watching) (now : ℕ) → known_in (round w now).seen ≡ known_in w.seen
+round_keeps w now = ap known_in (round_if_keeps (is_due w.roll now) w now)
+
 -- ---- lengths
 
 known_rises : (b : Bool) (k l : Known) → k.synced ≤ l.synced → k.synced ≤ (cond b k l).synced
@@ -57,7 +67,7 @@ told_rises w now (Some t) = seen_rises w.seen now t
 pub hear_rises : (w : Watching) (now : ℕ) (bytes : List ℕ)
     → length_in (known_in w.seen) ≤ length_in (known_in (hear w now bytes).0.seen)
 hear_rises w now bytes =
-    told_rises (record w { kept = (told_by w.replicas w.kept bytes).0 }) now (told_by w.replicas w.kept bytes).1
+    told_rises (record w { kept = (told_by w.replicas w.kept bytes).0; roll = rolls.heard w.roll now bytes }) now (told_by w.replicas w.kept bytes).1
 
 pub tick_stays : (w : Watching) (now : ℕ) → length_in (known_in (tick w now).0.seen) ≡ length_in (known_in w.seen)
 tick_stays w now = ap length_in (tick_keeps w now)
@@ -104,7 +114,7 @@ told_is_rise w now (Some t) = told_changes w.seen now t
 pub hear_is_rise : (w : Watching) (now : ℕ) (bytes : List ℕ)
     → is_some (hear w now bytes).1 ≡ rose (known_in w.seen) (known_in (hear w now bytes).0.seen)
 hear_is_rise w now bytes =
-    told_is_rise (record w { kept = (told_by w.replicas w.kept bytes).0 }) now (told_by w.replicas w.kept bytes).1
+    told_is_rise (record w { kept = (told_by w.replicas w.kept bytes).0; roll = rolls.heard w.roll now bytes }) now (told_by w.replicas w.kept bytes).1
 
 -- ---- what is known is of what was told
 
@@ -151,12 +161,14 @@ heard_is : (xs : List Told) (w : Watching) (now : ℕ) (o : Option (List ℕ)) �
     → IsOfTold (xs ++ heard_at w now o) (known_in (heard w now o).0.seen)
 heard_is xs w now None h = rw append-nil h
 heard_is xs w now (Some bytes) h =
-    told_is xs (record w { kept = (told_by w.replicas w.kept bytes).0 }) now (told_by w.replicas w.kept bytes).1 h
+    told_is xs (record w { kept = (told_by w.replicas w.kept bytes).0; roll = rolls.heard w.roll now bytes }) now (told_by w.replicas w.kept bytes).1 h
 
 turn_is : (xs : List Told) (w : Watching) (t : Turn) → IsOfTold xs (known_in w.seen)
     → IsOfTold (xs ++ heard_at w t.now t.datagram) (known_in (after_turn w t).0.seen)
 turn_is xs w t h =
-    subst (IsOfTold (xs ++ heard_at w t.now t.datagram)) (sym (tick_keeps (heard w t.now t.datagram).0 t.now)) (heard_is xs w t.now t.datagram h)
+    let first = (heard w t.now t.datagram).0 in
+    let same = tick_keeps (round first t.now) t.now ∙ round_keeps first t.now in
+    subst (IsOfTold (xs ++ heard_at w t.now t.datagram)) (sym same) (heard_is xs w t.now t.datagram h)
 
 turns_are : (xs : List Told) (w : Watching) (ts : List Turn) → IsOfTold xs (known_in w.seen)
     → IsOfTold (xs ++ told_in w ts) (known_in (after_turns w ts).0.seen)
@@ -164,6 +176,6 @@ turns_are xs w [] h = rw append-nil h
 turns_are xs w (t ∷ ts) h =
     rw (← append_assoc) (turns_are (xs ++ heard_at w t.now t.datagram) (after_turn w t).0 ts (turn_is xs w t h))
 
-pub known_is_told : (redraws : Bool) (n : ℕ) (ts : List Turn)
-    → IsOfTold (told_in (opening redraws n) ts) (known_in (after_turns (opening redraws n) ts).0.seen)
-known_is_told redraws n ts = turns_are [] (opening redraws n) ts refl
+pub known_is_told : (redraws : Bool) (n : ℕ) (roll : Rolled) (ts : List Turn)
+    → IsOfTold (told_in (opening redraws n roll) ts) (known_in (after_turns (opening redraws n roll) ts).0.seen)
+known_is_told redraws n roll ts = turns_are [] (opening redraws n roll) ts refl

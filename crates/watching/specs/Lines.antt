@@ -1,5 +1,5 @@
 -- The lines of a watch, and what they are read back as.
-use Rattle.std.specs.Prelude.{ℕ, List, [], ◌∷◌, ◌++◌, length, slice_get, Option, Some, None, codes, decimal, ◌==◌, if◌then◌else◌}
+use Rattle.std.specs.Prelude.{ℕ, List, [], ◌∷◌, ◌++◌, length, slice_get, Bool, false, cond, Option, Some, None, codes, decimal, ◌==◌, ◌&&◌, if◌then◌else◌}
 use Rattle.nop_types.specs.Sessions.{home}
 use Rattle.nop_types.specs.Views.{leader_of}
 use Rattle.nop_types.specs.declared.output.Actor.TheVariants.{Controller, Replica}
@@ -9,6 +9,7 @@ use Rattle.transcript_text.specs.LineText.{line_of}
 use Rattle.transcript_text.specs.Transcript.{actor_text}
 use Rattle.watching.specs.declared.lines.Change.{Change}
 use Rattle.watching.specs.declared.lines.State.{State}
+use Rattle.watching.specs.declared.lines.Warning.{Warning}
 
 -- a view of n replicas: its two numbers, who leads it, and whose session it has
 abbrev pub view_fields : ℕ → View → List (List ℕ)
@@ -35,6 +36,28 @@ state_lines n (Some s) = state_line n s
 abbrev pub change_lines : ℕ → Option Change → List ℕ
 change_lines n None = []
 change_lines n (Some c) = change_line n c
+
+-- the controller of the session in use, and since when it is silent
+unfoldable pub warning_line : Warning → List ℕ
+warning_line w = line_of (codes "warning") (actor_text (Controller w.controller) ∷ codes "silent" ∷ decimal w.since ∷ [])
+
+-- there is no warning from this time on
+unfoldable pub over_line : ℕ → List ℕ
+over_line now = line_of (codes "warning") (codes "over" ∷ decimal now ∷ [])
+
+abbrev pub warning_lines : Option Warning → List ℕ
+warning_lines None = []
+warning_lines (Some w) = warning_line w
+
+abbrev pub is_warning : Option Warning → Warning → Bool
+is_warning None w = false
+is_warning (Some v) w = (v.controller == w.controller) && (v.since == w.since)
+
+-- what a round writes of the warning before it and the one behind it
+abbrev pub warning_news : ℕ → Option Warning → Option Warning → List ℕ
+warning_news now None None = []
+warning_news now (Some v) None = over_line now
+warning_news now before (Some w) = cond (is_warning before w) [] (warning_line w)
 
 -- ---- read back
 

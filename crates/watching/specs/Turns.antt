@@ -10,9 +10,11 @@ use Rattle.outside.specs.Prefixes.{AppendsPrefix, AppendsUpTo}
 use Rattle.outside.specs.declared.errors.DeviceError.TheVariants.{Failed}
 use Rattle.outside.specs.declared.link.PollAnswer.{PollAnswer}
 use Rattle.outside.specs.declared.link.PollAnswer.TheVariants.{Received, Failure}
-use Rattle.watching.specs.Lines.{change_lines, state_lines}
+use Rattle.roll_call.specs.Rolls as rolls
+use Rattle.roll_call.specs.Rolls.{is_due}
+use Rattle.watching.specs.Lines.{change_lines, state_lines, warning_news}
 use Rattle.watching.specs.Screens.{drawn}
-use Rattle.watching.specs.Watching.{Watching, hear, tick}
+use Rattle.watching.specs.Watching.{Watching, hear, round, tick}
 use Rattle.watching.specs.declared.lines.Change.{Change}
 use Rattle.watching.specs.declared.running.WatchError.{WatchError}
 use Rattle.watching.specs.declared.running.WatchError.TheVariants.{PortFault, LinkFault, WriteFault, NoMemory}
@@ -27,14 +29,24 @@ abbrev pub heard : Watching → ℕ → Option (List ℕ) → Watching × Option
 heard w now None = (w, None)
 heard w now (Some bytes) = hear w now bytes
 
--- a datagram is heard, and then it is so late
-abbrev pub turned : Watching → Turn → Watching
-turned w t = (tick (heard w t.now t.datagram).0 t.now).0
+-- what a round has to show: the nodes that stand otherwise than before, and the warning, where it is another
+abbrev pub round_news_if : Bool → Watching → ℕ → List ℕ
+round_news_if true w now = rolls.news w.roll now ++ warning_news now w.warned (round w now).warned
+round_news_if false w now = []
 
--- what a turn has to show: the line of a change comes before that of a state
+abbrev pub round_news : Watching → ℕ → List ℕ
+round_news w now = round_news_if (is_due w.roll now) w now
+
+-- a datagram is heard, there is a round, and then it is so late
+abbrev pub turned : Watching → Turn → Watching
+turned w t = (tick (round (heard w t.now t.datagram).0 t.now) t.now).0
+
+-- what a turn has to show: the line of a change comes first, that of a state last
 abbrev pub news : Watching → Turn → List ℕ
 news w t =
-    change_lines w.replicas (heard w t.now t.datagram).1 ++ state_lines w.replicas (tick (heard w t.now t.datagram).0 t.now).1
+    change_lines w.replicas (heard w t.now t.datagram).1
+    ++ (round_news (heard w t.now t.datagram).0 t.now
+    ++ state_lines w.replicas (tick (round (heard w t.now t.datagram).0 t.now) t.now).1)
 
 abbrev pub after_turn : Watching → Turn → Watching × List ℕ
 after_turn w t = (turned w t, drawn w.redraws (turned w t) (news w t))

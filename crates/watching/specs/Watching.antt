@@ -2,18 +2,21 @@
 use Rattle.std.specs.Prelude.{ℕ, ◌-◌, ◌*◌, ◌/◌, max, List, Bool, true, false, cond, not, Option, Some, None, nat_le, ◌==◌, ◌&&◌, ◌||◌}
 use Rattle.std.specs.Option.{option_or}
 use Rattle.nop_types.specs.Views.{outranks, is_view}
+use Rattle.nop_types.specs.Sessions.{home}
 use Rattle.fragments.specs.Joining.{Waiting}
 use Rattle.fragments.specs.Joining as joining
+use Rattle.roll_call.specs.Rolls.{Rolled, heard, is_due, silent_since, turned}
 use Rattle.watching.specs.Tellings.{told_by}
 use Rattle.watching.specs.declared.lines.Change.{Change}
 use Rattle.watching.specs.declared.lines.State.{State}
+use Rattle.watching.specs.declared.lines.Warning.{Warning}
 use Rattle.watching.specs.declared.seen.Known.{Known}
 use Rattle.watching.specs.declared.seen.Seen.{Seen}
 use Rattle.watching.specs.declared.telling.Telling.{Telling}
 use Rattle.watching.specs.declared.seen.TheConstants.{SECOND_MILLIS}
 
--- of so many replicas, and whether lines are written over those before: the fragments that wait, what is known, if something is, and
--- the change and the state that were shown last
+-- of so many replicas, and whether lines are written over those before: the fragments that wait, what is known, if something is, the
+-- change and the state that were shown last, the nodes that are asked whether they are there, and the warning that was shown last
 pub record Watching : Type 0 where
   pub replicas : ℕ
   pub redraws : Bool
@@ -21,15 +24,19 @@ pub record Watching : Type 0 where
   pub seen : Option Seen
   pub changed : Option Change
   pub shown : Option State
+  pub roll : Rolled
+  pub warned : Option Warning
 
-abbrev pub opening : Bool → ℕ → Watching
-opening redraws n = record {
+abbrev pub opening : Bool → ℕ → Rolled → Watching
+opening redraws n roll = record {
   replicas = n;
   redraws = redraws;
   kept = joining.opening n;
   seen = None;
   changed = None;
   shown = None;
+  roll = roll;
+  warned = None;
 }
 
 -- ---- what is told
@@ -64,7 +71,27 @@ told w now (Some t) = (
 
 -- a datagram comes
 abbrev pub hear : Watching → ℕ → List ℕ → Watching × Option Change
-hear w now bytes = told (record w { kept = (told_by w.replicas w.kept bytes).0 }) now (told_by w.replicas w.kept bytes).1
+hear w now bytes =
+    told (record w { kept = (told_by w.replicas w.kept bytes).0; roll = heard w.roll now bytes }) now (told_by w.replicas w.kept bytes).1
+
+-- ---- which nodes answer
+
+abbrev pub warning_at : ℕ → Option ℕ → Option Warning
+warning_at c None = None
+warning_at c (Some since) = Some (record { controller = c; since = since })
+
+-- the controller that gave out the session in use is silent
+abbrev pub warning_of : Option Seen → Rolled → Option Warning
+warning_of None roll = None
+warning_of (Some s) roll = warning_at (home s.known.view.session) (silent_since roll (home s.known.view.session))
+
+abbrev pub round_if : Bool → Watching → ℕ → Watching
+round_if true w now = record w { roll = turned w.roll now; warned = warning_of w.seen (turned w.roll now) }
+round_if false w now = w
+
+-- a round of questions, where it is time for one
+abbrev pub round : Watching → ℕ → Watching
+round w now = round_if (is_due w.roll now) w now
 
 -- ---- what is shown each second
 

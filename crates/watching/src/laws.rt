@@ -6,6 +6,7 @@ ghost use Rattle.line_fields.specs.Fields.{fields};
 ghost use Rattle.watching.specs.Laws.{known_in, length_in, rose, told_in, ChangeFits, IsOfTold};
 ghost use Rattle.watching.specs.Laws.{StateFits};
 ghost use Rattle.watching.specs.Lines.{change_in, change_line, state_in, state_line};
+ghost use Rattle.roll_call.specs.Rolls.{Rolled, standings};
 ghost use Rattle.watching.specs.Screens.{IsScreen};
 ghost use Rattle.watching.specs.Turns.{Turn, after_turns};
 ghost use Rattle.watching.specs.Watching.{Watching, hear, opening, tick};
@@ -31,15 +32,18 @@ pub fn changes_are_rises()
 /// After any turns, the length is one that a leader told in them, and so is the view, at the time from which the age counts.
 #[tactic(auto, using(crate::proofs::Showing::known_is_told))]
 pub fn what_is_known_was_told()
-    ensures { (redraws : Bool) (n : ℕ) (turns : List Turn) → IsOfTold
-        (told_in (opening redraws n) turns) (known_in (after_turns (opening redraws n) turns).0.seen) }
+    ensures { (redraws : Bool) (n : ℕ) (roll : Rolled) (turns : List Turn) → IsOfTold
+        (told_in (opening redraws n roll) turns)
+        (known_in (after_turns (opening redraws n roll) turns).0.seen) }
 {}
 
-/// After any turns, a screen on which they wrote shows the last change and the last state, and nothing else.
+/// After any turns, a screen on which they wrote shows the last change, how nodes stand, the warning and the last state, and nothing
+/// else.
 #[tactic(auto, using(crate::proofs::Drawing::screen_is_last))]
 pub fn screens_show_the_last()
-    ensures { (n : ℕ) (turns : List Turn) → IsScreen (after_turns (opening true n) turns).1
-        (after_turns (opening true n) turns).0 }
+    ensures { (n : ℕ) (roll : Rolled) (turns : List Turn) → standings roll ≡ []
+        → IsScreen (after_turns (opening true n roll) turns).1
+        (after_turns (opening true n roll) turns).0 }
 {}
 
 /// A line that is that of a state, of up to seven replicas, is read as that state.

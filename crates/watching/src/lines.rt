@@ -30,8 +30,17 @@ pub struct Change {
     pub at: u64,
 }
 
+/// The controller that gave out the session in use does not answer.
+#[derive(Clone, Copy, Debug, PartialEq, Eq)]
+pub struct Warning {
+    /// Its number.
+    pub controller: u8,
+    /// Since when this is known, in milliseconds.
+    pub since: u64,
+}
+
 /// The controller that gave out a session.
-fn controller_of(session: u64) -> u8
+pub(crate) fn controller_of(session: u64) -> u8
     ensures { result ≡ home session }
 {
     (session / 4_294_967_296 % EPOCH_STEP) as u8
@@ -94,4 +103,27 @@ pub fn change_line(replicas: u8, change: &Change, to: &mut Vec<u8>) -> Result<()
         Field::Number(change.at),
     ];
     write_line("view", &fields, to)
+}
+
+/// Appends the line of a warning.
+#[tactic(auto, unfolding(crate::specs::Lines::warning_line))]
+pub fn warning_line(warning: &Warning, to: &mut Vec<u8>) -> Result<(), NoMemory>
+    ensures ok { OnOk result (to.new.items ≡ to.old.items ++ lines.warning_line warning.now) }
+    ensures err { OnErr result (to.new.items ≡ to.old.items) }
+{
+    let fields = [
+        Field::Name(Actor::Controller(warning.controller)),
+        Field::Word("silent"),
+        Field::Number(warning.since),
+    ];
+    write_line("warning", &fields, to)
+}
+
+/// Appends the line that says that there is no warning any more.
+#[tactic(auto, unfolding(crate::specs::Lines::over_line))]
+pub(crate) fn over_line(now: u64, to: &mut Vec<u8>) -> Result<(), NoMemory>
+    ensures { OnOk result (to.new.items ≡ to.old.items ++ lines.over_line now) }
+{
+    let fields = [Field::Word("over"), Field::Number(now)];
+    write_line("warning", &fields, to)
 }

@@ -12,6 +12,7 @@ use crate::turns::{ends, take_turn};
 use crate::watch::Watch;
 use nop_types::{Config, NoMemory};
 use outside::{AttachError, Clock, Link, Ports, Sink};
+use roll_call::Roll;
 use std::alloc::Global;
 
 /// Why a watch ended before its turns were taken or its state was shown.
@@ -40,12 +41,13 @@ fn watch_over<L: Link, C: Clock, W: Sink>(
     alloc: Global,
     config: Config,
     asked: Asked,
+    roll: Roll,
     link: &mut L,
     clock: &mut C,
     sink: &mut W,
 ) -> Result<bool, WatchError>
     ensures watched { WatchedBy asked.once asked.turns
-        (opening asked.redraws config.replicas) (L.answers link.old)
+        (opening asked.redraws config.replicas roll) (L.answers link.old)
         (C.values clock.old) (W.held sink.old) (W.held sink.new) result }
     ensures attached { ¬ (result ≡ Err errors.PortFault) }
     ensures polls { CountsFor (L.fault_count link.old) (L.fault_count link.new)
@@ -54,7 +56,7 @@ fn watch_over<L: Link, C: Clock, W: Sink>(
         errors.WriteFault result }
     ensures port { L.own_port link.new ≡ L.own_port link.old }
 {
-    let mut watch = Watch::new(alloc, config, asked.redraws)?;
+    let mut watch = Watch::new(alloc, config, asked.redraws, roll)?;
     let begun = clock.now();
     let mut now = begun;
     let mut taken = 0;
@@ -76,17 +78,19 @@ fn watch_over<L: Link, C: Clock, W: Sink>(
 /// Watches a cluster of so many replicas at a port, that of an observer, and writes lines of changes and states, as `specs/Watching`
 /// says, over those before where `redraws` is asked for. Times are in milliseconds since it began. Where `once` is, it ends behind the
 /// first line of a state, a second after something was told first, or after five seconds in which nothing is. It takes at most as many
-/// turns as are asked for, of about a millisecond each over sockets. Says whether a state was shown. Nothing is sent.
+/// turns as are asked for, of about a millisecond each over sockets. Says whether a state was shown. Nothing is sent but what the
+/// nodes of the roll are asked each second.
 pub fn watch_cluster<P: Ports, C: Clock, W: Sink>(
     alloc: Global,
     config: Config,
     port: u16,
     asked: Asked,
+    roll: Roll,
     ports: &mut P,
     clock: &mut C,
     sink: &mut W,
 ) -> Result<bool, WatchError>
-    ensures watched { WatchedBy asked.once asked.turns (opening asked.redraws config.replicas)
+    ensures watched { WatchedBy asked.once asked.turns (opening asked.redraws config.replicas roll)
         (option_map next_link (P.to_come ports.old)) (C.values clock.old)
         (W.held sink.old) (W.held sink.new) result }
     ensures attaches { CountsFor (P.fault_count ports.old) (P.fault_count ports.new)
@@ -99,7 +103,7 @@ pub fn watch_cluster<P: Ports, C: Clock, W: Sink>(
     match ports.attach(port) {
         Ok(link) => {
             let mut link = link;
-            let shown = watch_over(alloc, config, asked, &mut link, clock, sink);
+            let shown = watch_over(alloc, config, asked, roll, &mut link, clock, sink);
             ports.detach(link);
             shown
         }

@@ -1,14 +1,27 @@
 ghost use Rattle.std.specs.Prelude.{◌≡◌, ◌≤◌, IfOk, OnErr, OnOk, Some};
 ghost use Rattle.std.specs.Option.{is_some};
-ghost use Rattle.watching.specs.Watching.{hear, opening, tick, told};
+ghost use Rattle.watching.specs.Watching.{hear, opening, round, tick, told, warning_of};
 
-use crate::lines::{Change, State};
+use crate::lines::{Change, State, Warning, controller_of};
 use crate::seen::{SECOND_MILLIS, Seen, change_by, is_news, seen_after};
 use crate::telling::{Telling, told_by};
 use fragments::Reassembly;
 use nop_types::{Config, NoMemory};
+use roll_call::Roll;
 use std::alloc::Global;
 use std::marker::Model;
+
+/// A warning, where the controller that gave out the session in use is silent.
+fn warning_of(seen: Option<Seen>, roll: &Roll) -> Option<Warning>
+    ensures { result ≡ warning_of seen roll.now }
+{
+    let seen = seen?;
+    let controller = controller_of(seen.known.view.session);
+    match roll.silent_since(controller) {
+        Some(since) => Some(Warning { controller, since }),
+        None => None,
+    }
+}
 
 /// What is seen of a cluster, and what was shown of it.
 #[derive(Drop)]
@@ -20,6 +33,8 @@ pub struct Watch {
     seen: Option<Seen>,
     changed: Option<Change>,
     shown: Option<State>,
+    roll: Roll,
+    warned: Option<Warning>,
 }
 
 impl Model for Watch {
@@ -35,15 +50,18 @@ impl Model for Watch {
       seen = w.seen;
       changed = w.changed;
       shown = w.shown;
+      roll = w.roll;
+      warned = w.warned;
     } };
 
     ghost invariant = { λ w. length w.kept ≡ w.config.replicas };
 }
 
 impl Watch {
-    /// Nothing is seen yet of a cluster of so many replicas. Lines are written over those before, or behind them.
-    pub fn new(alloc: Global, config: Config, redraws: bool) -> Result<Watch, NoMemory>
-        ensures { IfOk result (λ w. w ≡ opening redraws config.replicas) }
+    /// Nothing is seen yet of a cluster of so many replicas. Lines are written over those before, or behind them. The nodes of the roll
+    /// are to be asked.
+    pub fn new(alloc: Global, config: Config, redraws: bool, roll: Roll) -> Result<Watch, NoMemory>
+        ensures { IfOk result (λ w. w ≡ opening redraws config.replicas roll) }
     {
         let kept = Reassembly::new(alloc, config.replicas())?;
         Ok(Watch {
@@ -54,6 +72,8 @@ impl Watch {
             seen: None,
             changed: None,
             shown: None,
+            roll,
+            warned: None,
         })
     }
 
@@ -84,6 +104,30 @@ impl Watch {
         ensures { result ≡ self.now.shown }
     {
         self.shown
+    }
+
+    /// The nodes that are asked.
+    pub fn roll(&self) -> &Roll
+        ensures { result.now ≡ self.now.roll }
+    {
+        &self.roll
+    }
+
+    /// The warning that was shown last.
+    pub fn warned(&self) -> Option<Warning>
+        ensures { result ≡ self.now.warned }
+    {
+        self.warned
+    }
+
+    /// Makes a round of questions, where it is time for one.
+    pub fn round(&mut self, now: u64)
+        ensures { self.new ≡ round self.old now }
+    {
+        if self.roll.is_due(now) {
+            self.roll.turn(now);
+            self.warned = warning_of(self.seen, &self.roll);
+        }
     }
 
     /// Whether something was told.
@@ -117,7 +161,9 @@ impl Watch {
         ensures change { IfOk result (λ r. r ≡ (hear self.old now bytes.now).1) }
         ensures err { OnErr result (self.new ≡ record self.old { kept = self.new.kept }) }
     {
-        match told_by(self.alloc, self.config, &mut self.kept, bytes)? {
+        let told = told_by(self.alloc, self.config, &mut self.kept, bytes)?;
+        self.roll.hear(now, bytes);
+        match told {
             Some(telling) => Ok(self.take(now, telling)),
             None => Ok(None),
         }

@@ -3,6 +3,7 @@ ghost use Rattle.outside.specs.Memory.{MayAnswer};
 
 use nop_types::{Bytes, Config, MAX_DATAGRAM_BYTES};
 use outside::{ClockMem, Failing, LinkMem, PollAnswer, PortsMem, WriteMem};
+use roll_call::Roll;
 use std::alloc::Global;
 use std::process::Abort;
 use watching::{Asked, Status, WatchError, status_of, watch_cluster};
@@ -78,7 +79,14 @@ fn check(
         turns: 9,
     };
     let given = watch_cluster(
-        alloc, config, 41032, asked, &mut ports, &mut clock, &mut sink,
+        alloc,
+        config,
+        41032,
+        asked,
+        Roll::none(alloc),
+        &mut ports,
+        &mut clock,
+        &mut sink,
     );
     assert!(rt;
         given == ended && sink.as_slice() == lines.as_bytes(),

@@ -5,7 +5,7 @@ use Rattle.watching.proofs.running.watch_over.Given as goal
 
 abbrev pub invariant-loop-taken : goal.invariant-loop-taken
 invariant-loop-taken g l = record {
-  going : Going l.asked.once l.asked.turns (opening l.asked.redraws l.fn.config.replicas) (g.L.Link.answers l.fn.link) (g.C.Clock.values l.fn.clock)
+  going : Going l.asked.once l.asked.turns (opening l.asked.redraws l.fn.config.replicas l.fn.roll) (g.L.Link.answers l.fn.link) (g.C.Clock.values l.fn.clock)
       (g.W.Sink.held l.fn.sink) l.begun (l.asked.turns - l.taken) l.watch l.now (g.L.Link.answers l.link) (g.C.Clock.values l.clock)
       (g.W.Sink.held l.sink);
   within : l.taken ≤ l.asked.turns;
