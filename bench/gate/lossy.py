@@ -12,7 +12,11 @@ kinds that can be lost, all by default. `--timer`: a core sends its open request
 `--repeat`: after so many milliseconds (50) a replica asks again for what it misses. The gateway's clock has whole milliseconds."""
 import argparse, heapq, random
 
-HOP, PAUSE, TURN, MOST = 0.085, 0.02, 0.05, 200
+# in milliseconds: a datagram's way, a user's pause, a turn of the gateway, and the longest time after which a core sends again
+HOP = 0.085
+PAUSE = 0.02
+TURN = 0.05
+MOST = 200
 
 
 class Replica:
