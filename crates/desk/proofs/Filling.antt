@@ -1,13 +1,13 @@
 -- What holds of each submission holds when all are submitted, and what holds of each step holds of a run.
-use Rattle.std.proofs.Common.{◌≡◌, ℕ, ◌+◌, true, List, [], ◌∷◌, ◌++◌, Option, Some, None, refl, sym, ap, subst, ◌∙◌, append-nil, append_assoc, inl, inr}
-use Rattle.std.specs.Prelude.{◌⊎◌, slice_get, slice_set}
+use Rattle.std.proofs.Common.{◌≡◌, ℕ, ◌+◌, Bool, true, false, length, List, [], ◌∷◌, ◌++◌, Option, Some, None, refl, sym, ap, subst, ◌∙◌, append-nil, append_assoc, inl, inr}
+use Rattle.std.specs.Prelude.{◌⊎◌, ◌&&◌, ◌==◌, slice_get, slice_set}
 use Rattle.std.specs.List.{position}
 use Rattle.std.proofs.lemmas.List.Quantifiers.{position-Some}
 use Rattle.nop_types.specs.Given.{Given}
 use Rattle.client_quorum.specs.ClientSteps.{can_submit}
 use Rattle.lemmas.proofs.Places.{slice_get-some}
 use Rattle.std.proofs.lemmas.Option.{get_or_from_slice_get}
-use Rattle.desk.specs.Desks.{Event, Take, Leave, Comes, Filled, changed_at, changed_if, fill, fill_if, filled, first_free, left, next, queued}
+use Rattle.desk.specs.Desks.{Event, Take, Leave, Comes, Filled, changed_at, changed_if, fewest_from, fill, fill_if, filled, first_with, freest, is_free_with, left, next, queued}
 use Rattle.desk.specs.Desks.{told_at, told_if, with_told}
 use Rattle.desk.specs.Runs.{after, gave, op_in, ops_of}
 use Rattle.desk.specs.Submitters.{submits, submit_tells, takes, tells}
@@ -23,13 +23,25 @@ pub record IsFree (cores : List Submitter) (i : ℕ) : Type 0 where
   pub at : slice_get cores i ≡ Some core
   pub may : can_submit core.client.state.requests ≡ true
 
-pub free_at : (cores : List Submitter) (i : ℕ) → first_free cores ≡ Some i → IsFree cores i
-free_at [] i e = absurd (let none : first_free [] ≡ None = refl in cc)
-free_at (d ∷ cores) i e =
-    let r = position-Some (λ (s : Submitter). can_submit s.client.state.requests) (d ∷ cores) i d e in
+both_left : (a b : Bool) → a && b ≡ true → a ≡ true
+both_left true b e = refl
+both_left false b e = absurd cc
+
+free_with : (n : ℕ) (cores : List Submitter) (i : ℕ) → position (is_free_with n) cores ≡ Some i → IsFree cores i
+free_with n [] i e = absurd (let none : position (is_free_with n) [] ≡ None = refl in cc)
+free_with n (d ∷ cores) i e =
+    let r = position-Some (is_free_with n) (d ∷ cores) i d e in
     let s = slice_get-some (d ∷ cores) i r.0 in
     let same = get_or_from_slice_get (d ∷ cores) i s.0 d s.1 in
-    record { core = s.0; at = s.1; may = subst (λ (c : Submitter). can_submit c.client.state.requests ≡ true) same r.1 }
+    let may = subst (λ (c : Submitter). is_free_with n c ≡ true) same r.1 in
+    record { core = s.0; at = s.1; may = both_left (can_submit s.0.client.state.requests) (length s.0.held == n) may }
+
+first_free_at : (n : Option ℕ) (cores : List Submitter) (i : ℕ) → first_with n cores ≡ Some i → IsFree cores i
+first_free_at None cores i e = absurd cc
+first_free_at (Some n) cores i e = free_with n cores i e
+
+pub free_at : (cores : List Submitter) (i : ℕ) → freest cores ≡ Some i → IsFree cores i
+free_at cores i e = first_free_at (fewest_from None cores) cores i e
 
 -- ---- all submissions
 
@@ -52,7 +64,7 @@ module _ (P : List Submitter → List Queued → List Labelled → Type 0)
       → P (fill cores qs).cores (fill cores qs).queue (told ++ (fill cores qs).told)
   fill_keeps [] cores told h = subst (λ (ts : List Labelled). P cores [] ts) (sym (append-nil told)) h
   fill_keeps (q ∷ qs) cores told h =
-      fill_cases (λ (f : Filled). P f.cores f.queue (told ++ f.told)) (first_free cores) (record { cores = cores; queue = q ∷ qs; told = [] })
+      fill_cases (λ (f : Filled). P f.cores f.queue (told ++ f.told)) (freest cores) (record { cores = cores; queue = q ∷ qs; told = [] })
       (λ i. with_told (told_at i cores (λ s. submit_tells i s q)) (fill (changed_at i cores (λ s. submits s q)) qs))
       (subst (λ (ts : List Labelled). P cores (q ∷ qs) ts) (sym (append-nil told)) h)
       (λ i e.

@@ -1,14 +1,14 @@
 -- One turn of submitting ops.
 use Rattle.std.proofs.Common.{append-nil, ◌≡◌, ℕ, suc, ◌+◌, ◌-◌, ◌<◌, List, [], ◌∷◌, ◌++◌, Option, Some, None, refl, sym, ap, ◌∙◌, arith, append_assoc, length}
 use Rattle.nop_types.specs.Configuration.{Configuration}
-use Rattle.desk.specs.Desks.{Filled, after_first, changed_at, cores_from, fill, fill_if, first_free, first_queued, told_at, with_told}
+use Rattle.desk.specs.Desks.{Filled, after_first, changed_at, cores_from, fill, fill_if, freest, first_queued, told_at, with_told}
 use Rattle.desk.specs.Submitters.{opening, submits, submit_tells}
 use Rattle.desk.specs.declared.submitter.Labelled.{Labelled}
 use Rattle.desk.specs.declared.submitter.Queued.{Queued}
 use Rattle.desk.specs.declared.submitter.Submitter.{Submitter}
 
 -- no core takes an op
-pub fill_stuck : (cores : List Submitter) (queue : List Queued) → first_free cores ≡ None
+pub fill_stuck : (cores : List Submitter) (queue : List Queued) → freest cores ≡ None
     → fill cores queue ≡ record { cores = cores; queue = queue; told = [] }
 fill_stuck cores [] e = refl
 fill_stuck cores (q ∷ qs) e =
@@ -22,7 +22,7 @@ fill_none cores [] e = refl
 fill_none cores (q ∷ qs) e = absurd cc
 
 -- one is submitted
-pub fill_goes : (cores : List Submitter) (queue : List Queued) (i : ℕ) (q : Queued) → first_free cores ≡ Some i → first_queued queue ≡ Some q
+pub fill_goes : (cores : List Submitter) (queue : List Queued) (i : ℕ) (q : Queued) → freest cores ≡ Some i → first_queued queue ≡ Some q
     → fill cores queue
     ≡ with_told (told_at i cores (λ s. submit_tells i s q)) (fill (changed_at i cores (λ s. submits s q)) (after_first queue))
 fill_goes cores [] i q e f = absurd cc
@@ -53,7 +53,7 @@ one_made config first count i made l =
 
 -- ---- nothing is told where nothing is submitted
 
-pub stuck_tells_none : (told : List Labelled) (cores : List Submitter) (queue : List Queued) → first_free cores ≡ None
+pub stuck_tells_none : (told : List Labelled) (cores : List Submitter) (queue : List Queued) → freest cores ≡ None
     → told ≡ told ++ (fill cores queue).told
 stuck_tells_none told cores queue e =
     sym (ap (λ (f : Filled). told ++ f.told) (fill_stuck cores queue e) ∙ append-nil told)

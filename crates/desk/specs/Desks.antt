@@ -1,5 +1,5 @@
 -- What a desk keeps, and its step table.
-use Rattle.std.specs.Prelude.{ℕ, zero, suc, ◌+◌, ◌-◌, ◌^◌, length, Bool, nat_lt, ◌&&◌, List, [], ◌∷◌, ◌++◌, map, filter, not, Option, Some, None, slice_get, slice_set, ◌==◌}
+use Rattle.std.specs.Prelude.{ℕ, zero, suc, ◌+◌, ◌-◌, ◌^◌, length, Bool, true, false, nat_lt, ◌&&◌, List, [], ◌∷◌, ◌++◌, map, filter, min, not, Option, Some, None, slice_get, slice_set, ◌==◌}
 use Rattle.std.specs.List.{position}
 use Rattle.nop_types.specs.Configuration.{Configuration}
 use Rattle.nop_types.specs.Given.{Given}
@@ -65,9 +65,30 @@ pub record Filled : Type 0 where
   pub queue : List Queued
   pub told : List Labelled
 
--- the first core that takes an op
-abbrev pub first_free : List Submitter → Option ℕ
-first_free cores = position (λ s. can_submit s.client.state.requests) cores
+-- the fewest tickets that a core holds which takes an op, of these cores and one before them
+abbrev pub least : Option ℕ → ℕ → ℕ
+least None n = n
+least (Some m) n = min m n
+
+abbrev pub fewest_if : Bool → Option ℕ → ℕ → Option ℕ
+fewest_if true before n = Some (least before n)
+fewest_if false before n = before
+
+abbrev pub fewest_from : Option ℕ → List Submitter → Option ℕ
+fewest_from before [] = before
+fewest_from before (s ∷ cores) = fewest_from (fewest_if (can_submit s.client.state.requests) before (length s.held)) cores
+
+-- it takes an op, and holds so many tickets
+abbrev pub is_free_with : ℕ → Submitter → Bool
+is_free_with n s = can_submit s.client.state.requests && (length s.held == n)
+
+abbrev pub first_with : Option ℕ → List Submitter → Option ℕ
+first_with None cores = None
+first_with (Some n) cores = position (is_free_with n) cores
+
+-- of the cores that take an op, the first of those that hold the fewest tickets
+abbrev pub freest : List Submitter → Option ℕ
+freest cores = first_with (fewest_from None cores) cores
 
 abbrev pub fill_if : Option ℕ → Filled → (ℕ → Filled) → Filled
 fill_if None none some = none
@@ -78,7 +99,7 @@ with_told told f = record f { told = told ++ f.told }
 
 abbrev pub fill : List Submitter → List Queued → Filled
 fill cores [] = record { cores = cores; queue = []; told = [] }
-fill cores (q ∷ qs) = fill_if (first_free cores) (record { cores = cores; queue = q ∷ qs; told = [] })
+fill cores (q ∷ qs) = fill_if (freest cores) (record { cores = cores; queue = q ∷ qs; told = [] })
     (λ i. with_told (told_at i cores (λ s. submit_tells i s q)) (fill (changed_at i cores (λ s. submits s q)) qs))
 
 abbrev pub filled_with : DeskState → Filled → DeskState × List Labelled

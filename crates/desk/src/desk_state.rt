@@ -1,8 +1,10 @@
 //! What a desk keeps.
 
-ghost use Rattle.std.specs.Prelude.{◌≡◌, ◌++◌, ◌∷◌, ◌<◌, ◌≤◌, ◌+◌, ◌^◌, [], map, length, IfOk, OnOk};
+ghost use Rattle.std.specs.Prelude.{◌≡◌, ◌++◌, ◌∷◌, ◌<◌, ◌≤◌, ◌+◌, ◌^◌, [], map, length, None, IfOk, OnOk};
+ghost use Rattle.std.specs.List.{position};
 ghost use Rattle.nop_types.specs.Given.{given};
-ghost use Rattle.desk.specs.Desks.{changed_at, cores_from, fill, first_free, told_at};
+ghost use Rattle.client_quorum.specs.ClientSteps.{can_submit};
+ghost use Rattle.desk.specs.Desks.{changed_at, cores_from, fewest_from, fewest_if, fill, freest, is_free_with, told_at};
 ghost use Rattle.desk.specs.Submitters.{core_left, submits, submit_tells, takes, tells};
 
 use crate::queue::Queue;
@@ -34,10 +36,47 @@ pub struct DeskState {
     pub taken: u64,
 }
 
-fn first_free(cores: &[Submitter]) -> Option<usize>
-    ensures { result ≡ first_free cores.now }
+/// The fewest tickets that this core, if it takes an op, and those before it hold.
+fn fewer(before: Option<usize>, core: &Submitter) -> Option<usize>
+    ensures { result ≡ fewest_if (can_submit core.now.client.state.requests) before
+        (length core.now.held) }
 {
-    cores.iter().position(|s| s.can_submit())
+    if !core.can_submit() {
+        return before;
+    }
+    let held = core.held.len();
+    match before {
+        Some(least) => Some(least.min(held)),
+        None => Some(held),
+    }
+}
+
+/// The fewest tickets that a core holds which takes an op.
+fn fewest(cores: &[Submitter]) -> Option<usize>
+    ensures { result ≡ fewest_from None cores.now }
+{
+    let mut fewest: Option<usize> = None;
+    for core in cores.iter() {
+        fewest = fewer(fewest, core);
+    }
+    fewest
+}
+
+/// The first core that takes an op and holds so many tickets.
+fn first_with(cores: &[Submitter], held: usize) -> Option<usize>
+    ensures { result ≡ position (is_free_with held) cores.now }
+{
+    cores.iter().position(|s| s.is_free_with(held))
+}
+
+/// Of the cores that take an op, the first of those that hold the fewest tickets.
+fn freest(cores: &[Submitter]) -> Option<usize>
+    ensures { result ≡ freest cores.now }
+{
+    match fewest(cores) {
+        Some(held) => first_with(cores, held),
+        None => None,
+    }
 }
 
 /// Cores with the numbers from the first one on.
@@ -150,7 +189,7 @@ pub(crate) fn fill(
     ensures told { OnOk result (told.new.items
         ≡ told.old.items ++ (fill cores.old queue.old).told) }
 {
-    while let Some(core) = first_free(cores.as_slice()) {
+    while let Some(core) = freest(cores.as_slice()) {
         let Some(queued) = queue.take_first() else {
             return Ok(());
         };

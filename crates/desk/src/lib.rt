@@ -1,10 +1,11 @@
 //! A desk: the ops of many users, submitted by a few client cores (`client_quorum`) whose numbers are one above the other.
 //!
 //! An op is taken under a ticket, which is one above the last one (`take`), and waits in a queue until a core takes it, first come, first
-//! served; each core has up to eight requests open. What a core gives in a step is told with the place of the core and, where a user waits
-//! for it, the ticket: of a submission, and of the acceptance that answers the ticket. Datagrams that are told are to be sent, for the core
-//! that gave them. `comes` gives a core an input, such as a datagram or the tick Retry; `leave` says that the user of a ticket left. `Desk`
-//! computes the step table `next` of `specs/Desks`, over the step table of a client. Over any events in any order:
+//! served; each core has up to eight requests open, and an op goes to the core with the fewest tickets. What a core gives in a step is told
+//! with the place of the core and, where a user waits for it, the ticket: of a submission, and of the acceptance that answers the ticket.
+//! Datagrams that are told are to be sent, for the core that gave them. `comes` gives a core an input, such as a datagram or the tick Retry;
+//! `leave` says that the user of a ticket left. `Desk` computes the step table `next` of `specs/Desks`, over the step table of a client. Over
+//! any events in any order:
 //!
 //! - What is told for a ticket is true: a submission is of the ticket's op, which was taken, and an acceptance is of a request that the same
 //!   core submitted before for the same ticket (`tells_what_is_true`). What is told of a core is what a client gives that took some inputs

@@ -1,9 +1,10 @@
 //! A client core, and the tickets of its open requests.
 
-ghost use Rattle.std.specs.Prelude.{◌≡◌, ◌==◌, ◌++◌, ◌∷◌, [], find, OnOk, OnErr, IfOk};
+ghost use Rattle.std.specs.Prelude.{◌≡◌, ◌==◌, ◌++◌, ◌∷◌, [], find, length, OnOk, OnErr, IfOk};
 ghost use Rattle.std.specs.Option.{option_copied};
 ghost use Rattle.nop_types.specs.Given.{given};
 ghost use Rattle.client_quorum.specs.ClientSteps.{can_submit};
+ghost use Rattle.desk.specs.Desks.{is_free_with};
 ghost use Rattle.desk.specs.Submitters.{core_left, held_after, held_by, labelled, labels, opening, submits};
 ghost use Rattle.desk.specs.Submitters.{submit_tells, takes, tells, ticket_for, ticket_of};
 ghost use Rattle.desk.specs.Submitters.{without_id, without_ticket};
@@ -77,6 +78,13 @@ impl OpenTickets {
         OpenTickets {
             tickets: Vec::new(alloc),
         }
+    }
+
+    /// How many there are.
+    pub(crate) fn len(&self) -> usize
+        ensures { result ≡ length self.now }
+    {
+        self.tickets.len()
     }
 
     /// The ticket of the request with an id.
@@ -186,6 +194,13 @@ impl Submitter {
         ensures { result ≡ can_submit self.now.client.state.requests }
     {
         self.client.can_submit()
+    }
+
+    /// It takes an op, and holds so many tickets.
+    pub(crate) fn is_free_with(&self, held: usize) -> bool
+        ensures { result ≡ is_free_with held self.now }
+    {
+        self.can_submit() && self.held.len() == held
     }
 
     /// The user of a ticket left.

@@ -80,6 +80,26 @@ reply 1 0 1
   0 submitted 9 for 9
 ";
 
+/// Of two cores the one takes an op that holds fewer tickets, the first where both hold as many.
+const SPREAD: &str = "\
+take a
+  0 submitted 1 for 0
+take b
+  1 submitted 1 for 1
+take c
+  0 submitted 2 for 2
+reply 0 1 1
+reply 1 1 1
+  1 accepted 1 for 1
+take d
+  1 submitted 2 for 3
+take e
+  1 submitted 3 for 4
+leave 0
+take f
+  0 submitted 3 for 5
+";
+
 #[test]
 fn answers_are_for_their_tickets(rt: HostRuntime) {
     play(&rt, rt.alloc(), 1, ANSWERS);
@@ -93,4 +113,9 @@ fn ops_wait_for_the_window(rt: HostRuntime) {
 #[test]
 fn nothing_is_told_to_who_left(rt: HostRuntime) {
     play(&rt, rt.alloc(), 1, LEFT);
+}
+
+#[test]
+fn ops_are_spread_over_cores(rt: HostRuntime) {
+    play(&rt, rt.alloc(), 2, SPREAD);
 }
