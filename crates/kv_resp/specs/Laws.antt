@@ -6,7 +6,7 @@ use Rattle.std.proofs.lemmas.Bool.{and_parts}
 use Rattle.std.specs.FinMap as finite
 use Rattle.kv_host.specs.declared.op.TheConstants.{GET, PUT, DELETE, SWAP}
 use Rattle.kv_host.specs.Op.{Op, Get, Put, Delete, Swap}
-use Rattle.kv_host.specs.Spelling.{field, Spells}
+use Rattle.kv_host.specs.Spelling.{field, KeyFits, Spells}
 use Rattle.kv_host.specs.Kv.{answer_to, is_refused, shown}
 use Rattle.kv_host.specs.Values.{Kv, has_value}
 use Rattle.resp.specs.Spelling.{bulk}
@@ -16,7 +16,7 @@ use Rattle.kv_resp.specs.declared.demand.Form.TheVariants.{Value, Stored, Presen
 use Rattle.kv_resp.specs.Results.{reply_to}
 use Rattle.kv_spelling.specs.Spell.{fits_key, fits_value}
 use Rattle.kv_spelling.specs.Laws.{key_fits, value_fits}
-use Rattle.kv_resp.specs.Table.{Action, Execute, Answer, End, key_action, put_action, swap_action, option_action, selected}
+use Rattle.kv_resp.specs.Table.{Action, Execute, ReadAt, Answer, End, key_action, put_action, read_action, swap_action, option_action, selected}
 use Rattle.kv_resp.specs.Table.{with_any, alone, with_one, with_two, with_three, asked, is_word, unknown, bad_key, bad_value}
 
 -- ---- results
@@ -97,9 +97,10 @@ pub record IsOp (bytes : List ℕ) : Type 0 where
   pub op : Op
   pub spells : Spells op bytes
 
--- an op that is asked for is spelled by its bytes
+-- an op that is asked for is spelled by its bytes, and a key that is read may be that of an op
 abbrev pub IsSpelled : Action → Type 0
 IsSpelled (Execute bytes form) = IsOp bytes
+IsSpelled (ReadAt key) = KeyFits key
 IsSpelled (Answer reply) = Unit {0}
 IsSpelled (End reply) = Unit {0}
 
@@ -111,6 +112,10 @@ delete_spelled : (key : List ℕ) (form : Form) (b : Bool) → fits_key key ≡ 
     → IsSpelled (cond b (Execute (DELETE ∷ field key) form) bad_key)
 delete_spelled key form true e = record { op = Delete key; spells = (key_fits key e, refl) }
 delete_spelled key form false e = tt
+
+read_spelled : (key : List ℕ) (b : Bool) → fits_key key ≡ b → IsSpelled (cond b (ReadAt key) bad_key)
+read_spelled key true e = key_fits key e
+read_spelled key false e = tt
 
 put_spelled : (key value : List ℕ) (form : Form) (b c : Bool) → fits_key key ≡ b → fits_value value ≡ c
     → IsSpelled (cond b (cond c (Execute (PUT ∷ (field key ++ field value)) form) bad_value) bad_key)
@@ -143,8 +148,9 @@ one_spelled word first =
     (either (is_word word (codes "exists")) _ _ (get_spelled first Presence _ refl)
     (either (is_word word (codes "del")) _ _ (delete_spelled first Presence _ refl)
     (either (is_word word (codes "getdel")) _ _ (delete_spelled first Value _ refl)
+    (either (is_word word (codes "getat")) _ _ (read_spelled first _ refl)
     (either (is_word word (codes "ping") || is_word word (codes "echo")) _ _ tt
-    (either (is_word word (codes "select")) _ _ (either (is_word first (codes "0")) _ _ tt tt) (any_spelled word))))))
+    (either (is_word word (codes "select")) _ _ (either (is_word first (codes "0")) _ _ tt tt) (any_spelled word)))))))
 
 two_spelled : (word key value : List ℕ) → IsSpelled (with_two word key value)
 two_spelled word key value =

@@ -12,6 +12,8 @@ use Rattle.kv_resp.specs.declared.demand.Form.TheVariants.{Value, Stored, Presen
 pub data Action : Type 0 where
   -- the service's result of the op that these bytes spell is replied in this form
   Execute : (op : List ℕ) → (form : Form) → Action
+  -- an observer's result for this key is replied in the form of a value
+  ReadAt : (key : List ℕ) → Action
   -- these bytes are replied
   Answer : (reply : List ℕ) → Action
   -- they are replied, and the connection ends
@@ -37,6 +39,10 @@ unknown = Answer (error (codes "ERR unknown command, or not with these arguments
 -- a get or a delete
 abbrev pub key_action : ℕ → List ℕ → Form → Action
 key_action kind key form = if fits_key key then Execute (kind ∷ field key) form else bad_key
+
+-- a read of an observer
+abbrev pub read_action : List ℕ → Action
+read_action key = if fits_key key then ReadAt key else bad_key
 
 abbrev pub put_action : List ℕ → List ℕ → Form → Action
 put_action key value form =
@@ -75,6 +81,7 @@ with_one word first =
     else if is_word word (codes "exists") then key_action GET first Presence
     else if is_word word (codes "del") then key_action DELETE first Presence
     else if is_word word (codes "getdel") then key_action DELETE first Value
+    else if is_word word (codes "getat") then read_action first
     else if is_word word (codes "ping") || is_word word (codes "echo") then Answer (bulk first)
     else if is_word word (codes "select") then selected first
     else with_any word

@@ -1,4 +1,4 @@
-use nop_types::Op;
+use nop_types::{Key, Op};
 use resp::Reply;
 
 /// How the result of an op is replied.
@@ -19,6 +19,8 @@ pub enum Form {
 pub enum Demand<'a> {
     /// The service's result of an op, in this form.
     Execute(Op, Form),
+    /// An observer's result for a key, in the form of a value.
+    ReadAt(Key),
     /// A reply, and nothing of the service.
     Answer(Reply<'a>),
     /// A reply, and that the connection ends.

@@ -50,7 +50,7 @@ pub fn swaps_say_whether_they_are_done()
         ≡ flag (has_value kv key old) }
 {}
 
-/// The bytes of each op that is asked for spell one.
+/// The bytes of each op that is asked for spell one, and each key that is read may be that of one.
 pub fn asked_ops_are_spelled()
     ensures { (arguments : List (List ℕ)) → IsSpelled (asked arguments) }
 {}

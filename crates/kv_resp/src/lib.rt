@@ -6,14 +6,16 @@
 //! | `SET k v`; `SET k v GET`, `GETSET k v` | put | `+OK`; the former value or nil |
 //! | `DEL k`; `GETDEL k` | delete | 1 or 0; the former value or nil |
 //! | `CAS k old new` | swap | 1 or 0 |
+//! | `GETAT k` | none: a read of an observer | the value or nil |
 //! | `PING`, `PING text`, `ECHO text`, `SELECT 0`, `QUIT ..`, `CLIENT ..`, `COMMAND ..`, `CONFIG ..`, `INFO ..` | none | what clients of Redis expect |
 //!
 //! Commands and the option are words in letters of any case. All else is answered with an error, and nothing of it is done: other
 //! commands, other numbers of arguments, other options, keys and values that no op may have, and puts that are answered `full`.
 //!
-//! Proved: `asked` gives what the table says (`asked` in `specs/Table`, one page), and `reply_to` what that of results says
-//! (`specs/Results`). The bytes of each op that is asked for spell one (`asked_ops_are_spelled`), and the replies say what the map of
-//! the service has and had (`gets_say_what_the_map_has` and the three laws after it).
+//! Proved: `asked` gives what the table says (`asked` in `specs/Table`, one page), and `reply_to`
+//! what that of results says (`specs/Results`). The bytes of each op that is asked for spell one,
+//! and a key that is read may be that of one (`asked_ops_are_spelled`); the replies say what the
+//! map of the service has and had (`gets_say_what_the_map_has` and the three laws after it).
 //!
 //! Calls: `asked`, then `reply_to` with its form.
 //!

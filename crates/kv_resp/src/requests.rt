@@ -2,7 +2,7 @@
 
 ghost use Rattle.std.specs.Prelude.{◌≡◌, ◌∷◌, [], IfOk};
 ghost use Rattle.kv_resp.specs.Table.{asked, alone, bad_key, bad_value, done};
-ghost use Rattle.kv_resp.specs.Table.{is_word, key_action, option_action, put_action, selected};
+ghost use Rattle.kv_resp.specs.Table.{is_word, key_action, option_action, put_action, read_action, selected};
 ghost use Rattle.kv_resp.specs.Table.{swap_action, unknown};
 ghost use Rattle.kv_resp.specs.Table.{with_any, with_one, with_three, with_two};
 ghost use Rattle.kv_resp.specs.View.{action_of};
@@ -10,7 +10,7 @@ ghost use Rattle.kv_resp.specs.View.{action_of};
 use crate::demand::{Demand, Form};
 use kv_host::{DELETE, GET};
 use kv_spelling::{fits_key, fits_value, key_op, swap_op, value_op};
-use nop_types::{Bytes, NoMemory};
+use nop_types::{Bytes, Key, NoMemory};
 use resp::Reply;
 use std::alloc::Global;
 
@@ -61,6 +61,19 @@ fn key_action<'a>(alloc: Global, kind: u8, key: &[u8], form: Form) -> Result<Dem
     }
     match key_op(alloc, kind, key) {
         Ok(op) => Ok(Demand::Execute(op, form)),
+        Err(e) => Err(e),
+    }
+}
+
+/// A read of an observer.
+fn read_action<'a>(alloc: Global, key: &[u8]) -> Result<Demand<'a>, NoMemory>
+    ensures { IfOk result (λ a. action_of a ≡ read_action key.now) }
+{
+    if !fits_key(key) {
+        return Ok(bad_key());
+    }
+    match Key::new(alloc, key) {
+        Ok(key) => Ok(Demand::ReadAt(key)),
         Err(e) => Err(e),
     }
 }
@@ -155,6 +168,8 @@ fn with_one<'a>(alloc: Global, word: &[u8], first: &'a [u8]) -> Result<Demand<'a
         key_action(alloc, DELETE, first, Form::Presence)
     } else if is_word(word, "getdel") {
         key_action(alloc, DELETE, first, Form::Value)
+    } else if is_word(word, "getat") {
+        read_action(alloc, first)
     } else if is_word(word, "ping") || is_word(word, "echo") {
         Ok(Demand::Answer(Reply::Bulk(first)))
     } else if is_word(word, "select") {

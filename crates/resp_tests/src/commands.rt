@@ -4,9 +4,9 @@ use resp::{Reply, put_reply};
 use std::alloc::Global;
 use std::process::Abort;
 
-/// A request, and what it asks for: a letter of the form and the bytes of an op, or the bytes of a reply, after `.` where the
-/// connection ends.
-const REQUESTS: [(&[&str], &[u8]); 44] = [
+/// A request, and what it asks for: a letter of the form and the bytes of an op, `@` and the key of
+/// a read, or the bytes of a reply, after `.` where the connection ends.
+const REQUESTS: [(&[&str], &[u8]); 48] = [
     (&["GET", "k"], b"V G\0\x01k"),
     (&["get", "kk"], b"V G\0\x02kk"),
     (&["Exists", "k"], b"P G\0\x01k"),
@@ -19,6 +19,8 @@ const REQUESTS: [(&[&str], &[u8]); 44] = [
     (&["GETSET", "k", "v"], b"V P\0\x01k\0\x01v"),
     (&["CAS", "k", "a", "b"], b"S C\0\x01k\0\x01a\0\x01b"),
     (&["cas", "k", "", ""], b"S C\0\x01k\0\0\0\0"),
+    (&["GETAT", "k"], b"@k"),
+    (&["GetAt", "a b"], b"@a b"),
     (&["PING"], b"+PONG\r\n"),
     (&["ping", "a b"], b"$3\r\na b\r\n"),
     (&["ECHO", "a"], b"$1\r\na\r\n"),
@@ -34,6 +36,7 @@ const REQUESTS: [(&[&str], &[u8]); 44] = [
     (&["INFO", "server"], b"$23\r\nredis_mode:standalone\r\n\r\n"),
     (&["SELECT", "1"], b"-ERR DB index is out of range\r\n"),
     (&["GET", ""], b"-ERR a key has 1 to 64 bytes\r\n"),
+    (&["GETAT", ""], b"-ERR a key has 1 to 64 bytes\r\n"),
     (&["SET", "", "v"], b"-ERR a key has 1 to 64 bytes\r\n"),
     (&["CAS", "", "a", "b"], b"-ERR a key has 1 to 64 bytes\r\n"),
     // Options that would change what `SET` means, and more than is served.
@@ -43,6 +46,7 @@ const REQUESTS: [(&[&str], &[u8]); 44] = [
     (&["SET", "k", "v", "GET", "NX"], UNKNOWN),
     (&["SET", "k"], UNKNOWN),
     (&["GET"], UNKNOWN),
+    (&["GETAT", "k", "k"], UNKNOWN),
     (&["GET", "k", "k"], UNKNOWN),
     (&["DEL", "k", "j"], UNKNOWN),
     (&["EXISTS", "k", "j"], UNKNOWN),
@@ -98,6 +102,10 @@ fn put_demand(rt: &impl Abort, demand: &Demand<'_>, to: &mut Vec<u8>) {
             };
             put(rt, letter, to);
             put(rt, op.as_slice(), to);
+        }
+        Demand::ReadAt(key) => {
+            put(rt, b"@", to);
+            put(rt, key.as_slice(), to);
         }
         Demand::Answer(reply) => put_reply(*reply, to).expect(rt, "memory"),
         Demand::End(reply) => {
