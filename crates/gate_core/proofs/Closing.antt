@@ -3,6 +3,7 @@ use Rattle.std.proofs.Common.{◌≡◌, ℕ, ◌+◌, length, Bool, true, false
 use Rattle.std.specs.Prelude.{nat_le, nat_lt, Ok, Err}
 use Rattle.std.specs.FinMap as finite
 use Rattle.std.proofs.lemmas.Bool.{cases_Bool}
+use Rattle.nop_types.specs.Given as given
 use Rattle.nop_types.specs.Given.{Given, Packet, Ticked}
 use Rattle.nop_types.specs.Lists.{Has}
 use Rattle.nop_types.specs.declared.input.Tick.TheVariants as ticks
@@ -19,14 +20,16 @@ use Rattle.desk.specs.Desks.{has_room, Take, Comes}
 use Rattle.desk.specs.declared.submitter.Labelled.{Labelled}
 use Rattle.users.specs.declared.event.UserEvent.TheVariants as users
 use Rattle.gate_core.specs.declared.act.Act.{Act}
-use Rattle.gate_core.specs.declared.act.Act.TheVariants.{Accepted, Reply, Close}
+use Rattle.gate_core.specs.declared.act.Act.TheVariants.{Accepted, Answered, Reading, Reply, Close, Waits}
 use Rattle.gate_core.specs.declared.act.Event.{Event}
 use Rattle.gate_core.specs.declared.act.Event.TheVariants as events
 use Rattle.gate_core.specs.declared.gate_state.GateState.{GateState}
-use Rattle.gate_core.specs.declared.session.Asked.{Asked}
+use Rattle.gate_core.specs.declared.session.InFlight.{InFlight}
+use Rattle.gate_core.specs.declared.session.InFlight.TheVariants as flight
+use Rattle.gate_core.specs.declared.session.UnderWay.{UnderWay}
 use Rattle.gate_core.specs.declared.session.Session.{Session}
 use Rattle.gate_core.specs.declared.limits.TheConstants.{MAX_USERS, MAX_WAITING_BYTES}
-use Rattle.gate_core.specs.Gates.{admitted, answer_owner, answer_user, answered_if, awaits, busy, comes, demanded, ended, executed, fresh, idle_op, is_new, left_by, left_of, next, no_request, quiet, read_as, read_of, read_session, replied, sent_to, session_of, take, tell, tell_all, tell_out, too_many, too_much, with_desk, with_owner, with_session, without_owner, without_session}
+use Rattle.gate_core.specs.Gates.{admitted, answer_owner, answer_user, answered_if, ask_for, ask_free, awaits, busy, came_of, comes, demanded, end_read, ended, executed, fresh, fresh_if, idle_op, is_new, key_to_ask, left_by, left_of, next, no_observers, no_request, quiet, read_answer_if, read_as, read_asked, read_user, reads_at, reads_by, reassign_reader, reassign_user, read_of, read_session, replied, sent_to, session_of, slot_in, take, taken_if, tell, tell_all, tell_out, too_many, too_much, with_desk, unread, with_owner, with_reader, with_session, without_owner, without_reader, without_session}
 use Rattle.gate_core.specs.Runs.{after, gave, replies_to}
 use Rattle.gate_core.proofs.Answering.{replies_append}
 use Rattle.gate_core.proofs.Entries.{gone_here}
@@ -68,50 +71,72 @@ module _ (user : ℕ) where
   none_closes : NoClose []
   none_closes h = Has-none (Close user) h
 
-  session_closes : (other : ℕ) (s : Session) (result : List ℕ) (b : Bool) → NoClose (answered_if b other s result).1
-  session_closes other s result true h = absurd (let e : Close user ≡ Reply other _ = Has-one (Close user) _ h in cc)
-  session_closes other s result false h = none_closes h
+  session_closes : (other slot : ℕ) (s : Session) (result : List ℕ) (b : Bool) → NoClose (answered_if b other slot s result).1
+  session_closes other slot s result true h = absurd (let e : Close user ≡ Reply other _ = Has-one (Close user) _ h in cc)
+  session_closes other slot s result false h = none_closes h
 
-  user_closes : (o : Option Session) (g : GateState) (other ticket : ℕ) (result : List ℕ) → NoClose (answer_user o g other ticket result).1
-  user_closes None g other ticket result h = none_closes h
-  user_closes (Some s) g other ticket result h = session_closes other s result (awaits s.asked ticket) h
+  user_closes : (o : Option Session) (g : GateState) (other slot ticket : ℕ) (result : List ℕ) → NoClose (answer_user o g other slot ticket result).1
+  user_closes None g other slot ticket result h = none_closes h
+  user_closes (Some s) g other slot ticket result h = session_closes other slot s result (awaits s.asked ticket) h
 
-  owner_closes : (o : Option (Option ℕ)) (g : GateState) (ticket : ℕ) (result : List ℕ) → NoClose (answer_owner o g ticket result).1
-  owner_closes (Some (Some other)) g ticket result h = user_closes (session_of g other) g other ticket result h
-  owner_closes (Some None) g ticket result h = none_closes h
-  owner_closes None g ticket result h = none_closes h
+  owner_closes : (o : Option (Option ℕ)) (g : GateState) (slot ticket : ℕ) (result : List ℕ) → NoClose (answer_owner o g slot ticket result).1
+  owner_closes (Some (Some other)) g slot ticket result h = user_closes (session_of g other) g other slot ticket result h
+  owner_closes (Some None) g slot ticket result h = none_closes h
+  owner_closes None g slot ticket result h = none_closes h
 
   one_closes : (a : Act) → (Close user ≡ a → ⊥) → NoClose (a ∷ [])
   one_closes a d h = d (Has-one (Close user) a h)
 
-  accepted_closes : (core id : ℕ) (acts : List Act) → NoClose acts → NoClose (Accepted core id ∷ acts)
-  accepted_closes core id acts d h = elim (Has-cases (Close user) (Accepted core id) acts h) [
-    | inl e ↦ absurd cc
+  after_closes : (a : Act) (acts : List Act) → (Close user ≡ a → ⊥) → NoClose acts → NoClose (a ∷ acts)
+  after_closes a acts c d h = elim (Has-cases (Close user) a acts h) [
+    | inl e ↦ c e
     | inr k ↦ d k
   ]
 
-  out_closes : (core : ℕ) (ticket : Option ℕ) (out : Out) (g : GateState) → NoClose (tell_out core ticket out g).1
-  out_closes core ticket (outs.Send dest sent) g h = one_closes _ (λ e. absurd cc) h
-  out_closes core ticket (outs.Submitted request) g h = one_closes _ (λ e. absurd cc) h
-  out_closes core None (outs.Accepted client id result) g h = accepted_closes core id [] none_closes h
-  out_closes core (Some t) (outs.Accepted client id result) g h =
-      accepted_closes core id (answer_owner (finite.get g.owners t) (without_owner g t) t result).1
-      (owner_closes (finite.get g.owners t) (without_owner g t) t result) h
-  out_closes core ticket _ g h = none_closes h
+  fresh_closes : (other position : ℕ) (s : Session) (result : List ℕ) (b : Bool) → NoClose (fresh_if b other position s result).1
+  fresh_closes other position s result true h = one_closes _ (λ e. absurd cc) h
+  fresh_closes other position s result false h = one_closes _ (λ e. absurd cc) h
 
-  tell_closes : (ls : List Labelled) (g : GateState) → NoClose (tell_all ls g).1
-  tell_closes [] g h = none_closes h
-  tell_closes (l ∷ ls) g h = elim (Has-append_cases (tell l g).1 (tell_all ls (tell l g).0).1 (Close user) h) [
-    | inl k ↦ out_closes l.core l.ticket l.out g k
-    | inr k ↦ tell_closes ls (tell l g).0 k
+  read_closes_if : (other position : ℕ) (s : Session) (result : List ℕ) (b : Bool) → NoClose (read_answer_if b other position s result).1
+  read_closes_if other position s result true h = fresh_closes other position s result (nat_le s.seen position) h
+  read_closes_if other position s result false h = none_closes h
+
+  read_user_closes : (o : Option Session) (g : GateState) (other position : ℕ) (way : UnderWay) (result : List ℕ)
+      → NoClose (read_user o g other position way result).1
+  read_user_closes None g other position way result h = none_closes h
+  read_user_closes (Some s) g other position way result h = read_closes_if other position s result (reads_by s.asked way) h
+
+  end_closes : (o : Option ℕ) (g : GateState) (position : ℕ) (way : UnderWay) (result : List ℕ) → NoClose (end_read o g position way result).1
+  end_closes None g position way result h = none_closes h
+  end_closes (Some other) g position way result h = read_user_closes (session_of g other) g other position way result h
+
+  out_closes : (came : List ℕ) (core : ℕ) (ticket : Option ℕ) (out : Out) (g : GateState) → NoClose (tell_out came core ticket out g).1
+  out_closes came core ticket (outs.Send dest sent) g h = one_closes _ (λ e. absurd cc) h
+  out_closes came core ticket (outs.Submitted request) g h = one_closes _ (λ e. absurd cc) h
+  out_closes came core None (outs.Accepted client id result) g h = after_closes (Accepted core id) [] (λ e. absurd cc) none_closes h
+  out_closes came core (Some t) (outs.Accepted client id result) g h =
+      after_closes (Accepted core id) (answer_owner (finite.get g.owners t) (without_owner g t) (slot_in came) t result).1 (λ e. absurd cc)
+      (owner_closes (finite.get g.owners t) (without_owner g t) (slot_in came) t result) h
+  out_closes came core ticket (outs.Reading client id observer key) g h = one_closes (Reading core id) (λ e. absurd cc) h
+  out_closes came core ticket (outs.Answered client id observer position result) g h =
+      let way : UnderWay = record { core = core; id = id; observer = observer } in
+      after_closes (Answered core id) (end_read (finite.get g.readers core) (without_reader g core) position way result).1 (λ e. absurd cc)
+      (end_closes (finite.get g.readers core) (without_reader g core) position way result) h
+  out_closes came core ticket _ g h = none_closes h
+
+  tell_closes : (came : List ℕ) (ls : List Labelled) (g : GateState) → NoClose (tell_all came ls g).1
+  tell_closes came [] g h = none_closes h
+  tell_closes came (l ∷ ls) g h = elim (Has-append_cases (tell came l g).1 (tell_all came ls (tell came l g).0).1 (Close user) h) [
+    | inl k ↦ out_closes came l.core l.ticket l.out g k
+    | inr k ↦ tell_closes came ls (tell came l g).0 k
   ]
 
   take_closes : (g : GateState) (owner : Option ℕ) (op : List ℕ) → NoClose (take g owner op).1
   take_closes g owner op h =
-      tell_closes (desks.next g.desk.state (Take op)).1 (with_owner (with_desk g (desks.next g.desk.state (Take op)).0) g.desk.state.taken owner) h
+      tell_closes [] (desks.next g.desk.state (Take op)).1 (with_owner (with_desk g (desks.next g.desk.state (Take op)).0) g.desk.state.taken owner) h
 
   comes_closes : (g : GateState) (core : ℕ) (x : Given) → NoClose (comes g core x).1
-  comes_closes g core x h = tell_closes (desks.next g.desk.state (Comes core x)).1 (with_desk g (desks.next g.desk.state (Comes core x)).0) h
+  comes_closes g core x h = tell_closes (came_of x) (desks.next g.desk.state (Comes core x)).1 (with_desk g (desks.next g.desk.state (Comes core x)).0) h
 
   -- where it is ended it is gone
   abbrev pub Closes : (GateState × List Act) → Type 0
@@ -140,13 +165,22 @@ module _ (user : ℕ) where
   op_closes : (g : GateState) (other : ℕ) (s : Session) (op : List ℕ) (form : Form) (b : Bool)
       → Closes (cond b (executed g other s op form) (replied g other s busy))
   op_closes g other s op form true =
-      let in_flight : Session = record s { asked = Some (record { ticket = g.desk.state.taken; form = form }) } in
+      let in_flight : Session = record s { asked = Some (flight.Op (record { ticket = g.desk.state.taken; form = form })) } in
       never (executed g other s op form) (take_closes (with_session g other in_flight) (Some other) op)
   op_closes g other s op form false = reply_closes g other s busy
+
+  waits_closes : (g : GateState) (other : ℕ) (s : Session) → Closes (with_session g other s, Waits other false ∷ [])
+  waits_closes g other s = never (with_session g other s, Waits other false ∷ []) (one_closes (Waits other false) (λ e. absurd cc))
+
+  read_at_closes : (g : GateState) (other : ℕ) (s : Session) (key : List ℕ) (b : Bool)
+      → Closes (cond b (read_asked g other s key) (replied g other s no_observers))
+  read_at_closes g other s key true = waits_closes g other (record s { asked = Some (flight.Read (record { key = key; under_way = None })) })
+  read_at_closes g other s key false = reply_closes g other s no_observers
 
   demand_closes : (g : GateState) (other : ℕ) (s : Session) (action : Action) → (user ≡ other → is_new g user ≡ false)
       → Closes (demanded g other s action)
   demand_closes g other s (table.Execute op form) old = op_closes g other s op form (has_room g.desk.state)
+  demand_closes g other s (table.ReadAt key) old = read_at_closes g other s key (nat_lt 0 g.observers)
   demand_closes g other s (table.Answer bytes) old = reply_closes g other s bytes
   demand_closes g other s (table.End bytes) old = ended_closes g other bytes old
 
@@ -156,7 +190,7 @@ module _ (user : ℕ) where
   as_closes g other s (Err More) old = never (quiet g) none_closes
   as_closes g other s (Err (Wrong fault)) old = ended_closes g other no_request old
 
-  session_read_closes : (g : GateState) (other : ℕ) (s : Session) (o : Option Asked) → (user ≡ other → is_new g user ≡ false)
+  session_read_closes : (g : GateState) (other : ℕ) (s : Session) (o : Option InFlight) → (user ≡ other → is_new g user ≡ false)
       → Closes (read_session g other s o)
   session_read_closes g other s None old = as_closes g other s (read_request s.waiting) old
   session_read_closes g other s (Some a) old = never (quiet g) none_closes
@@ -175,9 +209,10 @@ module _ (user : ℕ) where
   read_closes g h other None is = never (quiet g) none_closes
   read_closes g h other (Some s) is = session_read_closes g other s s.asked (known_at g h other s is)
 
-  left_new : (a : Option Asked) (g : GateState) → is_new (left_by a g) user ≡ is_new g user
+  left_new : (a : Option InFlight) (g : GateState) → is_new (left_by a g) user ≡ is_new g user
   left_new None g = refl
-  left_new (Some a) g = refl
+  left_new (Some (flight.Op a)) g = refl
+  left_new (Some (flight.Read r)) g = refl
 
   sent_closes : (g : GateState) → IsAbsent user g → (other : ℕ) (o : Option Session) (bytes : List ℕ) → session_of g other ≡ o
       → Closes (sent_to o g other bytes)
@@ -212,6 +247,28 @@ module _ (user : ℕ) where
   ask_closes g true = never (take g None idle_op) (take_closes g None idle_op)
   ask_closes g false = never (quiet g) none_closes
 
+  key_closes : (g : GateState) (key : Option (List ℕ)) (core observer other : ℕ) → Closes (ask_for key g core observer other)
+  key_closes g None core observer other = never (quiet g) none_closes
+  key_closes g (Some key) core observer other =
+      let x = given.Read observer key in
+      never (comes (with_reader g core other) core x) (comes_closes (with_reader g core other) core x)
+
+  ask_read_closes : (g : GateState) (o : Option ℕ) (core observer other : ℕ) → Closes (ask_free o g core observer other)
+  ask_read_closes g None core observer other = key_closes g (key_to_ask (session_of g other)) core observer other
+  ask_read_closes g (Some reader) core observer other = never (quiet g) none_closes
+
+  unread_closes : (g : GateState) (other : ℕ) (s : Session) (b : Bool) → Closes (taken_if b g other s)
+  unread_closes g other s true = waits_closes g other (record s { asked = unread s.asked })
+  unread_closes g other s false = never (quiet g) none_closes
+
+  reassign_user_closes : (g : GateState) (core other : ℕ) (o : Option Session) → Closes (reassign_user o g core other)
+  reassign_user_closes g core other None = never (quiet g) none_closes
+  reassign_user_closes g core other (Some s) = unread_closes g other s (reads_at s.asked core)
+
+  reassign_closes : (g : GateState) (core : ℕ) (o : Option ℕ) → Closes (reassign_reader o g core)
+  reassign_closes g core None = never (quiet g) none_closes
+  reassign_closes g core (Some other) = reassign_user_closes g core other (session_of g other)
+
   row_closes : (g : GateState) → IsAbsent user g → (e : Event) → Closes (next g e)
   row_closes g h (events.Datagram core sent) = never (comes g core (Packet sent)) (comes_closes g core (Packet sent))
   row_closes g h (events.Retry core) = never (comes g core (Ticked ticks.Retry)) (comes_closes g core (Ticked ticks.Retry))
@@ -219,6 +276,8 @@ module _ (user : ℕ) where
   row_closes g h (events.User (users.Sent other bytes)) = sent_closes g h other (session_of g other) bytes refl
   row_closes g h (events.User (users.Left other)) = left_closes g other (session_of g other)
   row_closes g h (events.Read other) = read_closes g h other (session_of g other) refl
+  row_closes g h (events.Ask core observer other) = ask_read_closes g (finite.get g.readers core) core observer other
+  row_closes g h (events.Reassign core) = reassign_closes g core (finite.get g.readers core)
   row_closes g h events.Idle = ask_closes g (has_room g.desk.state)
 
   pub closed_after : (es : List Event) (g : GateState) → IsAbsent user g → Has (gave g es) (Close user) → IsGone (after g es)

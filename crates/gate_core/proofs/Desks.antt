@@ -1,8 +1,9 @@
 -- What the desk of a gateway is told, and how many ops it has taken.
 use Rattle.std.proofs.Common.{◌≡◌, ℕ, ◌+◌, length, Bool, true, false, cond, List, [], ◌∷◌, ◌++◌, Option, Some, None, refl, sym, ap, ◌∙◌, arith}
 use Rattle.std.proofs.Common.{append_assoc, length-append}
-use Rattle.std.specs.Prelude.{nat_le, nat_lt, Ok, Err}
+use Rattle.std.specs.Prelude.{map, nat_le, nat_lt, Ok, Err}
 use Rattle.std.specs.FinMap as finite
+use Rattle.nop_types.specs.Given as given
 use Rattle.nop_types.specs.Given.{Given, Packet, Ticked}
 use Rattle.nop_types.specs.declared.input.Tick.TheVariants as ticks
 use Rattle.resp.specs.Reading.{Read, read_request}
@@ -20,11 +21,12 @@ use Rattle.gate_core.specs.declared.act.Act.TheVariants.{Reply, Close}
 use Rattle.gate_core.specs.declared.act.Event.{Event}
 use Rattle.gate_core.specs.declared.act.Event.TheVariants as events
 use Rattle.gate_core.specs.declared.gate_state.GateState.{GateState}
-use Rattle.gate_core.specs.declared.session.Asked.{Asked}
+use Rattle.gate_core.specs.declared.session.InFlight.{InFlight}
+use Rattle.gate_core.specs.declared.session.InFlight.TheVariants as flight
 use Rattle.gate_core.specs.declared.session.Session.{Session}
 use Rattle.gate_core.specs.declared.limits.TheConstants.{MAX_USERS, MAX_WAITING_BYTES}
-use Rattle.gate_core.specs.Gates.{admitted, busy, comes, demanded, ended, executed, fresh, idle_op, is_new, left_by, left_of, next, quiet, read_as, read_of, read_session, replied, sent_to, session_of, take, too_many, too_much, with_desk, with_owner, with_session}
-use Rattle.gate_core.specs.Runs.{Taken, Told, Takes, Inputs, Leaves, Nothing, desk_events, desk_told, leave_if, takes, takes_if, told_by_demand, told_by_left, told_by_read, told_by_sent, told_by_session, told_in, told_leave}
+use Rattle.gate_core.specs.Gates.{admitted, ask_for, ask_free, busy, came_of, comes, demanded, ended, executed, fresh, idle_op, is_new, key_to_ask, left_by, left_of, next, no_observers, quiet, read_as, read_asked, reads_at, reassign_reader, reassign_user, read_of, read_session, replied, sent_to, session_of, slot_in, take, taken_if, too_many, too_much, with_desk, with_owner, with_reader, with_session}
+use Rattle.gate_core.specs.Runs.{Heard, Taken, after, bytes_in, Told, Takes, Inputs, Leaves, Nothing, came_by, desk_events, desk_told, heard, heard_by, hears, leave_if, takes, takes_if, told_by_ask, told_by_demand, told_by_desk, told_by_key, told_by_left, told_by_read, told_by_sent, told_by_session, told_in, told_leave}
 use Rattle.gate_core.proofs.Answering.{tell_desk}
 
 -- the desk after a step
@@ -33,23 +35,29 @@ desk_after g t = runs.after g.desk.state (desk_events t)
 
 take_desk : (g : GateState) (owner : Option ℕ) (op : List ℕ) → (take g owner op).0.desk.state ≡ (desks.next g.desk.state (Take op)).0
 take_desk g owner op =
-    ap (λ d. d.state) (tell_desk (desks.next g.desk.state (Take op)).1
+    ap (λ d. d.state) (tell_desk [] (desks.next g.desk.state (Take op)).1
     (with_owner (with_desk g (desks.next g.desk.state (Take op)).0) g.desk.state.taken owner))
 
 comes_desk : (g : GateState) (core : ℕ) (x : Given) → (comes g core x).0.desk.state ≡ (desks.next g.desk.state (Comes core x)).0
 comes_desk g core x =
-    ap (λ d. d.state) (tell_desk (desks.next g.desk.state (Comes core x)).1 (with_desk g (desks.next g.desk.state (Comes core x)).0))
+    ap (λ d. d.state) (tell_desk (came_of x) (desks.next g.desk.state (Comes core x)).1 (with_desk g (desks.next g.desk.state (Comes core x)).0))
 
 op_desk : (g : GateState) (user : ℕ) (s : Session) (op : List ℕ) (form : Form) (b : Bool)
     → (cond b (executed g user s op form) (replied g user s busy)).0.desk.state
     ≡ desk_after g (takes_if b (record { owner = Some user; op = op }))
 op_desk g user s op form true =
-    take_desk (with_session g user (record s { asked = Some (record { ticket = g.desk.state.taken; form = form }) })) (Some user) op
+    take_desk (with_session g user (record s { asked = Some (flight.Op (record { ticket = g.desk.state.taken; form = form })) })) (Some user) op
 op_desk g user s op form false = refl
+
+read_asked_desk : (g : GateState) (user : ℕ) (s : Session) (key : List ℕ) (b : Bool)
+    → (cond b (read_asked g user s key) (replied g user s no_observers)).0.desk.state ≡ g.desk.state
+read_asked_desk g user s key true = refl
+read_asked_desk g user s key false = refl
 
 demand_desk : (g : GateState) (user : ℕ) (s : Session) (action : Action)
     → (demanded g user s action).0.desk.state ≡ desk_after g (told_by_demand g user action)
 demand_desk g user s (table.Execute op form) = op_desk g user s op form (has_room g.desk.state)
+demand_desk g user s (table.ReadAt key) = read_asked_desk g user s key (nat_lt 0 g.observers)
 demand_desk g user s (table.Answer bytes) = refl
 demand_desk g user s (table.End bytes) = refl
 
@@ -59,7 +67,7 @@ read_desk g user s (Ok p) = demand_desk g user (record s { waiting = p.1 }) (ask
 read_desk g user s (Err More) = refl
 read_desk g user s (Err (Wrong fault)) = refl
 
-session_desk : (g : GateState) (user : ℕ) (s : Session) (o : Option Asked)
+session_desk : (g : GateState) (user : ℕ) (s : Session) (o : Option InFlight)
     → (read_session g user s o).0.desk.state ≡ desk_after g (told_by_read g user o (read_request s.waiting))
 session_desk g user s None = read_desk g user s (read_request s.waiting)
 session_desk g user s (Some a) = refl
@@ -68,9 +76,10 @@ reads_desk : (g : GateState) (user : ℕ) (o : Option Session) → (read_of o g 
 reads_desk g user None = refl
 reads_desk g user (Some s) = session_desk g user s s.asked
 
-leave_desk : (g : GateState) (a : Option Asked) → (left_by a g).desk.state ≡ desk_after g (told_leave a)
+leave_desk : (g : GateState) (a : Option InFlight) → (left_by a g).desk.state ≡ desk_after g (told_leave a)
 leave_desk g None = refl
-leave_desk g (Some a) = refl
+leave_desk g (Some (flight.Op a)) = refl
+leave_desk g (Some (flight.Read r)) = refl
 
 left_desk : (g : GateState) (user : ℕ) (o : Option Session) → (left_of o g user).0.desk.state ≡ desk_after g (told_by_left o)
 left_desk g user None = refl
@@ -102,6 +111,28 @@ opened_desk : (g : GateState) (user : ℕ) (b : Bool)
 opened_desk g user true = admitted_desk (record g { next_user = user + 1 }) user (nat_le MAX_USERS (finite.len g.sessions))
 opened_desk g user false = refl
 
+key_desk : (g : GateState) (key : Option (List ℕ)) (core observer user : ℕ)
+    → (ask_for key g core observer user).0.desk.state ≡ desk_after g (told_by_key key core observer)
+key_desk g None core observer user = refl
+key_desk g (Some key) core observer user = comes_desk (with_reader g core user) core (given.Read observer key)
+
+ask_read_desk : (g : GateState) (o : Option ℕ) (core observer user : ℕ)
+    → (ask_free o g core observer user).0.desk.state ≡ desk_after g (told_by_ask o (session_of g user) core observer)
+ask_read_desk g None core observer user = key_desk g (key_to_ask (session_of g user)) core observer user
+ask_read_desk g (Some other) core observer user = refl
+
+reassigned_desk : (b : Bool) (g : GateState) (user : ℕ) (s : Session) → (taken_if b g user s).0.desk.state ≡ g.desk.state
+reassigned_desk true g user s = refl
+reassigned_desk false g user s = refl
+
+reassign_user_desk : (o : Option Session) (g : GateState) (core user : ℕ) → (reassign_user o g core user).0.desk.state ≡ g.desk.state
+reassign_user_desk None g core user = refl
+reassign_user_desk (Some s) g core user = reassigned_desk (reads_at s.asked core) g user s
+
+reassign_desk : (o : Option ℕ) (g : GateState) (core : ℕ) → (reassign_reader o g core).0.desk.state ≡ g.desk.state
+reassign_desk None g core = refl
+reassign_desk (Some user) g core = reassign_user_desk (session_of g user) g core user
+
 -- the desk takes what it is told, and nothing else changes it
 pub desk_step : (g : GateState) (e : Event) → (next g e).0.desk.state ≡ desk_after g (told_in g e)
 desk_step g (events.Datagram core sent) = comes_desk g core (Packet sent)
@@ -110,6 +141,8 @@ desk_step g (events.User (users.Opened user)) = opened_desk g user (is_new g use
 desk_step g (events.User (users.Sent user bytes)) = sent_desk g user (session_of g user) bytes
 desk_step g (events.User (users.Left user)) = left_desk g user (session_of g user)
 desk_step g (events.Read user) = reads_desk g user (session_of g user)
+desk_step g (events.Ask core observer user) = ask_read_desk g (finite.get g.readers core) core observer user
+desk_step g (events.Reassign core) = reassign_desk (finite.get g.readers core) g core
 desk_step g events.Idle = ask_desk g (has_room g.desk.state)
 
 -- ---- tickets are counted from 0
@@ -144,3 +177,42 @@ pub told_on : (g : GateState) (e : Event) (es : List Event)
 told_on g e es =
     gave_append g.desk.state (desk_events (told_in g e)) (desk_told (next g e).0 es)
     ∙ ap (λ (d : DeskState). runs.gave g.desk.state (desk_events (told_in g e)) ++ runs.gave d (desk_told (next g e).0 es)) (sym (desk_step g e))
+
+-- ---- what is heard is what the desk tells
+
+abbrev pub told_of : List Heard → List Labelled
+told_of hs = map (λ h. h.told) hs
+
+told_append : (xs ys : List Heard) → told_of (xs ++ ys) ≡ told_of xs ++ told_of ys
+told_append [] ys = refl
+told_append (x ∷ xs) ys = ap (λ (ls : List Labelled). x.told ∷ ls) (told_append xs ys)
+
+told_hears : (slot sent : ℕ) (ls : List Labelled) → told_of (hears slot sent ls) ≡ ls
+told_hears slot sent [] = refl
+told_hears slot sent (l ∷ ls) = ap (λ (ks : List Labelled). l ∷ ks) (told_hears slot sent ls)
+
+heard_told : (user sent : ℕ) (es : List Event) (g : GateState) → told_of (heard user sent g es) ≡ told_by_desk g es
+heard_told user sent [] g = refl
+heard_told user sent (e ∷ es) g =
+    let t = told_in g e in
+    let now = runs.gave g.desk.state (desk_events t) in
+    let later = sent + length (bytes_in user e) in
+    told_append (heard_by g.desk.state t sent) (heard user later (next g e).0 es)
+    ∙ ap (λ (ls : List Labelled). ls ++ told_of (heard user later (next g e).0 es)) (told_hears (slot_in (came_by t)) sent now)
+    ∙ ap (λ (ls : List Labelled). now ++ ls) (heard_told user later es (next g e).0)
+    ∙ sym (told_on g e es)
+
+told_then : (before later : List Event) (g : GateState) → told_by_desk g (before ++ later) ≡ told_by_desk g before ++ told_by_desk (after g before) later
+told_then [] later g = refl
+told_then (e ∷ before) later g =
+    let g' = (next g e).0 in
+    let now = runs.gave g.desk.state (desk_events (told_in g e)) in
+    told_on g e (before ++ later)
+    ∙ ap (λ (ls : List Labelled). now ++ ls) (told_then before later g')
+    ∙ sym (append_assoc now (told_by_desk g' before) (told_by_desk (after g' before) later))
+    ∙ ap (λ (ls : List Labelled). ls ++ told_by_desk (after g' before) later) (sym (told_on g e before))
+
+pub heard_then : (user : ℕ) (before later : List Event) (g : GateState)
+    → told_by_desk g (before ++ later) ≡ told_by_desk g before ++ told_of (heard user 0 (after g before) later)
+heard_then user before later g =
+    told_then before later g ∙ ap (λ (ls : List Labelled). told_by_desk g before ++ ls) (sym (heard_told user 0 later (after g before)))

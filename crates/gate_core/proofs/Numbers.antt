@@ -4,6 +4,7 @@ use Rattle.std.proofs.Common.{true≢false}
 use Rattle.std.specs.Prelude.{◌&&◌, nat_le, nat_lt, Ok, Err}
 use Rattle.std.specs.FinMap as finite
 use Rattle.std.proofs.lemmas.Bool.{and_left, and_parts, cases_Bool, leb-true, lt-leb}
+use Rattle.nop_types.specs.Given as given
 use Rattle.nop_types.specs.Given.{Given, Packet, Ticked}
 use Rattle.nop_types.specs.declared.input.Tick.TheVariants as ticks
 use Rattle.nop_types.specs.declared.output.Out.{Out}
@@ -21,49 +22,83 @@ use Rattle.gate_core.specs.declared.act.Act.TheVariants.{Reply, Close}
 use Rattle.gate_core.specs.declared.act.Event.{Event}
 use Rattle.gate_core.specs.declared.act.Event.TheVariants as events
 use Rattle.gate_core.specs.declared.gate_state.GateState.{GateState}
-use Rattle.gate_core.specs.declared.session.Asked.{Asked}
+use Rattle.gate_core.specs.declared.session.InFlight.{InFlight}
+use Rattle.gate_core.specs.declared.session.InFlight.TheVariants as flight
+use Rattle.gate_core.specs.declared.session.UnderWay.{UnderWay}
 use Rattle.gate_core.specs.declared.session.Session.{Session}
 use Rattle.gate_core.specs.declared.limits.TheConstants.{MAX_USERS, MAX_WAITING_BYTES}
-use Rattle.gate_core.specs.Gates.{admitted, answer_owner, answer_user, busy, comes, demanded, ended, executed, fresh, idle_op, is_new, left_by, left_of, next, opened, quiet, read_as, read_of, read_session, replied, sent_to, session_of, take, tell, tell_all, tell_out, too_many, too_much, with_desk, with_owner, with_session, without_owner}
+use Rattle.gate_core.specs.Gates.{admitted, answer_owner, answer_user, ask_for, ask_free, ask_read, begin_read, begin_user, busy, came_of, comes, demanded, end_read, ended, executed, fresh, idle_op, is_new, key_to_ask, left_by, left_of, next, no_observers, opened, quiet, read_as, read_asked, read_user, reads_at, reassign, reassign_reader, reassign_user, read_of, read_session, replied, sent_to, session_of, slot_in, take, taken_if, tell, tell_all, tell_out, too_many, too_much, with_desk, with_owner, with_reader, with_session, without_owner, without_reader}
 use Rattle.gate_core.specs.Runs.{after}
 use Rattle.gate_core.proofs.Rows.{passed}
 use Rattle.gate_core.proofs.Silence.{IsNoOpening, row_silent}
 
-user_next : (o : Option Session) (g : GateState) (user ticket : ℕ) (result : List ℕ) → (answer_user o g user ticket result).0.next_user ≡ g.next_user
-user_next None g user ticket result = refl
-user_next (Some s) g user ticket result = refl
+user_next : (o : Option Session) (g : GateState) (user slot ticket : ℕ) (result : List ℕ)
+    → (answer_user o g user slot ticket result).0.next_user ≡ g.next_user
+user_next None g user slot ticket result = refl
+user_next (Some s) g user slot ticket result = refl
 
-owner_next : (o : Option (Option ℕ)) (g : GateState) (ticket : ℕ) (result : List ℕ) → (answer_owner o g ticket result).0.next_user ≡ g.next_user
-owner_next (Some (Some user)) g ticket result = user_next (session_of g user) g user ticket result
-owner_next (Some None) g ticket result = refl
-owner_next None g ticket result = refl
+owner_next : (o : Option (Option ℕ)) (g : GateState) (slot ticket : ℕ) (result : List ℕ)
+    → (answer_owner o g slot ticket result).0.next_user ≡ g.next_user
+owner_next (Some (Some user)) g slot ticket result = user_next (session_of g user) g user slot ticket result
+owner_next (Some None) g slot ticket result = refl
+owner_next None g slot ticket result = refl
 
-out_next : (core : ℕ) (ticket : Option ℕ) (out : Out) (g : GateState) → (tell_out core ticket out g).0.next_user ≡ g.next_user
-out_next core ticket (outs.Send dest sent) g = refl
-out_next core ticket (outs.Submitted request) g = refl
-out_next core None (outs.Accepted client id result) g = refl
-out_next core (Some t) (outs.Accepted client id result) g = owner_next (finite.get g.owners t) (without_owner g t) t result
-out_next core ticket _ g = refl
+begin_user_next : (o : Option Session) (g : GateState) (user : ℕ) (way : UnderWay) (key : List ℕ)
+    → (begin_user o g user way key).next_user ≡ g.next_user
+begin_user_next None g user way key = refl
+begin_user_next (Some s) g user way key = refl
 
-tell_next : (ls : List Labelled) (g : GateState) → (tell_all ls g).0.next_user ≡ g.next_user
-tell_next [] g = refl
-tell_next (l ∷ ls) g = tell_next ls (tell l g).0 ∙ out_next l.core l.ticket l.out g
+begin_next : (o : Option ℕ) (g : GateState) (way : UnderWay) (key : List ℕ) → (begin_read o g way key).next_user ≡ g.next_user
+begin_next None g way key = refl
+begin_next (Some user) g way key = begin_user_next (session_of g user) g user way key
+
+read_user_next : (o : Option Session) (g : GateState) (user position : ℕ) (way : UnderWay) (result : List ℕ)
+    → (read_user o g user position way result).0.next_user ≡ g.next_user
+read_user_next None g user position way result = refl
+read_user_next (Some s) g user position way result = refl
+
+end_next : (o : Option ℕ) (g : GateState) (position : ℕ) (way : UnderWay) (result : List ℕ)
+    → (end_read o g position way result).0.next_user ≡ g.next_user
+end_next None g position way result = refl
+end_next (Some user) g position way result = read_user_next (session_of g user) g user position way result
+
+module _ (came : List ℕ) where
+  out_next : (core : ℕ) (ticket : Option ℕ) (out : Out) (g : GateState) → (tell_out came core ticket out g).0.next_user ≡ g.next_user
+  out_next core ticket (outs.Send dest sent) g = refl
+  out_next core ticket (outs.Submitted request) g = refl
+  out_next core None (outs.Accepted client id result) g = refl
+  out_next core (Some t) (outs.Accepted client id result) g = owner_next (finite.get g.owners t) (without_owner g t) (slot_in came) t result
+  out_next core ticket (outs.Reading client id observer key) g =
+      begin_next (finite.get g.readers core) g (record { core = core; id = id; observer = observer }) key
+  out_next core ticket (outs.Answered client id observer position result) g =
+      end_next (finite.get g.readers core) (without_reader g core) position (record { core = core; id = id; observer = observer }) result
+  out_next core ticket _ g = refl
+
+  tell_next : (ls : List Labelled) (g : GateState) → (tell_all came ls g).0.next_user ≡ g.next_user
+  tell_next [] g = refl
+  tell_next (l ∷ ls) g = tell_next ls (tell came l g).0 ∙ out_next l.core l.ticket l.out g
 
 take_next : (g : GateState) (owner : Option ℕ) (op : List ℕ) → (take g owner op).0.next_user ≡ g.next_user
 take_next g owner op =
-    tell_next (desks.next g.desk.state (Take op)).1 (with_owner (with_desk g (desks.next g.desk.state (Take op)).0) g.desk.state.taken owner)
+    tell_next [] (desks.next g.desk.state (Take op)).1 (with_owner (with_desk g (desks.next g.desk.state (Take op)).0) g.desk.state.taken owner)
 
 comes_next : (g : GateState) (core : ℕ) (x : Given) → (comes g core x).0.next_user ≡ g.next_user
-comes_next g core x = tell_next (desks.next g.desk.state (Comes core x)).1 (with_desk g (desks.next g.desk.state (Comes core x)).0)
+comes_next g core x = tell_next (came_of x) (desks.next g.desk.state (Comes core x)).1 (with_desk g (desks.next g.desk.state (Comes core x)).0)
 
 op_next : (g : GateState) (user : ℕ) (s : Session) (op : List ℕ) (form : Form) (b : Bool)
     → (cond b (executed g user s op form) (replied g user s busy)).0.next_user ≡ g.next_user
 op_next g user s op form true =
-    take_next (with_session g user (record s { asked = Some (record { ticket = g.desk.state.taken; form = form }) })) (Some user) op
+    take_next (with_session g user (record s { asked = Some (flight.Op (record { ticket = g.desk.state.taken; form = form })) })) (Some user) op
 op_next g user s op form false = refl
+
+read_asked_next : (g : GateState) (user : ℕ) (s : Session) (key : List ℕ) (b : Bool)
+    → (cond b (read_asked g user s key) (replied g user s no_observers)).0.next_user ≡ g.next_user
+read_asked_next g user s key true = refl
+read_asked_next g user s key false = refl
 
 demand_next : (g : GateState) (user : ℕ) (s : Session) (action : Action) → (demanded g user s action).0.next_user ≡ g.next_user
 demand_next g user s (table.Execute op form) = op_next g user s op form (has_room g.desk.state)
+demand_next g user s (table.ReadAt key) = read_asked_next g user s key (nat_lt 0 g.observers)
 demand_next g user s (table.Answer bytes) = refl
 demand_next g user s (table.End bytes) = refl
 
@@ -72,7 +107,7 @@ read_next g user s (Ok p) = demand_next g user (record s { waiting = p.1 }) (ask
 read_next g user s (Err More) = refl
 read_next g user s (Err (Wrong fault)) = refl
 
-session_next : (g : GateState) (user : ℕ) (s : Session) (o : Option Asked) → (read_session g user s o).0.next_user ≡ g.next_user
+session_next : (g : GateState) (user : ℕ) (s : Session) (o : Option InFlight) → (read_session g user s o).0.next_user ≡ g.next_user
 session_next g user s None = read_next g user s (read_request s.waiting)
 session_next g user s (Some a) = refl
 
@@ -80,9 +115,10 @@ reads_next : (g : GateState) (user : ℕ) (o : Option Session) → (read_of o g 
 reads_next g user None = refl
 reads_next g user (Some s) = session_next g user s s.asked
 
-leave_next : (g : GateState) (a : Option Asked) → (left_by a g).next_user ≡ g.next_user
+leave_next : (g : GateState) (a : Option InFlight) → (left_by a g).next_user ≡ g.next_user
 leave_next g None = refl
-leave_next g (Some a) = refl
+leave_next g (Some (flight.Op a)) = refl
+leave_next g (Some (flight.Read r)) = refl
 
 left_next : (g : GateState) (user : ℕ) (o : Option Session) → (left_of o g user).0.next_user ≡ g.next_user
 left_next g user None = refl
@@ -106,6 +142,26 @@ admitted_next : (g : GateState) (user : ℕ) (b : Bool)
     → (cond b (g, Reply user too_many ∷ Close user ∷ []) (quiet (with_session g user fresh))).0.next_user ≡ g.next_user
 admitted_next g user true = refl
 admitted_next g user false = refl
+
+key_next : (g : GateState) (key : Option (List ℕ)) (core observer user : ℕ) → (ask_for key g core observer user).0.next_user ≡ g.next_user
+key_next g None core observer user = refl
+key_next g (Some key) core observer user = comes_next (with_reader g core user) core (given.Read observer key)
+
+ask_read_next : (g : GateState) (o : Option ℕ) (core observer user : ℕ) → (ask_free o g core observer user).0.next_user ≡ g.next_user
+ask_read_next g None core observer user = key_next g (key_to_ask (session_of g user)) core observer user
+ask_read_next g (Some other) core observer user = refl
+
+reassigned_next : (b : Bool) (g : GateState) (user : ℕ) (s : Session) → (taken_if b g user s).0.next_user ≡ g.next_user
+reassigned_next true g user s = refl
+reassigned_next false g user s = refl
+
+reassign_user_next : (o : Option Session) (g : GateState) (core user : ℕ) → (reassign_user o g core user).0.next_user ≡ g.next_user
+reassign_user_next None g core user = refl
+reassign_user_next (Some s) g core user = reassigned_next (reads_at s.asked core) g user s
+
+reassign_next : (o : Option ℕ) (g : GateState) (core : ℕ) → (reassign_reader o g core).0.next_user ≡ g.next_user
+reassign_next None g core = refl
+reassign_next (Some user) g core = reassign_user_next (session_of g user) g core user
 
 -- one that is admitted is passed, and so are all below it
 pub admitted_passes : (g : GateState) (other : ℕ) → (admitted (record g { next_user = other + 1 }) other).0.next_user ≡ other + 1
@@ -132,6 +188,9 @@ module _ (user : ℕ) where
       stays g (sent_to (session_of g other) g other bytes).0 (sent_next g other (session_of g other) bytes) old
   passed_step g (events.User (users.Left other)) old = stays g (left_of (session_of g other) g other).0 (left_next g other (session_of g other)) old
   passed_step g (events.Read other) old = stays g (read_of (session_of g other) g other).0 (reads_next g other (session_of g other)) old
+  passed_step g (events.Ask core observer other) old =
+      stays g (ask_read g core observer other).0 (ask_read_next g (finite.get g.readers core) core observer other) old
+  passed_step g (events.Reassign core) old = stays g (reassign g core).0 (reassign_next (finite.get g.readers core) g core) old
   passed_step g events.Idle old = stays g (next g events.Idle).0 (ask_next g (has_room g.desk.state)) old
 
   -- who connects now was not there before

@@ -1,13 +1,14 @@
 -- Each row of the step table keeps what holds of a user.
 use Rattle.std.proofs.Common.{◌≡◌, ℕ, ◌+◌, ◌-◌, ◌^◌, ◌≤◌, length, Bool, true, false, cond, List, [], ◌∷◌, ◌++◌, Option, Some, None, refl, sym, ap, subst, ◌∙◌, inl, inr, arith}
 use Rattle.std.proofs.Common.{append-nil, true≢false}
-use Rattle.std.specs.Prelude.{◌==◌, ◌&&◌, nat_le, nat_lt, slice_get, Ok, Err}
+use Rattle.std.specs.Prelude.{◌==◌, ◌&&◌, map, nat_le, nat_lt, slice_get, Ok, Err}
 use Rattle.std.specs.FinMap as finite
 use Rattle.std.proofs.lemmas.Bool.{eq-eqb, ne_eqb, cases_eq, cases_lt, le-leb, leb-true, lt-leb, and_cases, and_left, and_parts, and_right}
+use Rattle.nop_types.specs.Given as given
 use Rattle.nop_types.specs.Given.{Given, Packet, Ticked}
 use Rattle.nop_types.specs.declared.input.Tick.TheVariants as ticks
 use Rattle.nop_types.specs.Lists.{Has}
-use Rattle.lemmas.proofs.Members.{Has-append_left, Has-append_right}
+use Rattle.lemmas.proofs.Members.{Has-append_left, Has-append_right, Has-cases, Has-first, Has-none, Has-rest}
 use Rattle.lemmas.proofs.Places.{slice_get-append_at}
 use Rattle.resp.proofs.RequestLemmas.{read_begins}
 use Rattle.resp.specs.Reading.{Read, read_request}
@@ -23,65 +24,78 @@ use Rattle.desk.specs.declared.desk_state.DeskState.{DeskState}
 use Rattle.desk.specs.declared.submitter.Labelled.{Labelled}
 use Rattle.users.specs.declared.event.UserEvent.TheVariants as users
 use Rattle.gate_core.specs.declared.act.Act.{Act}
-use Rattle.gate_core.specs.declared.act.Act.TheVariants.{Reply, Close}
+use Rattle.gate_core.specs.declared.act.Act.TheVariants.{Reply, Close, Waits}
 use Rattle.gate_core.specs.declared.act.Event.{Event}
 use Rattle.gate_core.specs.declared.act.Event.TheVariants as events
 use Rattle.gate_core.specs.declared.gate_state.GateState.{GateState}
-use Rattle.gate_core.specs.declared.session.Asked.{Asked}
+use Rattle.gate_core.specs.declared.session.InFlight.{InFlight}
+use Rattle.gate_core.specs.declared.session.InFlight.TheVariants as flight
 use Rattle.gate_core.specs.declared.session.Session.{Session}
 use Rattle.gate_core.specs.declared.limits.TheConstants.{MAX_USERS, MAX_WAITING_BYTES}
-use Rattle.gate_core.specs.Gates.{admitted, busy, fresh, comes, demanded, ended, executed, idle_op, is_new, left_by, left_of, next, no_request, opened, quiet, read_as, read_of, read_session, replied, sent_to, session_of, take, too_many, too_much, with_desk, with_owner, with_session, without_session}
-use Rattle.gate_core.specs.Runs.{AreReplied, Exchange, IsEnd, IsReplied, IsServed, Taken, Told, Takes, Inputs, Nothing, bytes_if, bytes_in, desk_events, leave_if, replies_of, replies_to, requests_of, takes, takes_if, told_by_demand, told_by_left, told_by_read, told_by_sent, told_by_session, told_in, told_leave}
+use Rattle.gate_core.specs.Gates.{admitted, ask_for, ask_free, ask_read, busy, came_of, fresh, comes, demanded, ended, executed, idle_op, is_new, key_to_ask, left_by, left_of, next, no_observers, no_request, opened, quiet, read_as, read_asked, reads_at, reassign, reassign_reader, reassign_user, read_of, read_session, replied, sent_to, session_of, slot_in, take, taken_if, too_many, too_much, unread, with_desk, with_owner, with_reader, with_session, without_session}
+use Rattle.gate_core.specs.Runs.{AreReplied, Exchange, Heard, IsEnd, IsReplied, IsServed, Taken, Told, Takes, Inputs, Nothing, bytes_if, bytes_in, heard_by, hears, leave_if, replies_of, replies_to, requests_of, takes, takes_if, told_by_ask, told_by_demand, told_by_key, told_by_left, told_by_read, told_by_sent, told_by_session, told_in, told_leave}
 use Rattle.gate_core.proofs.Entries.{gone_elsewhere, gone_here, put_elsewhere, put_here}
-use Rattle.gate_core.proofs.Serving.{Fits, IsInside, IsServing, Rests, each_more, fits_more, own_reply, served_bytes, served_end, served_more, served_push, serving_bytes, serving_more, serving_push}
+use Rattle.gate_core.proofs.Serving.{Fits, ends_of, greatest, max_none, serving_unread, IsInside, IsServing, Rests, each_more, fits_more, own_reply, served_bytes, served_end, served_more, served_push, serving_bytes, serving_more, serving_push}
 use Rattle.gate_core.proofs.Answering.{inside_quiet, inside_same, other_reply, tell_all_keeps}
 
+has_map : {A B : Type 0} (f : A → B) (xs : List A) (x : A) → Has xs x → Has (map f xs) (f x)
+has_map f [] x h = absurd (Has-none x h)
+has_map f (y ∷ ys) x h = elim (Has-cases x y ys h) [
+  | inl e ↦ Has-first (f x) (f y) (map f ys) (ap f e)
+  | inr k ↦ Has-rest (f x) (f y) (map f ys) (has_map f ys x k)
+]
+
 -- what the desk tells in a step
-abbrev pub tells : GateState → Told → List Labelled
-tells g t = runs.gave g.desk.state (desk_events t)
+abbrev pub tells : (sent : ℕ) → GateState → Told → List Heard
+tells sent g t = heard_by g.desk.state t sent
 
 module _ (user : ℕ) where
-  abbrev pub Keeps : (ops : List Taken) (told : List Labelled) (bytes : List ℕ) (replies : List (List ℕ)) → (GateState × List Act) → Type 0
+  abbrev pub Keeps : (ops : List Taken) (told : List Heard) (bytes : List ℕ) (replies : List (List ℕ)) → (GateState × List Act) → Type 0
   Keeps ops told bytes replies p = IsInside ops told user bytes (replies ++ replies_to user p.1) p.0
 
   -- ---- what the desk told is passed on
 
-  module _ (ops : List Taken) (told : List Labelled) (bytes : List ℕ) (replies : List (List ℕ)) where
-    told_now : (d : DeskState) (e : desks.Event) (l : Labelled) → Has (desks.next d e).1 l → Has (told ++ runs.gave d (e ∷ [])) l
-    told_now d e l h = Has-append_right told (runs.gave d (e ∷ [])) l (Has-append_left (desks.next d e).1 [] l h)
+  module _ (ops : List Taken) (told : List Heard) (bytes : List ℕ) (replies : List (List ℕ)) where
+    told_now : (slot : ℕ) (d : DeskState) (e : desks.Event) (l : Labelled) → Has (desks.next d e).1 l
+        → Has (told ++ hears slot (length bytes) (runs.gave d (e ∷ []))) (record { told = l; slot = slot; sent = length bytes })
+    told_now slot d e l h =
+        let k : Has (runs.gave d (e ∷ [])) l = Has-append_left (desks.next d e).1 [] l h in
+        Has-append_right told (hears slot (length bytes) (runs.gave d (e ∷ []))) (record { told = l; slot = slot; sent = length bytes })
+        (has_map (λ (m : Labelled). record { told = m; slot = slot; sent = length bytes }) (runs.gave d (e ∷ [])) l k)
 
     -- an input of a core
-    pub comes_keeps : (g : GateState) (core : ℕ) (x : Given) → IsInside ops (told ++ tells g (Inputs core x)) user bytes replies g
-        → Keeps ops (told ++ tells g (Inputs core x)) bytes replies (comes g core x)
+    pub comes_keeps : (g : GateState) (core : ℕ) (x : Given) → IsInside ops (told ++ tells (length bytes) g (Inputs core x)) user bytes replies g
+        → Keeps ops (told ++ tells (length bytes) g (Inputs core x)) bytes replies (comes g core x)
     comes_keeps g core x h =
         let d = (desks.next g.desk.state (Comes core x)).0 in
-        tell_all_keeps ops (told ++ tells g (Inputs core x)) user bytes (desks.next g.desk.state (Comes core x)).1 (with_desk g d) replies
-        (told_now g.desk.state (Comes core x))
-        (inside_same ops (told ++ tells g (Inputs core x)) user bytes replies g (with_desk g d) refl refl h)
+        tell_all_keeps ops (told ++ tells (length bytes) g (Inputs core x)) user bytes (came_of x) (desks.next g.desk.state (Comes core x)).1 (with_desk g d) replies
+        (told_now (slot_in (came_of x)) g.desk.state (Comes core x))
+        (inside_same ops (told ++ tells (length bytes) g (Inputs core x)) user bytes replies g (with_desk g d) refl refl h)
 
     -- an op that the desk takes
-    pub take_keeps : (g : GateState) (owner : Option ℕ) (op : List ℕ)
-        → IsInside ops (told ++ runs.gave g.desk.state (Take op ∷ [])) user bytes replies g
-        → Keeps ops (told ++ runs.gave g.desk.state (Take op ∷ [])) bytes replies (take g owner op)
-    take_keeps g owner op h =
-        let d = (desks.next g.desk.state (Take op)).0 in
-        let now = told ++ runs.gave g.desk.state (Take op ∷ []) in
-        tell_all_keeps ops now user bytes (desks.next g.desk.state (Take op)).1 (with_owner (with_desk g d) g.desk.state.taken owner) replies
-        (told_now g.desk.state (Take op))
+    pub take_keeps : (g : GateState) (owner : Option ℕ) (t : Taken) → IsInside ops (told ++ tells (length bytes) g (Takes t)) user bytes replies g
+        → Keeps ops (told ++ tells (length bytes) g (Takes t)) bytes replies (take g owner t.op)
+    take_keeps g owner t h =
+        let d = (desks.next g.desk.state (Take t.op)).0 in
+        let now = told ++ tells (length bytes) g (Takes t) in
+        tell_all_keeps ops now user bytes [] (desks.next g.desk.state (Take t.op)).1 (with_owner (with_desk g d) g.desk.state.taken owner) replies
+        (told_now (slot_in []) g.desk.state (Take t.op))
         (inside_same ops now user bytes replies g (with_owner (with_desk g d) g.desk.state.taken owner) refl refl h)
 
   -- ---- one that leaves, or is ended
 
-  module _ (ops : List Taken) (told : List Labelled) (bytes : List ℕ) (replies : List (List ℕ)) where
-    left_session : (a : Option Asked) (g : GateState) (v : ℕ) → session_of (left_by a g) v ≡ session_of g v
+  module _ (ops : List Taken) (told : List Heard) (bytes : List ℕ) (replies : List (List ℕ)) where
+    left_session : (a : Option InFlight) (g : GateState) (v : ℕ) → session_of (left_by a g) v ≡ session_of g v
     left_session None g v = refl
-    left_session (Some a) g v = refl
+    left_session (Some (flight.Op a)) g v = refl
+    left_session (Some (flight.Read r)) g v = refl
 
-    left_new : (a : Option Asked) (g : GateState) (v : ℕ) → is_new (left_by a g) v ≡ is_new g v
+    left_new : (a : Option InFlight) (g : GateState) (v : ℕ) → is_new (left_by a g) v ≡ is_new g v
     left_new None g v = refl
-    left_new (Some a) g v = refl
+    left_new (Some (flight.Op a)) g v = refl
+    left_new (Some (flight.Read r)) g v = refl
 
-    pub left_inside : (a : Option Asked) (g : GateState) → IsInside ops told user bytes replies g → IsInside ops told user bytes replies (left_by a g)
+    pub left_inside : (a : Option InFlight) (g : GateState) → IsInside ops told user bytes replies g → IsInside ops told user bytes replies (left_by a g)
     left_inside a g h = inside_same ops told user bytes replies g (left_by a g) (left_session a g user) (left_new a g user) h
 
     -- another one is replied to, and its session changes
@@ -114,27 +128,37 @@ module _ (user : ℕ) where
 
   -- ---- requests
 
-  abbrev pub idle : (rest : List ℕ) → Session
-  idle rest = record { waiting = rest; asked = None }
+  abbrev pub idle : (seen : ℕ) → (rest : List ℕ) → Session
+  idle seen rest = record { waiting = rest; asked = None; seen = seen }
 
-  abbrev pub open_session : GateState → (rest : List ℕ) → Form → Session
-  open_session g rest form = record { waiting = rest; asked = Some (record { ticket = g.desk.state.taken; form = form }) }
+  abbrev pub open_session : GateState → (seen : ℕ) → (rest : List ℕ) → Form → Session
+  open_session g seen rest form =
+      record { waiting = rest; asked = Some (flight.Op (record { ticket = g.desk.state.taken; form = form })); seen = seen }
 
+  abbrev pub read_session_of : (seen : ℕ) → (rest key : List ℕ) → Session
+  read_session_of seen rest key =
+      record { waiting = rest; asked = Some (flight.Read (record { key = key; under_way = None })); seen = seen }
+
+  -- what is replied without a result
   abbrev pub exchange : (arguments : List (List ℕ)) → (reply : List ℕ) → Exchange
-  exchange arguments reply = record { arguments = arguments; ticket = None; reply = reply }
+  exchange arguments reply = record { arguments = arguments; ticket = None; slot = 0; reply = reply }
 
-  module _ (ops : List Taken) (told : List Labelled) (bytes : List ℕ) (replies : List (List ℕ)) (g : GateState) (known : is_new g user ≡ false)
-      (xs : List Exchange) (arguments : List (List ℕ)) (rest : List ℕ) (each : AreReplied ops told user xs)
+  module _ (ops : List Taken) (told : List Heard) (bytes : List ℕ) (replies : List (List ℕ)) (g : GateState) (known : is_new g user ≡ false)
+      (xs : List Exchange) (arguments : List (List ℕ)) (rest : List ℕ) (seen : ℕ) (each : AreReplied ops told user 0 0 xs) (seen_is : seen ≡ greatest 0 xs)
       (bytes_are : bytes ≡ requests_of xs ++ (spelled arguments ++ rest)) (replies_are : replies ≡ replies_of xs) where
     -- it is replied to at once
-    at_once : (reply : List ℕ) → IsReplied ops told user (asked arguments) None reply
-        → Keeps ops told bytes replies (replied g user (idle rest) reply)
-    at_once reply is =
-        subst (λ (rs : List (List ℕ)). IsInside ops told user bytes (replies ++ rs) (with_session g user (idle rest))) (sym (own_reply user reply))
-        (here ops told bytes (replies ++ reply ∷ []) g (idle rest) known
-        (serving_push ops told user xs (exchange arguments reply) bytes rest replies each is bytes_are replies_are))
+    abbrev pub end_here : ℕ
+    end_here = ends_of 0 xs + length (spelled arguments)
 
-    at_end : (reply : List ℕ) → IsReplied ops told user (asked arguments) None reply → Keeps ops told bytes replies (ended g user reply)
+    at_once : (reply : List ℕ) → IsReplied ops told user (greatest 0 xs) end_here (asked arguments) None 0 reply
+        → Keeps ops told bytes replies (replied g user (idle seen rest) reply)
+    at_once reply is =
+        subst (λ (rs : List (List ℕ)). IsInside ops told user bytes (replies ++ rs) (with_session g user (idle seen rest))) (sym (own_reply user reply))
+        (here ops told bytes (replies ++ reply ∷ []) g (idle seen rest) known
+        (serving_push ops told user xs (exchange arguments reply) bytes rest replies each is bytes_are replies_are seen
+        (seen_is ∙ max_none (greatest 0 xs))))
+
+    at_end : (reply : List ℕ) → IsReplied ops told user (greatest 0 xs) end_here (asked arguments) None 0 reply → Keeps ops told bytes replies (ended g user reply)
     at_end reply is =
         subst (λ (rs : List (List ℕ)). IsInside ops told user bytes (replies ++ rs) (without_session g user)) (sym (end_replies reply))
         (gone ops told bytes (replies ++ reply ∷ []) g known
@@ -143,46 +167,79 @@ module _ (user : ℕ) where
     -- its op is in flight
     at_op : (op : List ℕ) (form : Form) → asked arguments ≡ table.Execute op form
         → slice_get ops g.desk.state.taken ≡ Some (record { owner = Some user; op = op })
-        → IsInside ops told user bytes replies (with_session g user (open_session g rest form))
-    at_op op form asks taken = here ops told bytes replies g (open_session g rest form) known (record {
+        → IsInside ops told user bytes replies (with_session g user (open_session g seen rest form))
+    at_op op form asks taken = here ops told bytes replies g (open_session g seen rest form) known (record {
       exchanges = xs;
       each = each;
       replies_are = replies_are;
+      seen = seen_is;
       rests = record { arguments = arguments; op = op; asks = asks; taken = taken; bytes_are = bytes_are };
     })
 
-  module _ (ops : List Taken) (told : List Labelled) (bytes : List ℕ) (replies : List (List ℕ)) (g : GateState) (known : is_new g user ≡ false)
+    -- its read waits for a core
+    at_read : (key : List ℕ) → asked arguments ≡ table.ReadAt key → Keeps ops told bytes replies (read_asked g user (idle seen rest) key)
+    at_read key asks =
+        let s : Session = read_session_of seen rest key in
+        inside_quiet ops told user bytes replies [] (with_session g user s) refl
+        (here ops told bytes replies g s known (record {
+          exchanges = xs;
+          each = each;
+          replies_are = replies_are;
+          seen = seen_is;
+          rests = record { arguments = arguments; asks = asks; way = tt; bytes_are = bytes_are };
+        }))
+
+  module _ (ops : List Taken) (told : List Heard) (bytes : List ℕ) (replies : List (List ℕ)) (g : GateState) (known : is_new g user ≡ false)
       (counts : g.desk.state.taken ≡ length ops)
-      (xs : List Exchange) (arguments : List (List ℕ)) (rest : List ℕ) (each : AreReplied ops told user xs)
+      (xs : List Exchange) (arguments : List (List ℕ)) (rest : List ℕ) (seen : ℕ) (each : AreReplied ops told user 0 0 xs) (seen_is : seen ≡ greatest 0 xs)
       (bytes_are : bytes ≡ requests_of xs ++ (spelled arguments ++ rest)) (replies_are : replies ≡ replies_of xs) where
     abbrev pub Done : Told → (GateState × List Act) → Type 0
-    Done t p = Keeps (ops ++ takes t) (told ++ tells g t) bytes replies p
+    Done t p = Keeps (ops ++ takes t) (told ++ tells (length bytes) g t) bytes replies p
 
-    each_then : (t : Told) → AreReplied (ops ++ takes t) (told ++ tells g t) user xs
-    each_then t = each_more ops (takes t) told (tells g t) user xs each
+    each_then : (t : Told) → AreReplied (ops ++ takes t) (told ++ tells (length bytes) g t) user 0 0 xs
+    each_then t = each_more ops (takes t) told (tells (length bytes) g t) user 0 0 xs each
+
+    -- a reply without a result
+    told_reply : (action : Action) (reply : List ℕ) → asked arguments ≡ action
+        → IsReplied (ops ++ []) (told ++ []) user (greatest 0 xs) (ends_of 0 xs + length (spelled arguments)) action None 0 reply
+        → IsReplied (ops ++ []) (told ++ []) user (greatest 0 xs) (ends_of 0 xs + length (spelled arguments)) (asked arguments) None 0 reply
+    told_reply action reply is h =
+        subst (λ (c : Action). IsReplied (ops ++ []) (told ++ []) user (greatest 0 xs) (ends_of 0 xs + length (spelled arguments)) c None 0 reply)
+        (sym is) h
+
+    replies_now : (reply : List ℕ)
+        → IsReplied (ops ++ []) (told ++ []) user (greatest 0 xs) (ends_of 0 xs + length (spelled arguments)) (asked arguments) None 0 reply
+        → Done Nothing (replied g user (idle seen rest) reply)
+    replies_now reply is =
+        at_once (ops ++ []) (told ++ []) bytes replies g known xs arguments rest seen (each_then Nothing) seen_is bytes_are replies_are reply is
 
     op_keeps : (op : List ℕ) (form : Form) → asked arguments ≡ table.Execute op form → (b : Bool)
-        → Done (takes_if b (record { owner = Some user; op = op })) (cond b (executed g user (idle rest) op form) (replied g user (idle rest) busy))
+        → Done (takes_if b (record { owner = Some user; op = op }))
+        (cond b (executed g user (idle seen rest) op form) (replied g user (idle seen rest) busy))
     op_keeps op form asks true =
         let t : Taken = record { owner = Some user; op = op } in
         let at : slice_get (ops ++ t ∷ []) g.desk.state.taken ≡ Some t = ap (slice_get (ops ++ t ∷ [])) counts ∙ slice_get-append_at ops t [] in
-        take_keeps (ops ++ t ∷ []) told bytes replies (with_session g user (open_session g rest form)) (Some user) op
-        (at_op (ops ++ t ∷ []) (told ++ tells g (Takes t)) bytes replies g known xs arguments rest (each_then (Takes t)) bytes_are replies_are op form asks at)
-    op_keeps op form asks false =
-        at_once (ops ++ []) (told ++ []) bytes replies g known xs arguments rest (each_then Nothing) bytes_are replies_are busy
-        (subst (λ (c : Action). IsReplied (ops ++ []) (told ++ []) user c None busy) (sym asks) refl)
+        take_keeps (ops ++ t ∷ []) told bytes replies (with_session g user (open_session g seen rest form)) (Some user) t
+        (at_op (ops ++ t ∷ []) (told ++ tells (length bytes) g (Takes t)) bytes replies g known xs arguments rest seen (each_then (Takes t)) seen_is bytes_are replies_are
+        op form asks at)
+    op_keeps op form asks false = replies_now busy (told_reply (table.Execute op form) busy asks refl)
 
-    demand_keeps : (action : Action) → asked arguments ≡ action → Done (told_by_demand g user action) (demanded g user (idle rest) action)
+    read_at_keeps : (key : List ℕ) → asked arguments ≡ table.ReadAt key → (b : Bool)
+        → Done Nothing (cond b (read_asked g user (idle seen rest) key) (replied g user (idle seen rest) no_observers))
+    read_at_keeps key asks true =
+        at_read (ops ++ []) (told ++ []) bytes replies g known xs arguments rest seen (each_then Nothing) seen_is bytes_are replies_are key asks
+    read_at_keeps key asks false = replies_now no_observers (told_reply (table.ReadAt key) no_observers asks (inl refl))
+
+    demand_keeps : (action : Action) → asked arguments ≡ action → Done (told_by_demand g user action) (demanded g user (idle seen rest) action)
     demand_keeps (table.Execute op form) is = op_keeps op form is (has_room g.desk.state)
-    demand_keeps (table.Answer reply) is =
-        at_once (ops ++ []) (told ++ []) bytes replies g known xs arguments rest (each_then Nothing) bytes_are replies_are reply
-        (subst (λ (c : Action). IsReplied (ops ++ []) (told ++ []) user c None reply) (sym is) refl)
+    demand_keeps (table.ReadAt key) is = read_at_keeps key is (nat_lt 0 g.observers)
+    demand_keeps (table.Answer reply) is = replies_now reply (told_reply (table.Answer reply) reply is refl)
     demand_keeps (table.End reply) is =
-        at_end (ops ++ []) (told ++ []) bytes replies g known xs arguments rest (each_then Nothing) bytes_are replies_are reply
-        (subst (λ (c : Action). IsReplied (ops ++ []) (told ++ []) user c None reply) (sym is) refl)
+        at_end (ops ++ []) (told ++ []) bytes replies g known xs arguments rest seen (each_then Nothing) seen_is bytes_are replies_are reply
+        (told_reply (table.End reply) reply is refl)
 
   -- nothing is told to the desk, nor taken
-  no_more : (ops : List Taken) (told : List Labelled) (bytes : List ℕ) (replies : List (List ℕ)) (p : GateState × List Act)
+  no_more : (ops : List Taken) (told : List Heard) (bytes : List ℕ) (replies : List (List ℕ)) (p : GateState × List Act)
       → Keeps ops told bytes replies p → Keeps (ops ++ []) (told ++ []) bytes replies p
   no_more ops told bytes replies p h = record {
     known = h.known;
@@ -190,21 +247,21 @@ module _ (user : ℕ) where
   }
 
   -- the request of the user itself
-  module _ (ops : List Taken) (told : List Labelled) (bytes : List ℕ) (replies : List (List ℕ)) (g : GateState) (known : is_new g user ≡ false)
+  module _ (ops : List Taken) (told : List Heard) (bytes : List ℕ) (replies : List (List ℕ)) (g : GateState) (known : is_new g user ≡ false)
       (counts : g.desk.state.taken ≡ length ops) (s : Session) (at : session_of g user ≡ Some s)
       (inside : IsInside ops told user bytes replies g) (serving : IsServing ops told user bytes replies s) where
     as_read : (r : Read (List (List ℕ))) → read_request s.waiting ≡ r → s.asked ≡ None
-        → Keeps (ops ++ takes (told_by_read g user None r)) (told ++ tells g (told_by_read g user None r)) bytes replies (read_as g user s r)
+        → Keeps (ops ++ takes (told_by_read g user None r)) (told ++ tells (length bytes) g (told_by_read g user None r)) bytes replies (read_as g user s r)
     as_read (Ok p) is none =
         let xs = serving.exchanges in
         let begins : Begins s.waiting p.0 p.1 = read_begins s.waiting p.0 p.1 is in
         let e : bytes ≡ requests_of xs ++ s.waiting =
-        subst (λ (o : Option Asked). Rests ops user xs bytes s.waiting o) none serving.rests in
+        subst (λ (o : Option InFlight). Rests ops told user xs bytes s.waiting o) none serving.rests in
         let bytes_are : bytes ≡ requests_of xs ++ (spelled p.0 ++ p.1) = e ∙ ap (λ (w : List ℕ). requests_of xs ++ w) begins.is in
         let t = told_by_demand g user (asked p.0) in
-        subst (λ (o : Option Asked). Keeps (ops ++ takes t) (told ++ tells g t) bytes replies
-        (demanded g user (record { waiting = p.1; asked = o }) (asked p.0))) (sym none)
-        (demand_keeps ops told bytes replies g known counts xs p.0 p.1 serving.each bytes_are serving.replies_are (asked p.0) refl)
+        subst (λ (o : Option InFlight). Keeps (ops ++ takes t) (told ++ tells (length bytes) g t) bytes replies
+        (demanded g user (record { waiting = p.1; asked = o; seen = s.seen }) (asked p.0))) (sym none)
+        (demand_keeps ops told bytes replies g known counts xs p.0 p.1 s.seen serving.each serving.seen bytes_are serving.replies_are (asked p.0) refl)
     as_read (Err More) is none = no_more ops told bytes replies (g, []) (inside_quiet ops told user bytes replies [] g refl inside)
     as_read (Err (Wrong fault)) is none =
         no_more ops told bytes replies (ended g user no_request)
@@ -212,14 +269,14 @@ module _ (user : ℕ) where
         (gone ops told bytes (replies ++ no_request ∷ []) g known
         (served_end ops told user bytes replies s (no_request ∷ []) (inr (inl refl)) serving)))
 
-    by_asked : (o : Option Asked) → s.asked ≡ o
-        → Keeps (ops ++ takes (told_by_read g user o (read_request s.waiting))) (told ++ tells g (told_by_read g user o (read_request s.waiting)))
+    by_asked : (o : Option InFlight) → s.asked ≡ o
+        → Keeps (ops ++ takes (told_by_read g user o (read_request s.waiting))) (told ++ tells (length bytes) g (told_by_read g user o (read_request s.waiting)))
         bytes replies (read_session g user s o)
     by_asked None e = as_read (read_request s.waiting) refl e
     by_asked (Some a) e = no_more ops told bytes replies (g, []) (inside_quiet ops told user bytes replies [] g refl inside)
 
   -- another user is admitted, or refused
-  admitted_elsewhere : (ops : List Taken) (told : List Labelled) (bytes : List ℕ) (replies : List (List ℕ)) (g : GateState)
+  admitted_elsewhere : (ops : List Taken) (told : List Heard) (bytes : List ℕ) (replies : List (List ℕ)) (g : GateState)
       → IsInside ops told user bytes replies g → (other : ℕ) → (user ≡ other → ⊥) → (b : Bool)
       → Keeps ops told bytes replies (cond b (g, Reply other too_many ∷ Close other ∷ []) (quiet (with_session g other fresh)))
   admitted_elsewhere ops told bytes replies g h other d true =
@@ -237,15 +294,15 @@ module _ (user : ℕ) where
     ]
   ]
 
-  module _ (ops : List Taken) (told : List Labelled) (bytes : List ℕ) (replies : List (List ℕ)) (g : GateState)
+  module _ (ops : List Taken) (told : List Heard) (bytes : List ℕ) (replies : List (List ℕ)) (g : GateState)
       (counts : g.desk.state.taken ≡ length ops) (inside : IsInside ops told user bytes replies g) where
     abbrev pub Then : Told → (GateState × List Act) → Type 0
-    Then t p = Keeps (ops ++ takes t) (told ++ tells g t) bytes replies p
+    Then t p = Keeps (ops ++ takes t) (told ++ tells (length bytes) g t) bytes replies p
 
-    as_before : (t : Told) → IsInside (ops ++ takes t) (told ++ tells g t) user bytes replies g
+    as_before : (t : Told) → IsInside (ops ++ takes t) (told ++ tells (length bytes) g t) user bytes replies g
     as_before t = record {
       known = inside.known;
-      fits = fits_more ops (takes t) told (tells g t) user bytes replies (session_of g user) inside.fits;
+      fits = fits_more ops (takes t) told (tells (length bytes) g t) user bytes replies (session_of g user) inside.fits;
     }
 
     nothing : Then Nothing (quiet g)
@@ -263,7 +320,7 @@ module _ (user : ℕ) where
       none_end : (t : Told) (h : GateState) (bs : List ℕ) → session_of h user ≡ session_of g user → is_new h user ≡ is_new g user
           → Then t (h, Reply other bs ∷ Close other ∷ [])
       none_end t h bs same known =
-          others_session (ops ++ takes t) (told ++ tells g t) bytes replies g h other (Reply other bs ∷ Close other ∷ []) same known
+          others_session (ops ++ takes t) (told ++ tells (length bytes) g t) bytes replies g h other (Reply other bs ∷ Close other ∷ []) same known
           (other_end other bs d) (as_before t)
 
       none_reply : (s : Session) (bs : List ℕ) → Then Nothing (replied g other s bs)
@@ -275,18 +332,30 @@ module _ (user : ℕ) where
           → Then (takes_if b (record { owner = Some other; op = op })) (cond b (executed g other s op form) (replied g other s busy))
       op_elsewhere s op form true =
           let t : Taken = record { owner = Some other; op = op } in
-          let in_flight : Session = record s { asked = Some (record { ticket = g.desk.state.taken; form = form }) } in
-          take_keeps (ops ++ t ∷ []) told bytes replies (with_session g other in_flight) (Some other) op
-          (inside_same (ops ++ t ∷ []) (told ++ tells g (Takes t)) user bytes replies g (with_session g other in_flight)
+          let in_flight : Session = record s { asked = Some (flight.Op (record { ticket = g.desk.state.taken; form = form })) } in
+          take_keeps (ops ++ t ∷ []) told bytes replies (with_session g other in_flight) (Some other) t
+          (inside_same (ops ++ t ∷ []) (told ++ tells (length bytes) g (Takes t)) user bytes replies g (with_session g other in_flight)
           (put_elsewhere g.sessions other in_flight user d) refl (as_before (Takes t)))
       op_elsewhere s op form false = none_reply s busy
 
+      -- its session changes, and it is not replied to
+      none_waits : (s : Session) → Then Nothing (with_session g other s, Waits other false ∷ [])
+      none_waits s =
+          others_session (ops ++ []) (told ++ []) bytes replies g (with_session g other s) other (Waits other false ∷ [])
+          (put_elsewhere g.sessions other s user d) refl refl (as_before Nothing)
+
+      read_at_elsewhere : (s : Session) (key : List ℕ) (b : Bool)
+          → Then Nothing (cond b (read_asked g other s key) (replied g other s no_observers))
+      read_at_elsewhere s key true = none_waits (record s { asked = Some (flight.Read (record { key = key; under_way = None })) })
+      read_at_elsewhere s key false = none_reply s no_observers
+
       demand_elsewhere : (s : Session) (action : Action) → Then (told_by_demand g other action) (demanded g other s action)
       demand_elsewhere s (table.Execute op form) = op_elsewhere s op form (has_room g.desk.state)
+      demand_elsewhere s (table.ReadAt key) = read_at_elsewhere s key (nat_lt 0 g.observers)
       demand_elsewhere s (table.Answer bs) = none_reply s bs
       demand_elsewhere s (table.End bs) = none_end Nothing (without_session g other) bs (gone_elsewhere g.sessions other user d) refl
 
-      read_elsewhere : (s : Session) (o : Option Asked) (r : Read (List (List ℕ))) → read_request s.waiting ≡ r
+      read_elsewhere : (s : Session) (o : Option InFlight) (r : Read (List (List ℕ))) → read_request s.waiting ≡ r
           → Then (told_by_read g other o r) (read_session g other s o)
       read_elsewhere s None (Ok p) e =
           subst (λ (r : Read (List (List ℕ))). Then (told_by_demand g other (asked p.0)) (read_as g other s r)) (sym e)
@@ -313,12 +382,55 @@ module _ (user : ℕ) where
     ask_keeps : (b : Bool) → Then (takes_if b (record { owner = None; op = idle_op })) (cond b (take g None idle_op) (quiet g))
     ask_keeps true =
         let t : Taken = record { owner = None; op = idle_op } in
-        take_keeps (ops ++ t ∷ []) told bytes replies g None idle_op (as_before (Takes t))
+        take_keeps (ops ++ t ∷ []) told bytes replies g None t (as_before (Takes t))
     ask_keeps false = nothing
 
     input_keeps : (core : ℕ) (x : Given) → Then (Inputs core x) (comes g core x)
     input_keeps core x =
         comes_keeps (ops ++ []) told bytes replies g core x (as_before (Inputs core x))
+
+    -- ---- reads of observers
+
+    key_keeps : (key : Option (List ℕ)) (core observer other : ℕ) → Then (told_by_key key core observer) (ask_for key g core observer other)
+    key_keeps None core observer other = nothing
+    key_keeps (Some key) core observer other =
+        let x = given.Read observer key in
+        comes_keeps (ops ++ []) told bytes replies (with_reader g core other) core x
+        (inside_same (ops ++ []) (told ++ tells (length bytes) g (Inputs core x)) user bytes replies g (with_reader g core other) refl refl
+        (as_before (Inputs core x)))
+
+    ask_read_keeps : (o : Option ℕ) (core observer other : ℕ)
+        → Then (told_by_ask o (session_of g other) core observer) (ask_free o g core observer other)
+    ask_read_keeps None core observer other = key_keeps (key_to_ask (session_of g other)) core observer other
+    ask_read_keeps (Some reader) core observer other = nothing
+
+    own_unread : (s : Session) → session_of g user ≡ Some s → (b : Bool) → Then Nothing (taken_if b g user s)
+    own_unread s e true =
+        let serving : IsServing ops told user bytes replies s = subst (λ (o : Option Session). Fits ops told user bytes replies o) e inside.fits in
+        let waits : Session = record s { asked = unread s.asked } in
+        no_more ops told bytes replies (taken_if true g user s)
+        (inside_quiet ops told user bytes replies [] (with_session g user waits) refl
+        (here ops told bytes replies g waits inside.known (serving_unread ops told user bytes replies s serving)))
+    own_unread s e false = nothing
+
+    own_reassigned : (core : ℕ) (o : Option Session) → session_of g user ≡ o → Then Nothing (reassign_user o g core user)
+    own_reassigned core None e = nothing
+    own_reassigned core (Some s) e = own_unread s e (reads_at s.asked core)
+
+    others_unread : (other : ℕ) → (user ≡ other → ⊥) → (s : Session) (b : Bool) → Then Nothing (taken_if b g other s)
+    others_unread other d s true = none_waits other d (record s { asked = unread s.asked })
+    others_unread other d s false = nothing
+
+    others_reassigned : (core other : ℕ) → (user ≡ other → ⊥) → (o : Option Session) → Then Nothing (reassign_user o g core other)
+    others_reassigned core other d None = nothing
+    others_reassigned core other d (Some s) = others_unread other d s (reads_at s.asked core)
+
+    reassign_keeps : (core : ℕ) (o : Option ℕ) → Then Nothing (reassign_reader o g core)
+    reassign_keeps core None = nothing
+    reassign_keeps core (Some other) = elim (cases_eq user other) [
+      | inl e ↦ subst (λ (v : ℕ). Then Nothing (reassign_user (session_of g v) g core v)) e (own_reassigned core (session_of g user) refl)
+      | inr d ↦ others_reassigned core other d (session_of g other)
+    ]
 
     -- ---- users come and go
 
@@ -342,22 +454,22 @@ module _ (user : ℕ) where
     -- ---- bytes of a user, and its leaving
 
     abbrev pub Sends : Told → (List ℕ) → (GateState × List Act) → Type 0
-    Sends t more p = Keeps (ops ++ takes t) (told ++ tells g t) (bytes ++ more) replies p
+    Sends t more p = Keeps (ops ++ takes t) (told ++ tells (length bytes) g t) (bytes ++ more) replies p
 
     with_bytes : (t : Told) (p : GateState × List Act) (none : List ℕ) → none ≡ [] → Then t p → Sends t none p
     with_bytes t p none e h =
-        subst (λ (bs : List ℕ). Keeps (ops ++ takes t) (told ++ tells g t) bs replies p) (sym (append-nil bytes) ∙ ap (λ (ns : List ℕ). bytes ++ ns) (sym e)) h
+        subst (λ (bs : List ℕ). Keeps (ops ++ takes t) (told ++ tells (length bytes) g t) bs replies p) (sym (append-nil bytes) ∙ ap (λ (ns : List ℕ). bytes ++ ns) (sym e)) h
 
     -- the user's session is over
     is_over : (s : Session) → session_of g user ≡ Some s → (t : Told) (end : List (List ℕ)) → IsEnd end → (more : List ℕ)
-        → IsInside (ops ++ takes t) (told ++ tells g t) user (bytes ++ more) (replies ++ end) (without_session (left_by s.asked g) user)
+        → IsInside (ops ++ takes t) (told ++ tells (length bytes) g t) user (bytes ++ more) (replies ++ end) (without_session (left_by s.asked g) user)
     is_over s e t end is more =
         let serving : IsServing ops told user bytes replies s = subst (λ (o : Option Session). Fits ops told user bytes replies o) e inside.fits in
-        let later = serving_more ops (takes t) told (tells g t) user bytes replies s serving in
-        gone (ops ++ takes t) (told ++ tells g t) (bytes ++ more) (replies ++ end) (left_by s.asked g)
+        let later = serving_more ops (takes t) told (tells (length bytes) g t) user bytes replies s serving in
+        gone (ops ++ takes t) (told ++ tells (length bytes) g t) (bytes ++ more) (replies ++ end) (left_by s.asked g)
         (left_new ops told bytes replies s.asked g user ∙ inside.known)
-        (served_bytes (ops ++ takes t) (told ++ tells g t) user bytes more (replies ++ end)
-        (served_end (ops ++ takes t) (told ++ tells g t) user bytes replies s end is later))
+        (served_bytes (ops ++ takes t) (told ++ tells (length bytes) g t) user bytes more (replies ++ end)
+        (served_end (ops ++ takes t) (told ++ tells (length bytes) g t) user bytes replies s end is later))
 
     own_sent : (o : Option Session) → session_of g user ≡ o → (more : List ℕ) → Sends (told_by_sent o more) more (sent_to o g user more)
     own_sent None e more =
@@ -372,7 +484,7 @@ module _ (user : ℕ) where
         by_room : (b : Bool) → Sends (leave_if b s.asked) more
             (cond b (ended (left_by s.asked g) user too_much) (quiet (with_session g user (record s { waiting = s.waiting ++ more }))))
         by_room true =
-            subst (λ (rs : List (List ℕ)). IsInside (ops ++ takes (told_leave s.asked)) (told ++ tells g (told_leave s.asked)) user (bytes ++ more) (replies ++ rs)
+            subst (λ (rs : List (List ℕ)). IsInside (ops ++ takes (told_leave s.asked)) (told ++ tells (length bytes) g (told_leave s.asked)) user (bytes ++ more) (replies ++ rs)
             (without_session (left_by s.asked g) user)) (sym (end_replies too_much))
             (is_over s e (told_leave s.asked) (too_much ∷ []) (inr (inr (inl refl))) more)
         by_room false =
@@ -408,14 +520,14 @@ module _ (user : ℕ) where
     own_left : (o : Option Session) → session_of g user ≡ o → Then (told_by_left o) (left_of o g user)
     own_left None e = nothing
     own_left (Some s) e =
-        subst (λ (bs : List ℕ). Keeps (ops ++ takes (told_leave s.asked)) (told ++ tells g (told_leave s.asked)) bs replies (left_of (Some s) g user))
+        subst (λ (bs : List ℕ). Keeps (ops ++ takes (told_leave s.asked)) (told ++ tells (length bytes) g (told_leave s.asked)) bs replies (left_of (Some s) g user))
         (append-nil bytes) (is_over s e (told_leave s.asked) [] (inl refl) [])
 
     others_left : (other : ℕ) → (user ≡ other → ⊥) → (o : Option Session) → Then (told_by_left o) (left_of o g other)
     others_left other d None = nothing
     others_left other d (Some s) =
         let h : GateState = without_session (left_by s.asked g) other in
-        others_session (ops ++ takes (told_leave s.asked)) (told ++ tells g (told_leave s.asked)) bytes replies g h other []
+        others_session (ops ++ takes (told_leave s.asked)) (told ++ tells (length bytes) g (told_leave s.asked)) bytes replies g h other []
         (gone_elsewhere (left_by s.asked g).sessions other user d ∙ left_session ops told bytes replies s.asked g user)
         (left_new ops told bytes replies s.asked g user) refl (as_before (told_leave s.asked))
 
@@ -435,5 +547,9 @@ module _ (user : ℕ) where
         with_bytes (told_by_left (session_of g other)) (left_of (session_of g other) g other) [] refl (left_keeps other)
     row_keeps (events.Read other) =
         with_bytes (told_by_session g other (session_of g other)) (read_of (session_of g other) g other) [] refl (read_keeps other)
+    row_keeps (events.Ask core observer other) =
+        with_bytes (told_in g (events.Ask core observer other)) (ask_read g core observer other) [] refl
+        (ask_read_keeps (finite.get g.readers core) core observer other)
+    row_keeps (events.Reassign core) = with_bytes Nothing (reassign g core) [] refl (reassign_keeps core (finite.get g.readers core))
     row_keeps events.Idle =
         with_bytes (told_in g events.Idle) (next g events.Idle) [] refl (ask_keeps (has_room g.desk.state))

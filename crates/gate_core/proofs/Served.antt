@@ -1,13 +1,11 @@
 -- What holds of a user over any events.
 use Rattle.std.proofs.Common.{◌≡◌, ℕ, ◌+◌, ◌-◌, ◌^◌, length, Bool, true, false, cond, List, [], ◌∷◌, ◌++◌, Option, Some, None, refl, sym, ap, subst, ◌∙◌, inl, inr, arith}
-use Rattle.std.proofs.Common.{append-nil, append_assoc}
+use Rattle.std.proofs.Common.{append-nil, append_assoc, length-append}
 use Rattle.std.specs.Prelude.{nat_le, nat_lt, ◌&&◌}
 use Rattle.std.specs.Ordering.{nat_cmp}
 use Rattle.std.specs.FinMap as finite
 use Rattle.std.proofs.lemmas.Bool.{lt-leb, and_left}
 use Rattle.nop_types.specs.Configuration.{Configuration}
-use Rattle.desk.specs.Runs as runs
-use Rattle.desk.specs.declared.submitter.Labelled.{Labelled}
 use Rattle.users.specs.declared.event.UserEvent.TheVariants as users
 use Rattle.gate_core.specs.declared.act.Act.TheVariants.{Reply, Close}
 use Rattle.gate_core.specs.declared.act.Event.{Event}
@@ -16,9 +14,9 @@ use Rattle.gate_core.specs.declared.gate_state.GateState.{GateState}
 use Rattle.gate_core.specs.declared.session.Session.{Session}
 use Rattle.gate_core.specs.declared.limits.TheConstants.{MAX_USERS}
 use Rattle.gate_core.specs.Gates.{admitted, fresh, is_new, next, opened, opening, quiet, session_of, too_many, with_session}
-use Rattle.gate_core.specs.Runs.{IsServed, Taken, after, bytes_in, bytes_of, desk_events, desk_told, gave, replies_to, taken, takes, opens, told_by_desk, told_in, IsNoOpeningIn, IsNoOpeningOf, IsServedFrom}
+use Rattle.gate_core.specs.Runs.{Heard, IsServed, Taken, after, bytes_in, bytes_of, gave, heard, heard_by, replies_to, taken, takes, opens, told_in, IsNoOpeningIn, IsNoOpeningOf, IsServedFrom}
 use Rattle.gate_core.proofs.Answering.{replies_append}
-use Rattle.gate_core.proofs.Desks.{counts_step, told_on}
+use Rattle.gate_core.proofs.Desks.{counts_step}
 use Rattle.gate_core.proofs.Entries.{put_here}
 use Rattle.gate_core.proofs.Rows.{row_keeps}
 use Rattle.gate_core.proofs.Serving.{Fits, IsInside, IsServing, own_reply, served_end}
@@ -26,16 +24,16 @@ use Rattle.gate_core.proofs.Numbers.{absent_after}
 use Rattle.gate_core.proofs.Silence.{IsNoOpening, row_silent}
 
 -- the same by other names
-moved : (user : ℕ) (ops ops' : List Taken) (told told' : List Labelled) (bytes bytes' : List ℕ) (replies replies' : List (List ℕ))
+moved : (user : ℕ) (ops ops' : List Taken) (told told' : List Heard) (bytes bytes' : List ℕ) (replies replies' : List (List ℕ))
     → ops ≡ ops' → told ≡ told' → bytes ≡ bytes' → replies ≡ replies' → IsServed ops told user bytes replies → IsServed ops' told' user bytes' replies'
 moved user ops ops' told told' bytes bytes' replies replies' o t b r h =
     subst (λ (os : List Taken). IsServed os told' user bytes' replies') o
-    (subst (λ (ts : List Labelled). IsServed ops ts user bytes' replies') t
+    (subst (λ (ts : List Heard). IsServed ops ts user bytes' replies') t
     (subst (λ (bs : List ℕ). IsServed ops told user bs replies') b
     (subst (λ (rs : List (List ℕ)). IsServed ops told user bytes rs) r h)))
 
 module _ (user : ℕ) where
-  fits_served : (ops : List Taken) (told : List Labelled) (bytes : List ℕ) (replies : List (List ℕ)) (o : Option Session)
+  fits_served : (ops : List Taken) (told : List Heard) (bytes : List ℕ) (replies : List (List ℕ)) (o : Option Session)
       → Fits ops told user bytes replies o → IsServed ops told user bytes replies
   fits_served ops told bytes replies None h = h
   fits_served ops told bytes replies (Some s) h =
@@ -43,9 +41,9 @@ module _ (user : ℕ) where
       (served_end ops told user bytes replies s [] (inl refl) h)
 
   -- from a state on
-  pub run_served : (es : List Event) (g : GateState) (ops : List Taken) (told : List Labelled) (bytes : List ℕ) (replies : List (List ℕ))
+  pub run_served : (es : List Event) (g : GateState) (ops : List Taken) (told : List Heard) (bytes : List ℕ) (replies : List (List ℕ))
       → g.desk.state.taken ≡ length ops → IsInside ops told user bytes replies g
-      → IsServed (ops ++ taken g es) (told ++ runs.gave g.desk.state (desk_told g es)) user (bytes ++ bytes_of user es)
+      → IsServed (ops ++ taken g es) (told ++ heard user (length bytes) g es) user (bytes ++ bytes_of user es)
       (replies ++ replies_to user (gave g es))
   run_served [] g ops told bytes replies counts h =
       moved user ops (ops ++ []) told (told ++ []) bytes (bytes ++ []) replies (replies ++ [])
@@ -53,20 +51,23 @@ module _ (user : ℕ) where
       (fits_served ops told bytes replies (session_of g user) h.fits)
   run_served (e ∷ es) g ops told bytes replies counts h =
       let g' = (next g e).0 in
-      let now = runs.gave g.desk.state (desk_events (told_in g e)) in
-      let later = runs.gave g'.desk.state (desk_told g' es) in
+      let now = heard_by g.desk.state (told_in g e) (length bytes) in
+      let more = bytes_in user e in
+      let later = heard user (length bytes + length more) g' es in
       let new_ops = takes (told_in g e) in
       moved user ((ops ++ new_ops) ++ taken g' es) (ops ++ taken g (e ∷ es))
-      ((told ++ now) ++ later) (told ++ runs.gave g.desk.state (desk_told g (e ∷ es)))
+      ((told ++ now) ++ later) (told ++ heard user (length bytes) g (e ∷ es))
       ((bytes ++ bytes_in user e) ++ bytes_of user es) (bytes ++ bytes_of user (e ∷ es))
       ((replies ++ replies_to user (next g e).1) ++ replies_to user (gave g' es)) (replies ++ replies_to user (gave g (e ∷ es)))
       (append_assoc ops new_ops (taken g' es))
-      (append_assoc told now later ∙ ap (λ (ls : List Labelled). told ++ ls) (sym (told_on g e es)))
+      (append_assoc told now later)
       (append_assoc bytes (bytes_in user e) (bytes_of user es))
       (append_assoc replies (replies_to user (next g e).1) (replies_to user (gave g' es))
       ∙ ap (λ (rs : List (List ℕ)). replies ++ rs) (sym (replies_append user (next g e).1 (gave g' es))))
-      (run_served es g' (ops ++ new_ops) (told ++ now) (bytes ++ bytes_in user e) (replies ++ replies_to user (next g e).1)
-      (counts_step g e ops counts) (row_keeps user ops told bytes replies g counts h e))
+      (subst (λ (n : ℕ). IsServed ((ops ++ new_ops) ++ taken g' es) ((told ++ now) ++ heard user n g' es) user ((bytes ++ more) ++ bytes_of user es)
+      ((replies ++ replies_to user (next g e).1) ++ replies_to user (gave g' es))) (length-append bytes more)
+      (run_served es g' (ops ++ new_ops) (told ++ now) (bytes ++ more) (replies ++ replies_to user (next g e).1)
+      (counts_step g e ops counts) (row_keeps user ops told bytes replies g counts h e)))
 
 -- ---- from the opening on
 
@@ -83,18 +84,7 @@ taken_append (e ∷ before) later g =
     ap (λ (os : List Taken). takes (told_in g e) ++ os) (taken_append before later (next g e).0)
     ∙ sym (append_assoc (takes (told_in g e)) (taken (next g e).0 before) (taken (after (next g e).0 before) later))
 
-pub told_append : (before later : List Event) (g : GateState)
-    → told_by_desk g (before ++ later) ≡ told_by_desk g before ++ told_by_desk (after g before) later
-told_append [] later g = refl
-told_append (e ∷ before) later g =
-    let g' = (next g e).0 in
-    let now = runs.gave g.desk.state (desk_events (told_in g e)) in
-    told_on g e (before ++ later)
-    ∙ ap (λ (ls : List Labelled). now ++ ls) (told_append before later g')
-    ∙ sym (append_assoc now (told_by_desk g' before) (told_by_desk (after g' before) later))
-    ∙ ap (λ (ls : List Labelled). ls ++ told_by_desk (after g' before) later) (sym (told_on g e before))
-
-module _ (user : ℕ) (ops : List Taken) (told : List Labelled) where
+module _ (user : ℕ) (ops : List Taken) (told : List Heard) where
   refused_served : IsServed ops told user [] (too_many ∷ [])
   refused_served = record {
     exchanges = [];
@@ -107,7 +97,7 @@ module _ (user : ℕ) (ops : List Taken) (told : List Labelled) where
   }
 
   fresh_serving : IsServing ops told user [] [] fresh
-  fresh_serving = record { exchanges = []; each = tt; replies_are = refl; rests = refl }
+  fresh_serving = record { exchanges = []; each = tt; replies_are = refl; seen = refl; rests = refl }
 
   first_inside : (g : GateState) → is_new g user ≡ false → session_of g user ≡ None → (b : Bool)
       → IsInside ops told user []
@@ -128,7 +118,7 @@ pub just_passed : (user : ℕ) → (nat_le (user + 1) user && nat_lt user (2 ^ 6
 just_passed user = and_left (nat_le (user + 1) user) (nat_lt user (2 ^ 64 - 1)) (lt-leb (user + 1) user (omega arith))
 
 -- from the event with which it connects
-opened_inside : (user : ℕ) (ops : List Taken) (told : List Labelled) (g : GateState) → is_new g user ≡ true → session_of g user ≡ None
+opened_inside : (user : ℕ) (ops : List Taken) (told : List Heard) (g : GateState) → is_new g user ≡ true → session_of g user ≡ None
     → IsInside ops told user [] (replies_to user (opened g user).1) (opened g user).0
 opened_inside user ops told g new none =
     subst (λ (b : Bool). IsInside ops told user [] (replies_to user (cond b (admitted (record g { next_user = user + 1 }) user) (quiet g)).1)
@@ -148,19 +138,18 @@ module _ (config : Configuration) (first count : ℕ) where
       let g0 = opening config first count in
       let g = after g0 before in
       let ops = taken g0 before in
-      let told = told_by_desk g0 before in
       let none = absent_after user before g0 (λ _. none_first user) new in
       let h = (opened g user).0 in
       let counts : g.desk.state.taken ≡ length ops = counts_after before g0 [] refl in
       let counted : h.desk.state.taken ≡ length ops =
       counts_step g (opens user) ops counts ∙ ap (λ (os : List Taken). length os) (append-nil ops) in
-      moved user (ops ++ taken h later) (taken g0 (before ++ opens user ∷ later)) (told ++ told_by_desk h later)
-      (told_by_desk g0 (before ++ opens user ∷ later)) (bytes_of user later) (bytes_of user later)
+      moved user (ops ++ taken h later) (taken g0 (before ++ opens user ∷ later)) (heard user 0 h later)
+      (heard user 0 g (opens user ∷ later)) (bytes_of user later) (bytes_of user later)
       (replies_to user (opened g user).1 ++ replies_to user (gave h later)) (replies_to user (gave g (opens user ∷ later)))
       (sym (taken_append before (opens user ∷ later) g0))
-      (sym (told_append before (opens user ∷ later) g0 ∙ ap (λ (ls : List Labelled). told ++ ls) (told_on g (opens user) later)))
+      refl
       refl (sym (replies_append user (opened g user).1 (gave h later)))
-      (run_served user later h ops told [] (replies_to user (opened g user).1) counted (opened_inside user ops told g new none))
+      (run_served user later h ops [] [] (replies_to user (opened g user).1) counted (opened_inside user ops [] g new none))
 
 -- who is not connected stays so until it connects
 no_opening_of : (user : ℕ) (g : GateState) (e : Event) → IsNoOpeningIn user e → IsNoOpening user g e

@@ -5,11 +5,13 @@ use Rattle.kv_resp.specs.Table as table
 use Rattle.kv_resp.specs.Table.{Action}
 use Rattle.kv_resp.specs.declared.demand.Form.{Form}
 use Rattle.desk.specs.Desks.{has_room}
-use Rattle.gate_core.specs.declared.act.Act.TheVariants.{Reply, Close}
+use Rattle.std.specs.Prelude.{nat_lt}
+use Rattle.gate_core.specs.declared.act.Act.TheVariants.{Reply, Close, Waits}
 use Rattle.gate_core.specs.declared.gate_state.GateState.{GateState}
-use Rattle.gate_core.specs.declared.session.Asked.{Asked}
+use Rattle.gate_core.specs.declared.session.InFlight.{InFlight}
+use Rattle.gate_core.specs.declared.session.InFlight.TheVariants as flight
 use Rattle.gate_core.specs.declared.session.Session.{Session}
-use Rattle.gate_core.specs.Gates.{busy, demanded, executed, left_by, replied, take, with_session, without_session}
+use Rattle.gate_core.specs.Gates.{busy, demanded, executed, left_by, no_observers, read_asked, replied, take, with_session, without_session}
 use Rattle.gate_core.proofs.Entries.{gone_here, gone_none, put_back}
 
 -- what is put back is put
@@ -25,17 +27,27 @@ op_taken : (g : GateState) (user : ℕ) (s : Session) (op : List ℕ) (form : Fo
     ≡ cond b (executed g user s op form) (replied g user s busy)
 op_taken g user s op form true =
     ap (λ (h : GateState). take h (Some user) op)
-    (back g user (record s { asked = Some (record { ticket = g.desk.state.taken; form = form }) }))
+    (back g user (record s { asked = Some (flight.Op (record { ticket = g.desk.state.taken; form = form })) }))
 op_taken g user s op form false = ap (λ (h : GateState). (h, Reply user busy ∷ [])) (back g user s)
+
+read_taken : (g : GateState) (user : ℕ) (s : Session) (key : List ℕ) (b : Bool)
+    → cond b (read_asked (without_session g user) user s key) (replied (without_session g user) user s no_observers)
+    ≡ cond b (read_asked g user s key) (replied g user s no_observers)
+read_taken g user s key true =
+    ap (λ (h : GateState). (h, Waits user false ∷ []))
+    (back g user (record s { asked = Some (flight.Read (record { key = key; under_way = None })) }))
+read_taken g user s key false = ap (λ (h : GateState). (h, Reply user no_observers ∷ [])) (back g user s)
 
 -- what a request asks for is done as if the session still stood in its table
 pub demanded_taken : (g : GateState) (user : ℕ) (s : Session) (action : Action)
     → demanded (without_session g user) user s action ≡ demanded g user s action
 demanded_taken g user s (table.Execute op form) = op_taken g user s op form (has_room g.desk.state)
+demanded_taken g user s (table.ReadAt key) = read_taken g user s key (nat_lt 0 g.observers)
 demanded_taken g user s (table.Answer reply) = ap (λ (h : GateState). (h, Reply user reply ∷ [])) (back g user s)
 demanded_taken g user s (table.End reply) = ap (λ (h : GateState). (h, Reply user reply ∷ Close user ∷ [])) (twice g user)
 
 -- its op is for nobody, whether it stands there or not
-pub left_taken : (a : Option Asked) (g : GateState) (user : ℕ) → left_by a (without_session g user) ≡ without_session (left_by a g) user
+pub left_taken : (a : Option InFlight) (g : GateState) (user : ℕ) → left_by a (without_session g user) ≡ without_session (left_by a g) user
 left_taken None g user = refl
-left_taken (Some a) g user = refl
+left_taken (Some (flight.Op a)) g user = refl
+left_taken (Some (flight.Read r)) g user = refl

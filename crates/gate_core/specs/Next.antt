@@ -2,11 +2,11 @@
 use Rattle.std.specs.Prelude.{ℕ, List, Option, Some, None, ⊤}
 use Rattle.resp.specs.Parsed.{Reads}
 use Rattle.resp.specs.declared.parsed.Parsed.{Parsed}
-use Rattle.gate_core.specs.declared.session.Asked.{Asked}
+use Rattle.gate_core.specs.declared.session.InFlight.{InFlight}
 use Rattle.gate_core.specs.declared.session.Session.{Session}
 
--- what its bytes begin with, where no op of it is in flight
-abbrev pub IsNextOf : Option Asked → (waiting : List ℕ) → Option Parsed → Type 0
+-- what its bytes begin with, where none of it is in flight
+abbrev pub IsNextOf : Option InFlight → (waiting : List ℕ) → Option Parsed → Type 0
 IsNextOf None waiting (Some parsed) = Reads waiting parsed
 IsNextOf None waiting None = ⊥
 IsNextOf (Some a) waiting (Some parsed) = ⊥

@@ -1,5 +1,6 @@
 -- Runs of a gateway over any events, and what is taken and replied in them.
-use Rattle.std.specs.Prelude.{◌≡◌, ◌⊎◌, ℕ, ◌+◌, length, Bool, true, false, ◌==◌, nat_lt, List, [], ◌∷◌, ◌++◌, map, Option, Some, None, Ok, Err, slice_get, ⊤}
+use Rattle.std.specs.Prelude.{◌≡◌, ◌⊎◌, ◌≤◌, ℕ, ◌+◌, max, length, Bool, true, false, ◌==◌, nat_lt, List, [], ◌∷◌, ◌++◌, map, Option, Some, None, Ok, Err, slice_get, ⊤}
+use Rattle.nop_types.specs.Given as given
 use Rattle.nop_types.specs.Given.{Given, Packet, Ticked}
 use Rattle.nop_types.specs.Lists.{Has}
 use Rattle.nop_types.specs.declared.input.Tick.TheVariants as ticks
@@ -10,9 +11,11 @@ use Rattle.kv_resp.specs.Results.{reply_to}
 use Rattle.kv_resp.specs.Table as table
 use Rattle.kv_resp.specs.Table.{Action, asked}
 use Rattle.kv_resp.specs.declared.demand.Form.{Form}
+use Rattle.kv_resp.specs.declared.demand.Form.TheVariants.{Value}
 use Rattle.desk.specs.Desks as desks
 use Rattle.desk.specs.Desks.{has_room, Take, Leave, Comes}
 use Rattle.desk.specs.Runs as runs
+use Rattle.desk.specs.declared.desk_state.DeskState.{DeskState}
 use Rattle.desk.specs.declared.submitter.Labelled.{Labelled}
 use Rattle.users.specs.declared.event.UserEvent.TheVariants as users
 use Rattle.gate_core.specs.declared.act.Act.{Act}
@@ -20,10 +23,12 @@ use Rattle.gate_core.specs.declared.act.Act.TheVariants.{Reply}
 use Rattle.gate_core.specs.declared.act.Event.{Event}
 use Rattle.gate_core.specs.declared.act.Event.TheVariants as events
 use Rattle.gate_core.specs.declared.gate_state.GateState.{GateState}
-use Rattle.gate_core.specs.declared.session.Asked.{Asked}
+use Rattle.gate_core.specs.declared.session.InFlight.{InFlight}
+use Rattle.gate_core.specs.declared.session.InFlight.TheVariants as flight
 use Rattle.gate_core.specs.declared.session.Session.{Session}
 use Rattle.gate_core.specs.declared.limits.TheConstants.{MAX_WAITING_BYTES}
-use Rattle.gate_core.specs.Gates.{busy, idle_op, next, no_request, session_of, too_many, too_much}
+use Rattle.std.specs.FinMap as finite
+use Rattle.gate_core.specs.Gates.{busy, came_of, idle_op, key_to_ask, next, no_observers, no_request, session_of, slot_in, too_many, too_much}
 
 -- the state after some events
 abbrev pub after : GateState → List Event → GateState
@@ -85,7 +90,7 @@ abbrev pub told_by_demand : GateState → (user : ℕ) → Action → Told
 told_by_demand g user (table.Execute op form) = takes_if (has_room g.desk.state) (record { owner = Some user; op = op })
 told_by_demand g user _ = Nothing
 
-abbrev pub told_by_read : GateState → (user : ℕ) → Option Asked → Read (List (List ℕ)) → Told
+abbrev pub told_by_read : GateState → (user : ℕ) → Option InFlight → Read (List (List ℕ)) → Told
 told_by_read g user None (Ok p) = told_by_demand g user (asked p.0)
 told_by_read g user None (Err stop) = Nothing
 told_by_read g user (Some a) r = Nothing
@@ -95,11 +100,11 @@ told_by_session g user None = Nothing
 told_by_session g user (Some s) = told_by_read g user s.asked (read_request s.waiting)
 
 -- the op in flight of who leaves is for nobody
-abbrev pub told_leave : Option Asked → Told
-told_leave None = Nothing
-told_leave (Some a) = Leaves a.ticket
+abbrev pub told_leave : Option InFlight → Told
+told_leave (Some (flight.Op a)) = Leaves a.ticket
+told_leave _ = Nothing
 
-abbrev pub leave_if : Bool → Option Asked → Told
+abbrev pub leave_if : Bool → Option InFlight → Told
 leave_if true a = told_leave a
 leave_if false a = Nothing
 
@@ -111,6 +116,15 @@ abbrev pub told_by_sent : Option Session → List ℕ → Told
 told_by_sent None bytes = Nothing
 told_by_sent (Some s) bytes = leave_if (nat_lt MAX_WAITING_BYTES (length s.waiting + length bytes)) s.asked
 
+abbrev pub told_by_key : Option (List ℕ) → (core observer : ℕ) → Told
+told_by_key None core observer = Nothing
+told_by_key (Some key) core observer = Inputs core (given.Read observer key)
+
+-- a read that no core has under way, by a core that has none
+abbrev pub told_by_ask : Option ℕ → Option Session → (core observer : ℕ) → Told
+told_by_ask None s core observer = told_by_key (key_to_ask s) core observer
+told_by_ask (Some other) s core observer = Nothing
+
 abbrev pub told_in : GateState → Event → Told
 told_in g (events.Datagram core bytes) = Inputs core (Packet bytes)
 told_in g (events.Retry core) = Inputs core (Ticked ticks.Retry)
@@ -118,6 +132,8 @@ told_in g (events.User (users.Sent user bytes)) = told_by_sent (session_of g use
 told_in g (events.User (users.Left user)) = told_by_left (session_of g user)
 told_in g (events.User (users.Opened user)) = Nothing
 told_in g (events.Read user) = told_by_session g user (session_of g user)
+told_in g (events.Ask core observer user) = told_by_ask (finite.get g.readers core) (session_of g user) core observer
+told_in g (events.Reassign core) = Nothing
 told_in g events.Idle = takes_if (has_room g.desk.state) (record { owner = None; op = idle_op })
 
 abbrev pub desk_events : Told → List desks.Event
@@ -140,40 +156,115 @@ abbrev pub taken : GateState → List Event → List Taken
 taken g [] = []
 taken g (e ∷ es) = takes (told_in g e) ++ taken (next g e).0 es
 
+-- What the desk tells in a step; the slot of the reply that came in it, 0 where none did; and how many bytes a user had sent before it.
+pub record Heard : Type 0 where
+  pub told : Labelled
+  pub slot : ℕ
+  pub sent : ℕ
+
+abbrev pub came_by : Told → List ℕ
+came_by (Inputs core x) = came_of x
+came_by _ = []
+
+abbrev pub hears : (slot sent : ℕ) → List Labelled → List Heard
+hears slot sent told = map (λ l. record { told = l; slot = slot; sent = sent }) told
+
+abbrev pub heard_by : DeskState → Told → (sent : ℕ) → List Heard
+heard_by d t sent = hears (slot_in (came_by t)) sent (runs.gave d (desk_events t))
+
+-- what the desk tells in a run, in order, where the user has sent so many bytes before
+abbrev pub heard : (user sent : ℕ) → GateState → List Event → List Heard
+heard user sent g [] = []
+heard user sent g (e ∷ es) =
+    heard_by g.desk.state (told_in g e) sent ++ heard user (sent + length (bytes_in user e)) (next g e).0 es
+
 -- ---- requests and their replies
 
--- a request of a user, the ticket of its op, if it has one, and the reply
+-- A request of a user, the ticket of its op, if it has one, and the reply; and where it is the form of a result, the slot of that, or the
+-- position of the state that it was read from.
 pub record Exchange : Type 0 where
   pub arguments : List (List ℕ)
   pub ticket : Option ℕ
+  pub slot : ℕ
   pub reply : List ℕ
 
--- the desk told that a core accepted this result for the ticket
-pub record IsResult (told : List Labelled) (ticket : ℕ) (result : List ℕ) : Type 0 where
+-- the desk told that a core accepted this result for the ticket, in a step in which a reply of this slot came
+pub record IsResult (heard : List Heard) (ticket slot : ℕ) (result : List ℕ) : Type 0 where
   pub core : ℕ
   pub client : ℕ
   pub id : ℕ
-  pub has : Has told (record { core = core; ticket = Some ticket; out = outs.Accepted client id result })
+  pub sent : ℕ
+  pub has : Has heard (record {
+    told = record { core = core; ticket = Some ticket; out = outs.Accepted client id result };
+    slot = slot;
+    sent = sent;
+  })
 
 -- the ticket is of this op, taken for this user, and the reply is the form of its result
-pub record IsAnswered (ops : List Taken) (told : List Labelled) (user : ℕ) (op : List ℕ) (form : Form) (ticket : ℕ) (reply : List ℕ) : Type 0 where
+pub record IsAnswered (ops : List Taken) (heard : List Heard) (user : ℕ) (op : List ℕ) (form : Form) (ticket slot : ℕ) (reply : List ℕ) : Type 0 where
   pub taken : slice_get ops ticket ≡ Some (record { owner = Some user; op = op })
   pub result : List ℕ
-  pub accepted : IsResult told ticket result
+  pub accepted : IsResult heard ticket slot result
   pub replied : reply ≡ reply_to form result
 
--- the reply is what the request asks for; or, for an op, that there is no place for it
-abbrev pub IsReplied : List Taken → List Labelled → (user : ℕ) → Action → Option ℕ → (reply : List ℕ) → Type 0
-IsReplied ops told user (table.Execute op form) (Some ticket) reply = IsAnswered ops told user op form ticket reply
-IsReplied ops told user (table.Execute op form) None reply = reply ≡ busy
-IsReplied ops told user (table.Answer bytes) None reply = reply ≡ bytes
-IsReplied ops told user (table.End bytes) None reply = reply ≡ bytes
-IsReplied ops told user (table.Answer bytes) (Some ticket) reply = ⊥
-IsReplied ops told user (table.End bytes) (Some ticket) reply = ⊥
+-- a core asked an observer for this key, under this id, when the user had sent so many bytes or more
+pub record IsAsked (heard : List Heard) (core id observer : ℕ) (key : List ℕ) (end_ : ℕ) : Type 0 where
+  pub client : ℕ
+  pub ticket : Option ℕ
+  pub slot : ℕ
+  pub sent : ℕ
+  pub after_ : end_ ≤ sent
+  pub has : Has heard (record {
+    told = record { core = core; ticket = ticket; out = outs.Reading client id observer key };
+    slot = slot;
+    sent = sent;
+  })
 
-abbrev pub AreReplied : List Taken → List Labelled → (user : ℕ) → List Exchange → Type 0
-AreReplied ops told user [] = ⊤
-AreReplied ops told user (x ∷ xs) = IsReplied ops told user (asked x.arguments) x.ticket x.reply × AreReplied ops told user xs
+-- A core asked an observer for this key, when the user had sent so many bytes, and was answered by it under the same id, from the state at
+-- this position. The reply is the value that the key has there.
+pub record IsRead (heard : List Heard) (key : List ℕ) (end_ position : ℕ) (reply : List ℕ) : Type 0 where
+  pub core : ℕ
+  pub id : ℕ
+  pub observer : ℕ
+  pub asks : IsAsked heard core id observer key end_
+  pub client : ℕ
+  pub ticket : Option ℕ
+  pub reply_slot : ℕ
+  pub sent : ℕ
+  pub result : List ℕ
+  pub answers : Has heard (record {
+    told = record { core = core; ticket = ticket; out = outs.Answered client id observer position result };
+    slot = reply_slot;
+    sent = sent;
+  })
+  pub replied : reply ≡ reply_to Value result
+
+-- and the position is not below this slot
+pub record IsFreshRead (heard : List Heard) (key : List ℕ) (end_ least position : ℕ) (reply : List ℕ) : Type 0 where
+  pub read : IsRead heard key end_ position reply
+  pub fresh : least ≤ position
+
+-- The reply is what the request asks for: the form of a result; or, for an op, that there is no place for it, and for a read, that there are
+-- no observers. A read is asked for when all bytes of the request had come, those before `end_`, and is from a state that is not older than
+-- the slot `least`.
+abbrev pub IsReplied : List Taken → List Heard → (user least end_ : ℕ) → Action → Option ℕ → (slot : ℕ) → (reply : List ℕ) → Type 0
+IsReplied ops heard user least end (table.Execute op form) (Some ticket) slot reply = IsAnswered ops heard user op form ticket slot reply
+IsReplied ops heard user least end (table.Execute op form) None slot reply = reply ≡ busy
+IsReplied ops heard user least end (table.ReadAt key) None slot reply = (reply ≡ no_observers) ⊎ IsFreshRead heard key end least slot reply
+IsReplied ops heard user least end (table.Answer bytes) None slot reply = reply ≡ bytes
+IsReplied ops heard user least end (table.End bytes) None slot reply = reply ≡ bytes
+IsReplied ops heard user least end _ _ slot reply = ⊥
+
+-- where the bytes of a request end that begins here
+abbrev pub end_of : (start : ℕ) → Exchange → ℕ
+end_of start x = start + length (spelled x.arguments)
+
+-- each, in order: no read is from a state that is older than a result before it
+abbrev pub AreReplied : List Taken → List Heard → (user least start : ℕ) → List Exchange → Type 0
+AreReplied ops heard user least start [] = ⊤
+AreReplied ops heard user least start (x ∷ xs) =
+    IsReplied ops heard user least (end_of start x) (asked x.arguments) x.ticket x.slot x.reply
+    × AreReplied ops heard user (max least x.slot) (end_of start x) xs
 
 -- the bytes of the requests
 abbrev pub requests_of : List Exchange → List ℕ
@@ -189,12 +280,12 @@ IsEnd end = (end ≡ []) ⊎ ((end ≡ no_request ∷ []) ⊎ ((end ≡ too_much
 
 -- The bytes that a user sent begin with the requests, in order, and its replies are theirs, one each; the last may be followed by why the
 -- gateway ended the connection.
-pub record IsServed (ops : List Taken) (told : List Labelled) (user : ℕ) (bytes : List ℕ) (replies : List (List ℕ)) : Type 0 where
+pub record IsServed (ops : List Taken) (heard : List Heard) (user : ℕ) (bytes : List ℕ) (replies : List (List ℕ)) : Type 0 where
   pub exchanges : List Exchange
   pub rest : List ℕ
   pub end_ : List (List ℕ)
   pub requests : bytes ≡ requests_of exchanges ++ rest
-  pub each : AreReplied ops told user exchanges
+  pub each : AreReplied ops heard user 0 0 exchanges
   pub replies_are : replies ≡ replies_of exchanges ++ end_
   pub ends : IsEnd end_
 
@@ -208,7 +299,7 @@ opens user = events.User (users.Opened user)
 -- a user that connects after some events is served from then on
 abbrev pub IsServedFrom : GateState → (before later : List Event) → (user : ℕ) → Type 0
 IsServedFrom g before later user =
-    IsServed (taken g (before ++ opens user ∷ later)) (told_by_desk g (before ++ opens user ∷ later)) user (bytes_of user later)
+    IsServed (taken g (before ++ opens user ∷ later)) (heard user 0 (after g before) (opens user ∷ later)) user (bytes_of user later)
     (replies_to user (gave (after g before) (opens user ∷ later)))
 
 -- the user does not connect in these events

@@ -9,6 +9,9 @@ use Rattle.gate_core.specs.contracts.session.Session as session
 abbrev pub SessionMap : Type 0
 SessionMap = finite.FinMap nat_cmp Session
 
+abbrev pub ReaderMap : Type 0
+ReaderMap = finite.FinMap nat_cmp ℕ
+
 abbrev pub OwnerMap : Type 0
 OwnerMap = finite.FinMap nat_cmp (Option ℕ)
 
@@ -18,6 +21,9 @@ session_code = finite.code coded_ℕ session.the_row.coded
 
 abbrev pub owner_code : Coded OwnerMap
 owner_code = finite.code coded_ℕ (coded_option coded_ℕ)
+
+abbrev pub reader_code : Coded ReaderMap
+reader_code = finite.code coded_ℕ coded_ℕ
 
 -- the finite map that the entries of a table make
 abbrev pub map_of : {X : Type 0} → List (ℕ × X) → finite.FinMap nat_cmp X

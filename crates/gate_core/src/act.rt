@@ -5,13 +5,31 @@ use users::UserEvent;
 #[derive(Debug, Drop)]
 pub enum Event {
     /// A datagram came to the core at this place.
-    Datagram { core: usize, bytes: Bytes },
-    /// The core at this place sends its open requests again.
-    Retry { core: usize },
+    Datagram {
+        core: usize,
+        bytes: Bytes,
+    },
+    /// The core at this place sends its open requests and its read again.
+    Retry {
+        core: usize,
+    },
     /// Something came from a user.
     User(UserEvent),
-    /// The next request of a user is read, where it has no op in flight.
-    Read { user: u64 },
+    /// The next request of a user is read, where none of it is in flight.
+    Read {
+        user: u64,
+    },
+    /// The core at this place asks an observer for the key of a user's read, where neither has a
+    /// read under way.
+    Ask {
+        core: usize,
+        observer: u8,
+        user: u64,
+    },
+    /// The read that the core at this place has under way is asked for by another core.
+    Reassign {
+        core: usize,
+    },
     /// Nobody asks for anything: the gateway asks for something itself.
     Idle,
 }
@@ -34,6 +52,22 @@ pub enum Act {
     Accepted {
         core: usize,
         id: u64,
+    },
+    /// The core at this place asked for a read with this id.
+    Reading {
+        core: usize,
+        id: u64,
+    },
+    /// The core at this place was answered its read with this id.
+    Answered {
+        core: usize,
+        id: u64,
+    },
+    /// A read of a user waits for a core; `again` where it was answered from a state that is too
+    /// old.
+    Waits {
+        user: u64,
+        again: bool,
     },
     /// A user is replied to.
     Reply {

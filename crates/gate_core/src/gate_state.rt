@@ -1,35 +1,40 @@
 //! What the gateway keeps, and its steps.
 
-ghost use Rattle.std.specs.Prelude.{◌≡◌, ◌≤◌, ◌+◌, ◌^◌, ◌==◌, ◌∷◌, ◌++◌, [], Some, IfOk, OnOk};
+ghost use Rattle.std.specs.Prelude.{◌≡◌, ◌≤◌, ◌+◌, ◌^◌, ◌==◌, ◌++◌, Some, IfOk, OnOk};
 ghost use Rattle.std.specs.FinMap as finite;
 ghost use Rattle.nop_types.specs.Given.{given};
 ghost use Rattle.resp.specs.Replies.{reply_bytes};
 ghost use Rattle.kv_resp.specs.Table as table;
 ghost use Rattle.kv_resp.specs.Table.{asked};
-ghost use Rattle.gate_core.specs.Gates.{answer, ask, busy, comes, demanded, ended, executed, idle_op, left_by};
-ghost use Rattle.gate_core.specs.Gates.{next, no_request, opened, opening, read, replied, requested, sent_to, HasBytes};
-ghost use Rattle.gate_core.specs.Gates.{answered, left_of, session_of, tell, tell_all, too_many, too_much, user_event};
-ghost use Rattle.gate_core.specs.declared.act.Act.TheVariants as acts_are;
+ghost use Rattle.gate_core.specs.Gates.{answer, ask, ask_read, begin_read, busy, came_of, comes, demanded, end_read};
+ghost use Rattle.gate_core.specs.Gates.{ended, idle_op, left_by, left_of, next, no_observers, no_request, opened};
+ghost use Rattle.gate_core.specs.Gates.{opening, read, reassign, requested, sent_to, session_of, slot_in, tell};
+ghost use Rattle.gate_core.specs.Gates.{tell_all, too_many, too_much, user_event, without_reader, HasBytes};
 
 use crate::act::{Act, Event};
+use crate::in_flight::{answer_session, begin, end_reading, reads_at, wait_again};
 use crate::limits::{MAX_USERS, MAX_WAITING_BYTES};
-use crate::session::{Asked, Session};
-use crate::tables::{Owners, Sessions};
+use crate::replying::{put_act, put_answer, put_end};
+use crate::session::{Asked, InFlight, Reading, Session, UnderWay};
+use crate::tables::{Owners, Readers, Sessions};
 use crate::waiting::Waiting;
 use desk::{Desk, DeskError, Labelled};
 use kv_host::GET;
-use kv_resp::{Demand, Form, asked, reply_to};
-use nop_types::{Bytes, Config, Input, NoMemory, Op, Out, Tick};
-use resp::{Parsed, Reply, Request, put_reply};
+use kv_resp::{Demand, Form, asked};
+use nop_types::{Bytes, Config, Input, Key, NoMemory, Op, Out, Tick};
+use resp::{Parsed, Reply, Request};
 use std::alloc::Global;
 use users::UserEvent;
 
-/// The desk, the users that are connected, whose the tickets are, and the least number of a user to come.
+/// The desk, the users that are connected, whose the tickets are, for whom cores read, how many
+/// observers there are, and the least number of a user to come.
 #[derive(Drop)]
 pub struct GateState {
     pub desk: Desk,
     pub sessions: Sessions,
     pub owners: Owners,
+    pub readers: Readers,
+    pub observers: u8,
     pub next_user: u64,
 }
 
@@ -61,43 +66,21 @@ fn busy<'a>() -> Reply<'a>
     Reply::Error("ERR too many ops wait")
 }
 
-/// The bytes of a reply.
-fn bytes_of(alloc: Global, reply: Reply<'_>) -> Result<Bytes, NoMemory>
-    ensures { IfOk result (λ b. b ≡ reply_bytes reply.entry) }
+/// What is replied to a read where there are no observers.
+fn no_observers<'a>() -> Reply<'a>
+    ensures { reply_bytes result ≡ no_observers }
 {
-    let mut bytes = Vec::new(alloc);
-    put_reply(reply, &mut bytes)?;
-    Ok(Bytes::from_vec(bytes))
+    Reply::Error("ERR no observers to read at")
 }
 
-fn put_act(acts: &mut Vec<Act>, act: Act) -> Result<(), NoMemory>
-    ensures { OnOk result (acts.new.items ≡ acts.old.items ++ act ∷ []) }
+/// The datagram that an input is; no bytes of any other one.
+fn came_of(input: Input<'_>) -> &[u8]
+    ensures { result.now ≡ came_of (given input.entry) }
 {
-    acts.push(act)?;
-    Ok(())
-}
-
-/// The user is replied to.
-fn put_answer(
-    alloc: Global,
-    user: u64,
-    reply: Reply<'_>,
-    acts: &mut Vec<Act>,
-) -> Result<(), NoMemory>
-    ensures { OnOk result (acts.new.items
-        ≡ acts.old.items ++ acts_are.Reply user (reply_bytes reply.entry) ∷ []) }
-{
-    let bytes = bytes_of(alloc, reply)?;
-    put_act(acts, Act::Reply { user, bytes })
-}
-
-/// The user is replied to, and its connection ends.
-fn put_end(alloc: Global, user: u64, reply: Reply<'_>, acts: &mut Vec<Act>) -> Result<(), NoMemory>
-    ensures { OnOk result (acts.new.items ≡ acts.old.items
-        ++ acts_are.Reply user (reply_bytes reply.entry) ∷ acts_are.Close user ∷ []) }
-{
-    put_answer(alloc, user, reply, acts)?;
-    put_act(acts, Act::Close { user })
+    match input {
+        Input::Packet(bytes) => bytes,
+        _ => &[],
+    }
 }
 
 /// The op that the gateway asks for itself: the value of the key `.`.
@@ -105,30 +88,6 @@ fn idle_op(alloc: Global) -> Result<Op, NoMemory>
     ensures { IfOk result (λ op. op ≡ idle_op) }
 {
     Op::new(alloc, &[GET, 0, 1, b'.'])
-}
-
-/// Answers a session whose op has this ticket.
-fn answer_session(
-    alloc: Global,
-    user: u64,
-    session: &mut Session,
-    ticket: u64,
-    answer: &[u8],
-    acts: &mut Vec<Act>,
-) -> Result<(), NoMemory>
-    ensures session { OnOk result (session.new
-        ≡ (answered user session.old ticket answer.now).0) }
-    ensures acts { OnOk result (acts.new.items
-        ≡ acts.old.items ++ (answered user session.old ticket answer.now).1) }
-{
-    match session.asked {
-        Some(asked) if asked.ticket == ticket => {
-            put_answer(alloc, user, reply_to(asked.form, answer), acts)?;
-            session.asked = None;
-            Ok(())
-        }
-        _ => Ok(()),
-    }
 }
 
 impl GateState {
@@ -146,6 +105,8 @@ impl GateState {
             desk: Desk::new(alloc, config, first, count)?,
             sessions: Sessions::new(alloc),
             owners: Owners::new(alloc),
+            readers: Readers::new(alloc),
+            observers: config.observers(),
             next_user: 0,
         })
     }
@@ -162,13 +123,15 @@ impl GateState {
     fn answer(
         &mut self,
         alloc: Global,
+        came: &[u8],
         ticket: u64,
         bytes: &[u8],
         acts: &mut Vec<Act>,
     ) -> Result<(), NoMemory>
-        ensures state { OnOk result (self.new ≡ (answer (Some ticket) self.old bytes.now).0) }
-        ensures acts { OnOk result (acts.new.items
-            ≡ acts.old.items ++ (answer (Some ticket) self.old bytes.now).1) }
+        ensures state { OnOk result (self.new
+            ≡ (answer (Some ticket) self.old (slot_in came.now) bytes.now).0) }
+        ensures acts { OnOk result (acts.new.items ≡ acts.old.items
+            ++ (answer (Some ticket) self.old (slot_in came.now) bytes.now).1) }
     {
         let Some(Some(user)) = self.owners.take(ticket) else {
             return Ok(());
@@ -177,14 +140,85 @@ impl GateState {
             return Ok(());
         };
         let mut session = session;
-        answer_session(alloc, user, &mut session, ticket, bytes, acts)?;
+        answer_session(alloc, user, came, &mut session, ticket, bytes, acts)?;
         self.sessions.put(user, session)
     }
 
-    /// Something that the desk told.
-    fn tell(&mut self, alloc: Global, told: Labelled, acts: &mut Vec<Act>) -> Result<(), NoMemory>
-        ensures state { OnOk result (self.new ≡ (tell told self.old).0) }
-        ensures acts { OnOk result (acts.new.items ≡ acts.old.items ++ (tell told self.old).1) }
+    /// A core accepted the result of a request, for whom the ticket says.
+    fn accept(
+        &mut self,
+        alloc: Global,
+        came: &[u8],
+        ticket: Option<u64>,
+        bytes: &[u8],
+        acts: &mut Vec<Act>,
+    ) -> Result<(), NoMemory>
+        ensures state { OnOk result (self.new
+            ≡ (answer ticket self.old (slot_in came.now) bytes.now).0) }
+        ensures acts { OnOk result (acts.new.items ≡ acts.old.items
+            ++ (answer ticket self.old (slot_in came.now) bytes.now).1) }
+    {
+        match ticket {
+            Some(ticket) => self.answer(alloc, came, ticket, bytes, acts),
+            None => Ok(()),
+        }
+    }
+
+    /// A core asked an observer for a key, for the user that it reads for.
+    #[tactic(auto, using(crate::proofs::Entries::put_back))]
+    fn begin_read(&mut self, way: UnderWay, key: &Key) -> Result<(), NoMemory>
+        ensures { OnOk result (self.new
+            ≡ begin_read (finite.get self.old.readers way.core) self.old way key.now) }
+    {
+        let Some(user) = self.readers.get(way.core) else {
+            return Ok(());
+        };
+        let Some(session) = self.sessions.take(user) else {
+            return Ok(());
+        };
+        let mut session = session;
+        begin(&mut session.asked, way, key);
+        self.sessions.put(user, session)
+    }
+
+    /// A core was answered its read, for the user that it reads for.
+    #[tactic(auto, using(crate::proofs::Entries::put_back))]
+    fn end_read(
+        &mut self,
+        alloc: Global,
+        way: UnderWay,
+        position: u32,
+        bytes: &[u8],
+        acts: &mut Vec<Act>,
+    ) -> Result<(), NoMemory>
+        ensures state { OnOk result (self.new ≡ (end_read (finite.get self.old.readers way.core)
+            (without_reader self.old way.core) position way bytes.now).0) }
+        ensures acts { OnOk result (acts.new.items ≡ acts.old.items
+            ++ (end_read (finite.get self.old.readers way.core)
+            (without_reader self.old way.core) position way bytes.now).1) }
+    {
+        let Some(user) = self.readers.take(way.core) else {
+            return Ok(());
+        };
+        let Some(session) = self.sessions.take(user) else {
+            return Ok(());
+        };
+        let mut session = session;
+        end_reading(alloc, user, position, &mut session, way, bytes, acts)?;
+        self.sessions.put(user, session)
+    }
+
+    /// Something that the desk told, where this datagram came.
+    fn tell(
+        &mut self,
+        alloc: Global,
+        came: &[u8],
+        told: Labelled,
+        acts: &mut Vec<Act>,
+    ) -> Result<(), NoMemory>
+        ensures state { OnOk result (self.new ≡ (tell came.now told self.old).0) }
+        ensures acts { OnOk result (acts.new.items
+            ≡ acts.old.items ++ (tell came.now told self.old).1) }
     {
         let Labelled { core, ticket, out } = told;
         match out {
@@ -198,10 +232,27 @@ impl GateState {
             ),
             Out::Accepted { id, result, .. } => {
                 put_act(acts, Act::Accepted { core, id })?;
-                match ticket {
-                    Some(ticket) => self.answer(alloc, ticket, result.as_slice(), acts),
-                    None => Ok(()),
-                }
+                self.accept(alloc, came, ticket, result.as_slice(), acts)
+            }
+            Out::Reading {
+                id,
+                observer,
+                key,
+                ..
+            } => {
+                self.begin_read(UnderWay { core, id, observer }, &key)?;
+                put_act(acts, Act::Reading { core, id })
+            }
+            Out::Answered {
+                id,
+                observer,
+                position,
+                result,
+                ..
+            } => {
+                put_act(acts, Act::Answered { core, id })?;
+                let way = UnderWay { core, id, observer };
+                self.end_read(alloc, way, position, result.as_slice(), acts)
             }
             _ => Ok(()),
         }
@@ -210,15 +261,16 @@ impl GateState {
     fn tell_all(
         &mut self,
         alloc: Global,
+        came: &[u8],
         told: Vec<Labelled>,
         acts: &mut Vec<Act>,
     ) -> Result<(), NoMemory>
-        ensures state { OnOk result (self.new ≡ (tell_all told.items self.old).0) }
+        ensures state { OnOk result (self.new ≡ (tell_all came.now told.items self.old).0) }
         ensures acts { OnOk result (acts.new.items
-            ≡ acts.old.items ++ (tell_all told.items self.old).1) }
+            ≡ acts.old.items ++ (tell_all came.now told.items self.old).1) }
     {
         for one in told {
-            self.tell(alloc, one, acts)?;
+            self.tell(alloc, came, one, acts)?;
         }
         Ok(())
     }
@@ -236,7 +288,7 @@ impl GateState {
             ≡ acts.old.items ++ (comes self.old core (given input.entry)).1) }
     {
         let told = self.desk.comes(core, input)?;
-        self.tell_all(alloc, told, acts)
+        self.tell_all(alloc, came_of(input), told, acts)
     }
 
     /// A user is replied to, and its connection ends.
@@ -273,16 +325,17 @@ impl GateState {
     {
         match self.desk.take(op) {
             Ok((ticket, told)) => {
-                let asked = Some(Asked { ticket, form });
+                let asked = Some(InFlight::Op(Asked { ticket, form }));
                 self.sessions.put(
                     user,
                     Session {
                         waiting: session.waiting,
                         asked,
+                        seen: session.seen,
                     },
                 )?;
                 self.owners.put(ticket, Some(user))?;
-                self.tell_all(alloc, told, acts)
+                self.tell_all(alloc, &[], told, acts)
             }
             Err(DeskError::Full) => {
                 self.sessions.put(user, session)?;
@@ -290,6 +343,39 @@ impl GateState {
             }
             Err(DeskError::NoMemory) => Err(NoMemory),
         }
+    }
+
+    /// The read of a user's request.
+    fn read_at(
+        &mut self,
+        alloc: Global,
+        user: u64,
+        session: Session,
+        key: Key,
+        acts: &mut Vec<Act>,
+    ) -> Result<(), NoMemory>
+        ensures state { OnOk result (self.new
+            ≡ (demanded self.old user session (table.ReadAt key)).0) }
+        ensures acts { OnOk result (acts.new.items ≡ acts.old.items
+            ++ (demanded self.old user session (table.ReadAt key)).1) }
+    {
+        if self.observers == 0 {
+            self.sessions.put(user, session)?;
+            return put_answer(alloc, user, no_observers(), acts);
+        }
+        let asked = Some(InFlight::Read(Reading {
+            key,
+            under_way: None,
+        }));
+        self.sessions.put(
+            user,
+            Session {
+                waiting: session.waiting,
+                asked,
+                seen: session.seen,
+            },
+        )?;
+        put_act(acts, Act::Waits { user, again: false })
     }
 
     /// What a user's request asks for.
@@ -308,6 +394,7 @@ impl GateState {
     {
         match asked(alloc, arguments)? {
             Demand::Execute(op, form) => self.execute(alloc, user, session, op, form, acts),
+            Demand::ReadAt(key) => self.read_at(alloc, user, session, key, acts),
             Demand::Answer(reply) => {
                 self.sessions.put(user, session)?;
                 put_answer(alloc, user, reply, acts)
@@ -339,7 +426,7 @@ impl GateState {
         self.demand(alloc, user, session, &request.arguments, acts)
     }
 
-    /// The next request of a user, where no op of it is in flight.
+    /// The next request of a user, where none of it is in flight.
     fn read(&mut self, alloc: Global, user: u64, acts: &mut Vec<Act>) -> Result<(), NoMemory>
         ensures state { OnOk result (self.new ≡ (read self.old user).0) }
         ensures acts { OnOk result (acts.new.items ≡ acts.old.items ++ (read self.old user).1) }
@@ -351,11 +438,11 @@ impl GateState {
         }
     }
 
-    /// A session is over: its op in flight, if it has one, is for nobody.
+    /// A session is over: what is in flight of it, if something is, is for nobody.
     fn leave(&mut self, session: Session)
         ensures { self.new ≡ left_by session.asked self.old }
     {
-        if let Some(asked) = session.asked {
+        if let Some(InFlight::Op(asked)) = session.asked {
             self.desk.leave(asked.ticket);
             let _owner = self.owners.take(asked.ticket);
         }
@@ -378,6 +465,7 @@ impl GateState {
             Session {
                 waiting: Waiting::new(alloc),
                 asked: None,
+                seen: 0,
             },
         )
     }
@@ -444,11 +532,59 @@ impl GateState {
         match self.desk.take(idle_op(alloc)?) {
             Ok((ticket, told)) => {
                 self.owners.put(ticket, None)?;
-                self.tell_all(alloc, told, acts)
+                self.tell_all(alloc, &[], told, acts)
             }
             Err(DeskError::Full) => Ok(()),
             Err(DeskError::NoMemory) => Err(NoMemory),
         }
+    }
+
+    /// The core at a place asks an observer for the key of a user's read, where neither has a read
+    /// under way.
+    fn ask_read(
+        &mut self,
+        alloc: Global,
+        core: usize,
+        observer: u8,
+        user: u64,
+        acts: &mut Vec<Act>,
+    ) -> Result<(), NoMemory>
+        ensures state { OnOk result (self.new ≡ (ask_read self.old core observer user).0) }
+        ensures acts { OnOk result (acts.new.items
+            ≡ acts.old.items ++ (ask_read self.old core observer user).1) }
+    {
+        if self.readers.get(core).is_some() {
+            return Ok(());
+        }
+        match self.sessions.key_to_ask(user)? {
+            Some(key) => {
+                self.readers.put(core, user)?;
+                self.comes(alloc, core, Input::Read(observer, &key), acts)
+            }
+            None => Ok(()),
+        }
+    }
+
+    /// The read that the core at a place has under way waits for another one.
+    #[tactic(auto, using(crate::proofs::Entries::put_back, crate::proofs::Entries::put_same))]
+    fn reassign(&mut self, core: usize, acts: &mut Vec<Act>) -> Result<(), NoMemory>
+        ensures state { OnOk result (self.new ≡ (reassign self.old core).0) }
+        ensures acts { OnOk result (acts.new.items
+            ≡ acts.old.items ++ (reassign self.old core).1) }
+    {
+        let Some(user) = self.readers.get(core) else {
+            return Ok(());
+        };
+        let Some(session) = self.sessions.take(user) else {
+            return Ok(());
+        };
+        let mut session = session;
+        if !reads_at(&session.asked, core) {
+            return self.sessions.put(user, session);
+        }
+        wait_again(&mut session.asked);
+        self.sessions.put(user, session)?;
+        put_act(acts, Act::Waits { user, again: false })
     }
 
     /// A step, and what is done in it. After an error no more steps are taken.
@@ -463,6 +599,12 @@ impl GateState {
             Event::Retry { core } => self.comes(alloc, core, Input::Tick(Tick::Retry), acts),
             Event::User(event) => self.user_event(alloc, event, acts),
             Event::Read { user } => self.read(alloc, user, acts),
+            Event::Ask {
+                core,
+                observer,
+                user,
+            } => self.ask_read(alloc, core, observer, user, acts),
+            Event::Reassign { core } => self.reassign(core, acts),
             Event::Idle => self.ask(alloc, acts),
         }
     }

@@ -1,15 +1,25 @@
 //! The core of a gateway: the requests of many users of RESP 2, executed by a replicated service through the client cores of a desk. It is a
 //! state machine, without sockets or a clock.
 //!
-//! It keeps what each user sent and was not read yet, which op of it is in flight, and whose each ticket of the desk is. A step takes an
-//! event and gives acts: datagrams to send, replies to users, connections to end. `Read` reads one request of a user that has no op in
-//! flight, so the ops of a user are executed in their order. `GateState::step` computes the step table `next` of `specs/Gates`. Over any
-//! events in any order:
+//! It keeps what each user sent and was not read yet, which op or read of it is in flight, the
+//! greatest slot or position of a result that it was replied, whose each ticket of the desk is, and
+//! for whom each core has a read under way. A step takes an event and gives acts: datagrams to
+//! send, replies to users, connections to end. `Read` reads one request of a user that has none in
+//! flight, so the requests of a user are executed in their order. A read of an observer waits until
+//! `Ask` gives it to a core; its answer is replied unless the user has seen a later state, else the
+//! read waits again; `Reassign` lets it wait for another core where no answer comes.
+//! `GateState::step` computes the step table `next` of `specs/Gates`. Over any events in any order:
 //!
-//! - From when a user connects, the bytes that it sent begin with requests, and what it was replied are their replies, one each and in
-//!   order (`replies_are_of_requests`; `IsServed` in `specs/Runs`). The reply to an op is the form of a result which a core accepted for a
-//!   ticket, under which the desk took this op for this user; the laws of `desk` say which results those are. The last reply may be
-//!   followed by why the gateway ended the connection: bytes that begin no request, too many bytes that wait, too many users.
+//! - From when a user connects, the bytes that it sent begin with requests, and what it was replied
+//!   are their replies, one each and in order (`replies_are_of_requests`; `IsServed` in
+//!   `specs/Runs`). The reply to an op is the form of a result which a core accepted for a ticket,
+//!   under which the desk took this op for this user; the laws of `desk` say which results those
+//!   are (`hears_what_the_desk_tells`). The reply to a read is the value in an answer of an
+//!   observer, which a core asked for this key after the request had come, from a position not
+//!   below the slot or position of any result that was replied before on this connection. The slot
+//!   of an op is that of the reply at which the core accepted its result. The last reply may be
+//!   followed by why the gateway ended the connection: bytes that begin no request, too many bytes
+//!   that wait, too many users.
 //! - Who is not connected is replied nothing (`nobody_else_is_replied_to`), nor is who was ended (`nothing_follows_a_close`). A number is
 //!   connected once: numbers that were passed are not.
 //!
@@ -17,21 +27,27 @@
 //!
 //! Calls: `GateState::new`, `step`, `is_idle`.
 //!
-//! Files: `act`, `limits`, `waiting`, `session`, `tables`, `gate_state`, `laws`. Definitions: `specs/Gates`, then `Runs`; `Next`, `Tables`.
+//! Files: `act`, `limits`, `waiting`, `session`, `tables`, `replying`, `in_flight`, `gate_state`,
+//! `laws`. Definitions: `specs/Gates`, then `Runs`; `Next`, `Tables`.
 #![tactic(auto)]
 
 mod act;
 mod gate_state;
+mod in_flight;
 mod laws;
 mod limits;
+mod replying;
 mod session;
 mod tables;
 mod waiting;
 
 pub use act::{Act, Event};
 pub use gate_state::GateState;
-pub use laws::{nobody_else_is_replied_to, nothing_follows_a_close, replies_are_of_requests};
+pub use laws::{
+    hears_what_the_desk_tells, nobody_else_is_replied_to, nothing_follows_a_close,
+    replies_are_of_requests,
+};
 pub use limits::{MAX_USERS, MAX_WAITING_BYTES};
-pub use session::{Asked, Session};
-pub use tables::{Owners, Sessions};
+pub use session::{Asked, InFlight, Reading, Session, UnderWay};
+pub use tables::{Owners, Readers, Sessions};
 pub use waiting::Waiting;

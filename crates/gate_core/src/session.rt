@@ -1,5 +1,6 @@
 use crate::waiting::Waiting;
 use kv_resp::Form;
+use nop_types::Key;
 
 /// The op of a user that is in flight: its ticket, and the form in which its result is replied.
 #[derive(Clone, Copy, Debug, PartialEq, Eq)]
@@ -8,9 +9,36 @@ pub struct Asked {
     pub form: Form,
 }
 
+/// A read that a core has under way: the core's place, the read's id there, and the observer that
+/// was asked.
+#[derive(Clone, Copy, Debug, PartialEq, Eq)]
+pub struct UnderWay {
+    pub core: usize,
+    pub id: u64,
+    pub observer: u8,
+}
+
+/// The read of a user that is in flight: its key, and what is under way for it. None where it waits
+/// for a core.
+#[derive(Debug, Drop)]
+pub struct Reading {
+    pub key: Key,
+    pub under_way: Option<UnderWay>,
+}
+
+/// The request of a user that is in flight.
+#[derive(Debug, Drop)]
+pub enum InFlight {
+    Op(Asked),
+    Read(Reading),
+}
+
 /// What is kept of a connection.
 #[derive(Debug, Drop)]
 pub struct Session {
     pub waiting: Waiting,
-    pub asked: Option<Asked>,
+    pub asked: Option<InFlight>,
+    /// The greatest slot or position of a result that it was replied: no read is replied from an
+    /// older state.
+    pub seen: u32,
 }

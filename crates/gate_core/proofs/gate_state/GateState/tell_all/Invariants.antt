@@ -6,6 +6,7 @@ use Rattle.gate_core.proofs.gate_state.GateState.tell_all.Given as goal
 abbrev pub invariant-loop-one : goal.invariant-loop-one
 invariant-loop-one l =
     record {
-      state : (tell_all l.one-iterator.rest.items l.self).0 ≡ (tell_all l.fn.told.items l.fn.self).0;
-      acts : l.acts.items ++ (tell_all l.one-iterator.rest.items l.self).1 ≡ l.fn.acts.items ++ (tell_all l.fn.told.items l.fn.self).1;
+      state : (tell_all l.fn.came l.one-iterator.rest.items l.self).0 ≡ (tell_all l.fn.came l.fn.told.items l.fn.self).0;
+      acts : l.acts.items ++ (tell_all l.fn.came l.one-iterator.rest.items l.self).1
+          ≡ l.fn.acts.items ++ (tell_all l.fn.came l.fn.told.items l.fn.self).1;
     }
