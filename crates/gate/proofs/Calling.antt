@@ -1,5 +1,5 @@
 -- What single calls on the devices do.
-use Rattle.std.proofs.Common.{◌≡◌, ℕ, zero, suc, List, [], ◌∷◌, map, Option, Some, None, refl, sym, ap, subst, ◌∙◌}
+use Rattle.std.proofs.Common.{◌≡◌, ℕ, zero, suc, Bool, List, [], ◌∷◌, map, Option, Some, None, refl, sym, ap, subst, ◌∙◌}
 use Rattle.std.specs.Prelude.{Result, Ok, Err, OnOk, OnErr, slice_get, slice_set}
 use Rattle.nop_types.specs.declared.output.Dest.{Dest}
 use Rattle.outside.specs.Causes.{CountsFor, count_after, next_count}
@@ -274,6 +274,16 @@ module _ (state : GateState) (users : UsersSeen) (xs ys : List LinkSeen) where
     submitted_act core id is same =
         subst (λ (a : Act). MakesAll (call_of a) r (seen state users xs) (seen state users ys)) (sym is) (made_by_none r same)
 
+    pub reading_act : (core id : ℕ) → act ≡ acts.Reading core id → ys ≡ xs
+        → MakesAll (call_of act) r (seen state users xs) (seen state users ys)
+    reading_act core id is same =
+        subst (λ (a : Act). MakesAll (call_of a) r (seen state users xs) (seen state users ys)) (sym is) (made_by_none r same)
+
+  pub answered_act : (act : Act) (core id : ℕ) → act ≡ acts.Answered core id → ys ≡ xs → Makes (call_of act) (seen state users xs) (seen state users ys)
+  answered_act act core id is same =
+      subst (λ (a : Act). Makes (call_of a) (seen state users xs) (seen state users ys)) (sym is)
+      (made_by_none {T = ℕ} {E = ℕ} (Ok 0) same)
+
   pub accepted_act : (act : Act) (core id : ℕ) → act ≡ acts.Accepted core id → ys ≡ xs → Makes (call_of act) (seen state users xs) (seen state users ys)
   accepted_act act core id is same =
       subst (λ (a : Act). Makes (call_of a) (seen state users xs) (seen state users ys)) (sym is)
@@ -288,3 +298,11 @@ module _ {T E : Type 0} (act : Act) (r : Result T E) (a b : Side) where
 
   pub closed_act : (user : ℕ) → act ≡ acts.Close user → MakesAll (calls.Closed user ∷ []) r a b → MakesAll (call_of act) r a b
   closed_act user is h = subst (λ (x : Act). MakesAll (call_of x) r a b) (sym is) h
+
+-- a read waits: nothing is done for users
+module _ {T E : Type 0} (act : Act) (r : Result T E) (g h : GateState) (users : UsersSeen) (xs ys : List LinkSeen) where
+  pub waits_act : (user : ℕ) (again : Bool) → act ≡ acts.Waits user again → h ≡ g → ys ≡ xs
+      → MakesAll (call_of act) r (seen g users xs) (seen h users ys)
+  waits_act user again is state same =
+      subst (λ (k : GateState). MakesAll (call_of act) r (seen g users xs) (seen k users ys)) (sym state)
+      (subst (λ (a : Act). MakesAll (call_of a) r (seen g users xs) (seen g users ys)) (sym is) (made_by_none g users xs ys r same))

@@ -140,6 +140,16 @@ took_inside (events.Read user) a h = record {
   carried = record { calls = grows_same a.users.trace; users = takes_same came a.users.to_come; links = all_same a.links };
   faults = faultless_same a;
 }
+took_inside (events.Ask core observer user) a h = record {
+  state = refl;
+  carried = record { calls = grows_same a.users.trace; users = takes_same came a.users.to_come; links = all_same a.links };
+  faults = faultless_same a;
+}
+took_inside (events.Reassign core) a h = record {
+  state = refl;
+  carried = record { calls = grows_same a.users.trace; users = takes_same came a.users.to_come; links = all_same a.links };
+  faults = faultless_same a;
+}
 took_inside events.Idle a h = record {
   state = refl;
   carried = record { calls = grows_same a.users.trace; users = takes_same came a.users.to_come; links = all_same a.links };

@@ -196,6 +196,8 @@ event_of (Some event) = events.User event ∷ []
 abbrev pub IsInside : Event → Type 0
 IsInside (events.Retry core) = ⊤
 IsInside (events.Read user) = ⊤
+IsInside (events.Ask core observer user) = ⊤
+IsInside (events.Reassign core) = ⊤
 IsInside events.Idle = ⊤
 IsInside _ = ⊥
 

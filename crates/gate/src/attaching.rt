@@ -6,6 +6,7 @@ ghost use Rattle.outside.specs.declared.errors.DeviceError.TheVariants as device
 ghost use Rattle.gate.specs.Attaching.{AllAttached, Attaches, HasRoom, Holds, ports_side};
 
 use crate::lines::Line;
+use crate::readers::ReadTimer;
 use crate::retry::RetryTimer;
 use client_call::Service;
 use nop_types::Actor;
@@ -33,6 +34,7 @@ fn detach_one<P: Ports>(ports: &mut P, line: Line<P::L>)
         link,
         at: _,
         timer: _,
+        reads: _reads,
         lost: _,
     } = line;
     ports.detach(link);
@@ -58,6 +60,7 @@ fn attach_one<P: Ports>(
                 link,
                 at,
                 timer: RetryTimer::new(alloc),
+                reads: ReadTimer::new(alloc),
                 lost: 0,
             };
             match lines.push(line) {

@@ -1,14 +1,17 @@
 //! A gateway over its devices: links of the client cores, connections of users, and a clock.
 //!
 //! `serve` attaches a link for each client number at that client's port, and takes turns. In a turn
-//! the cores whose time has come send their open requests again, datagrams and events of users are
-//! taken, and requests are read, of each user in turn; what the core (`gate_core`) gives is carried
-//! out at once, in order. A turn in which nothing comes waits for users, where nothing came in the
-//! turns before it either.
+//! the cores whose time has come send their open requests and reads again, cores without a read ask
+//! for those that wait, datagrams and events of users are taken, and requests are read, of each
+//! user in turn; what the core (`gate_core`) gives is carried out at once, in order. A turn in
+//! which nothing comes waits for users, where nothing came in the turns before it either.
 //!
 //! A request is sent again after the smoothed round trip and four times its deviation, as RFC 6298
 //! has it, but after 5 ms at least and 200 ms at most, and after twice as long each time without an
-//! answer (`retry`). Where nobody asked for anything for half a second, the gateway asks for a
+//! answer (`retry`); so is a read of an observer. Each core asks one observer, those of all cores
+//! are spread over all. A read whose answer was from a state that is too old is asked for again
+//! after 10 ms; one that is not answered for a second goes to another core, where there are several
+//! observers (`readers`). Where nobody asked for anything for half a second, the gateway asks for a
 //! value itself: so a service whose leader failed finds it out while nobody asks.
 //!
 //! Proved: over any devices what `serve` takes and does is a run of the core over some events, in
@@ -29,13 +32,14 @@
 //!
 //! Calls: `serve`.
 //!
-//! Files: `serving`, `attaching`, `turn`, `site`, `lines`, `retry`, `errors`. Definitions:
-//! `specs/Sides`, `Carrying`, `Attaching`, `Serving`, `Faults`.
+//! Files: `serving`, `attaching`, `turn`, `site`, `lines`, `readers`, `retry`, `errors`.
+//! Definitions: `specs/Sides`, `Carrying`, `Attaching`, `Serving`, `Faults`.
 #![tactic(auto)]
 
 mod attaching;
 mod errors;
 mod lines;
+mod readers;
 mod retry;
 mod serving;
 mod site;

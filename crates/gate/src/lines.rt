@@ -8,23 +8,32 @@ ghost use Rattle.outside.specs.declared.errors.DeviceError.TheVariants as device
 ghost use Rattle.gate.specs.Carrying.{Untaken};
 ghost use Rattle.gate.specs.Sides.{lines_seen};
 
+use crate::readers::ReadTimer;
 use crate::retry::RetryTimer;
 use nop_types::{Bytes, Dest, NoMemory};
 use outside::{Link, LinkError};
 use udp_node::{Address, poll_link, send_to};
 
-/// The way out of a client core: its link, where it is, when it sends again, and how many datagrams
-/// could not be sent.
+/// The way out of a client core: its link, where it is, when it sends its requests again and when
+/// its read, and how many datagrams could not be sent.
 pub(crate) struct Line<L> {
     pub(crate) link: L,
     pub(crate) at: Address,
     pub(crate) timer: RetryTimer,
+    pub(crate) reads: ReadTimer,
     pub(crate) lost: u64,
 }
 
 /// Those of all cores, in the order of their places.
 pub(crate) struct Lines<L> {
     pub(crate) lines: Vec<Line<L>>,
+}
+
+/// Whether the open requests or the read of a core are to be sent again now.
+fn either_is_due(timer: &mut RetryTimer, reads: &mut ReadTimer, now: u64) -> bool {
+    let requests = timer.is_due(now);
+    let read = reads.is_due(now);
+    requests || read
 }
 
 impl<L: Link> Line<L> {
@@ -80,7 +89,47 @@ impl<L: Link> Lines<L> {
         }
     }
 
-    /// Whether the core at a place sends its open requests again now.
+    /// The core at a place asked for a read.
+    pub(crate) fn asked(&mut self, core: usize, id: u64, now: u64) -> Result<(), NoMemory>
+        ensures { lines_seen L.Link self.new.lines.items
+            ≡ lines_seen L.Link self.old.lines.items }
+    {
+        if core >= self.lines.len() {
+            return Ok(());
+        }
+        let line = &mut self.lines[core];
+        line.reads.asked(id, now)
+    }
+
+    /// The core at a place was answered its read.
+    pub(crate) fn answered(&mut self, core: usize, id: u64, now: u64)
+        ensures { lines_seen L.Link self.new.lines.items
+            ≡ lines_seen L.Link self.old.lines.items }
+    {
+        if core < self.lines.len() {
+            let line = &mut self.lines[core];
+            line.reads.answered(id, now);
+        }
+    }
+
+    /// Whether the core at a place has no read under way.
+    pub(crate) fn reads_nothing(&self, core: usize) -> bool {
+        core < self.lines.len() && self.lines[core].reads.is_idle()
+    }
+
+    /// Whether another core is to ask for the read of the core at a place now, if one may.
+    pub(crate) fn is_overdue(&mut self, core: usize, may: bool, now: u64) -> bool
+        ensures { lines_seen L.Link self.new.lines.items
+            ≡ lines_seen L.Link self.old.lines.items }
+    {
+        if core >= self.lines.len() {
+            return false;
+        }
+        let line = &mut self.lines[core];
+        line.reads.is_overdue(may, now)
+    }
+
+    /// Whether the core at a place sends its open requests and its read again now.
     pub(crate) fn is_due(&mut self, core: usize, now: u64) -> bool
         ensures { lines_seen L.Link self.new.lines.items
             ≡ lines_seen L.Link self.old.lines.items }
@@ -89,6 +138,6 @@ impl<L: Link> Lines<L> {
             return false;
         }
         let line = &mut self.lines[core];
-        line.timer.is_due(now)
+        either_is_due(&mut line.timer, &mut line.reads, now)
     }
 }

@@ -115,6 +115,11 @@ impl RetryTimer {
         Ok(())
     }
 
+    /// No request is open.
+    pub fn is_idle(&self) -> bool {
+        self.open.is_empty()
+    }
+
     /// A request was answered. Its round trip is measured where it was sent once: else it is not
     /// known which one was answered.
     pub fn accepted(&mut self, id: u64, now: u64) {

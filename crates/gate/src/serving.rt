@@ -12,6 +12,7 @@ ghost use Rattle.gate.specs.declared.errors.GateError.TheVariants as errors;
 use crate::attaching::{attach_all, detach_all};
 use crate::errors::{GateError, port_fault};
 use crate::lines::{Line, Lines};
+use crate::readers::Readers;
 use crate::site::Site;
 use client_call::Service;
 use gate_core::GateState;
@@ -87,6 +88,7 @@ fn serve_over<P: Ports, U: Users, C: Clock>(
         state,
         lines: Lines { lines },
         ready: VecDeque::new(alloc),
+        readers: Readers::new(alloc),
         now: 0,
         submitted: 0,
     };
@@ -96,6 +98,7 @@ fn serve_over<P: Ports, U: Users, C: Clock>(
         state: _state,
         lines,
         ready: _ready,
+        readers: _readers,
         now: _,
         submitted: _,
     } = site;

@@ -7,6 +7,7 @@ ghost use Rattle.gate.specs.Sides.{side, side_with, Side, UsersSeen};
 
 use crate::errors::{GateError, link_fault};
 use crate::lines::Lines;
+use crate::readers::Readers;
 use gate_core::{Act, Event, GateState};
 use nop_types::{Bytes, NoMemory};
 use outside::Link;
@@ -14,13 +15,14 @@ use std::alloc::Global;
 use std::collections::VecDeque;
 use users::Users;
 
-/// The core, its links, the users of whom a request may be read, the time of the turn, and when
-/// something was submitted last.
+/// The core, its links, the users of whom a request may be read and those whose reads wait for a
+/// core, the time of the turn, and when something was submitted last.
 pub(crate) struct Site<L> {
     pub(crate) alloc: Global,
     pub(crate) state: GateState,
     pub(crate) lines: Lines<L>,
     pub(crate) ready: VecDeque<u64>,
+    pub(crate) readers: Readers,
     pub(crate) now: u64,
     pub(crate) submitted: u64,
 }
@@ -33,6 +35,14 @@ impl<L: Link> Site<L> {
     {
         self.ready.push_back(user)?;
         Ok(())
+    }
+
+    /// A read of the user waits for a core.
+    fn make_wait(&mut self, user: u64, again: bool) -> Result<(), NoMemory>
+        ensures state { self.new.state ≡ self.old.state }
+        ensures lines { self.new.lines ≡ self.old.lines }
+    {
+        self.readers.push(user, again, self.now)
     }
 
     /// The next datagram that came to the core at a place.
@@ -77,6 +87,12 @@ impl<L: Link> Site<L> {
                 self.lines.accepted(core, id, self.now);
                 Ok(())
             }
+            Act::Reading { core, id } => self.lines.asked(core, id, self.now),
+            Act::Answered { core, id } => {
+                self.lines.answered(core, id, self.now);
+                Ok(())
+            }
+            Act::Waits { user, again } => self.make_wait(user, again),
             Act::Reply { user, bytes } => self.reply(user, bytes.as_slice(), users),
             Act::Close { user } => users.close(user),
         }

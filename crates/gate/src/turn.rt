@@ -40,6 +40,14 @@ fn next_event<U: Users>(users: &mut U, patience: u32) -> Result<Option<UserEvent
     }
 }
 
+/// The observer that a core asks: each core has one, those of all cores are spread over all.
+fn observer_of(core: usize, observers: u8) -> u8 {
+    if observers == 0 {
+        return 0;
+    }
+    u8::try_from(core % usize::from(observers)).unwrap_or(0)
+}
+
 impl<L: Link> Site<L> {
     /// The step of an event that comes from no device, if it is due.
     fn step_if<U: Users>(
@@ -59,7 +67,7 @@ impl<L: Link> Site<L> {
         }
     }
 
-    /// A core sends its open requests again, if its time has come.
+    /// A core sends its open requests and its read again, if its time has come.
     fn retry<U: Users>(&mut self, core: usize, users: &mut U) -> Result<bool, GateError>
         ensures { Runs result (side L.Link U.Users self.old users.old)
             (side L.Link U.Users self.new users.new) }
@@ -75,6 +83,75 @@ impl<L: Link> Site<L> {
     {
         for core in 0..self.lines.lines.len() {
             if let Err(e) = self.retry(core, users) {
+                return Err(e);
+            }
+        }
+        Ok(())
+    }
+
+    /// The read that a core has under way is asked for by another one, if its observer did not
+    /// answer for long and there are other observers.
+    fn reassign<U: Users>(&mut self, core: usize, users: &mut U) -> Result<bool, GateError>
+        ensures { Runs result (side L.Link U.Users self.old users.old)
+            (side L.Link U.Users self.new users.new) }
+    {
+        let others = 1 < self.state.observers;
+        let due = self.lines.is_overdue(core, others, self.now);
+        self.step_if(due, Event::Reassign { core }, users)
+    }
+
+    /// The user whose read a core asks for next, if it has none under way.
+    fn next_reader(&mut self, core: usize) -> Option<u64>
+        ensures state { self.new.state ≡ self.old.state }
+        ensures lines { self.new.lines ≡ self.old.lines }
+    {
+        if self.lines.reads_nothing(core) {
+            self.readers.take_first(self.now)
+        } else {
+            None
+        }
+    }
+
+    /// A core asks an observer for the key of the read that has waited longest. Whether there was
+    /// one.
+    fn ask_next<U: Users>(&mut self, core: usize, users: &mut U) -> Result<bool, GateError>
+        ensures { Runs result (side L.Link U.Users self.old users.old)
+            (side L.Link U.Users self.new users.new) }
+    {
+        match self.next_reader(core) {
+            None => Ok(false),
+            Some(user) => {
+                let observer = observer_of(core, self.state.observers);
+                self.take_step(
+                    Event::Ask {
+                        core,
+                        observer,
+                        user,
+                    },
+                    users,
+                )
+            }
+        }
+    }
+
+    /// A core gives up a read that is not answered, and asks for another one.
+    fn read_at<U: Users>(&mut self, core: usize, users: &mut U) -> Result<bool, GateError>
+        ensures { Runs result (side L.Link U.Users self.old users.old)
+            (side L.Link U.Users self.new users.new) }
+    {
+        match self.reassign(core, users) {
+            Ok(_) => self.ask_next(core, users),
+            Err(e) => Err(e),
+        }
+    }
+
+    /// The cores that have no read under way ask for those that wait.
+    fn ask_reads<U: Users>(&mut self, users: &mut U) -> Result<(), GateError>
+        ensures { Runs result (side L.Link U.Users self.old users.old)
+            (side L.Link U.Users self.new users.new) }
+    {
+        for core in 0..self.lines.lines.len() {
+            if let Err(e) = self.read_at(core, users) {
                 return Err(e);
             }
         }
@@ -143,13 +220,17 @@ impl<L: Link> Site<L> {
         Ok(some)
     }
 
-    /// The next request of who sent something may be read.
+    /// The next request of who sent something may be read, and no read of who left waits.
     fn make_ready_for(&mut self, event: &UserEvent) -> Result<(), NoMemory>
         ensures state { self.new.state ≡ self.old.state }
         ensures lines { self.new.lines ≡ self.old.lines }
     {
         match event {
             UserEvent::Sent { user, .. } => self.make_ready(*user),
+            UserEvent::Left { user } => {
+                self.readers.forget(*user);
+                Ok(())
+            }
             _ => Ok(()),
         }
     }
@@ -309,6 +390,16 @@ impl<L: Link> Site<L> {
         }
     }
 
+    fn read_and_take<U: Users>(&mut self, patience: u32, users: &mut U) -> Result<bool, GateError>
+        ensures { Runs result (side L.Link U.Users self.old users.old)
+            (side L.Link U.Users self.new users.new) }
+    {
+        match self.ask_reads(users) {
+            Ok(()) => self.ask_and_take(patience, users),
+            Err(e) => Err(e),
+        }
+    }
+
     fn ask_and_take<U: Users>(&mut self, patience: u32, users: &mut U) -> Result<bool, GateError>
         ensures { Runs result (side L.Link U.Users self.old users.old)
             (side L.Link U.Users self.new users.new) }
@@ -331,7 +422,7 @@ impl<L: Link> Site<L> {
     {
         self.now = now;
         match self.retry_due(users) {
-            Ok(()) => self.ask_and_take(patience, users),
+            Ok(()) => self.read_and_take(patience, users),
             Err(e) => Err(e),
         }
     }

@@ -3,7 +3,7 @@
 ghost use Rattle.std.specs.Prelude.{true};
 ghost use Rattle.outside.specs.Memory.{MayAnswer};
 
-use crate::scripts::{bytes_of, put_text, reply, text_of};
+use crate::scripts::{self, bytes_of, put_text, reply, text_of};
 use client_call::Service;
 use gate::{GateError, serve};
 use nop_types::{Bytes, Config, MAX_DATAGRAM_BYTES};
@@ -16,7 +16,8 @@ use users::{MAX_EVENT_BYTES, UserAnswer, UserCall, UserEvent, UsersMem};
 /// No datagram comes.
 const SILENT: [&str; 5] = ["nothing"; 5];
 
-/// What a poll answers: a failure, nothing, or the reply `REPLICA CLIENT ID RESULT`.
+/// What a poll answers: a failure, nothing, the reply `REPLICA CLIENT ID RESULT`, or the answer
+/// `@OBSERVER POSITION CLIENT ID RESULT`.
 fn answer(rt: &impl Abort, alloc: Global, words: &str) -> PollAnswer
     ensures { MayAnswer true result }
 {
@@ -24,7 +25,10 @@ fn answer(rt: &impl Abort, alloc: Global, words: &str) -> PollAnswer
         "failure" => PollAnswer::Failure,
         "nothing" => PollAnswer::Nothing,
         _ => {
-            let bytes = reply(rt, alloc, words);
+            let bytes = match words.strip_prefix("@") {
+                Some(words) => scripts::answer(rt, alloc, words),
+                None => reply(rt, alloc, words),
+            };
             assert!(rt; bytes.len() <= MAX_DATAGRAM_BYTES);
             PollAnswer::Received(Bytes::from_vec(bytes))
         }
@@ -102,7 +106,7 @@ fn check(
     assert!(rt; cores <= 16);
     let service = Service {
         base: BasePort::new(41000).expect(rt, "a port"),
-        config: Config::new(3, 1, 1, 1, 0).expect(rt, "a group"),
+        config: Config::new(3, 1, 1, 1, 1).expect(rt, "a group"),
     };
     let mut clock = ClockMem::new(alloc);
     let given = serve(
@@ -160,6 +164,25 @@ fn a_set_waits_for_a_follower(rt: HostRuntime) {
     ];
     check_set(&rt, alloc, polls, 2, "");
     check_set(&rt, alloc, polls, 3, "+OK;");
+}
+
+/// A read is asked for in the turn after the one in which it came, and an answer of another read is
+/// none.
+#[test]
+fn a_read_is_answered(rt: HostRuntime) {
+    let alloc = rt.alloc();
+    let polls = [
+        "nothing",
+        "@0 3 0 2 =w",
+        "nothing",
+        "@0 3 0 1 =v",
+        "nothing",
+    ];
+    for (turns, replies) in [(2, ""), (3, "$1;v;")] {
+        let ports = ports(&rt, alloc, polls, &[]);
+        let users = user(&rt, alloc, "*2;$5;GETAT;$1;k;");
+        check(&rt, alloc, 1, turns, ports, users, Ok(()), 1, replies);
+    }
 }
 
 /// Where the second attach fails the first link is given back, and nothing is done for users.

@@ -32,6 +32,28 @@ pub(crate) fn reply(rt: &impl Abort, alloc: Global, words: &str) -> Vec<u8> {
     bytes
 }
 
+/// An answer in hexadecimal: observer, position, client, id and result.
+pub(crate) fn answer(rt: &impl Abort, alloc: Global, words: &str) -> Vec<u8> {
+    let (observer, words) = words.split_once(' ').expect(rt, "an observer");
+    let (position, words) = words.split_once(' ').expect(rt, "a position");
+    let (client, words) = words.split_once(' ').expect(rt, "a client");
+    let (id, result) = words.split_once(' ').expect(rt, "a result");
+    let observer = observer.parse::<u8>().expect(rt, "a number");
+    let position = position.parse::<u32>().expect(rt, "a number");
+    let client = client.parse::<u32>().expect(rt, "a number");
+    let id = id.parse::<u64>().expect(rt, "a number");
+    let len = u16::try_from(result.len()).expect(rt, "a length");
+    let digits = format!(in alloc;
+        "4e4f030a{observer:02x}{position:08x}{client:08x}{id:016x}{len:04x}"
+    );
+    let digits = digits.expect(rt, "memory");
+    let mut bytes: Vec<u8> = hex::decode(alloc, digits.as_str()).expect(rt, "hexadecimal");
+    bytes
+        .extend_from_slice(result.as_bytes())
+        .expect(rt, "memory");
+    bytes
+}
+
 pub(crate) fn put_text(rt: &impl Abort, text: &str, to: &mut String) {
     to.push_str(text).expect(rt, "memory");
 }
@@ -68,6 +90,10 @@ fn put_act(rt: &impl Abort, alloc: Global, act: &Act, to: &mut String) {
         Act::Send { .. } => return,
         Act::Submitted { core, id } => format!(in alloc; "  {core} submitted {id}\n"),
         Act::Accepted { core, id } => format!(in alloc; "  {core} accepted {id}\n"),
+        Act::Reading { core, id } => format!(in alloc; "  {core} reading {id}\n"),
+        Act::Answered { core, id } => format!(in alloc; "  {core} answered {id}\n"),
+        Act::Waits { user, again: false } => format!(in alloc; "  {user} waits\n"),
+        Act::Waits { user, again: true } => format!(in alloc; "  {user} waits again\n"),
         Act::Reply { user, bytes } => {
             let text = text_of(rt, alloc, bytes.as_slice());
             format!(in alloc; "  {user} {text}\n")
@@ -77,8 +103,31 @@ fn put_act(rt: &impl Abort, alloc: Global, act: &Act, to: &mut String) {
     put_text(rt, line.expect(rt, "memory").as_str(), to);
 }
 
-/// A line of a script: `open USER`, `send USER TEXT`, `left USER`, `read USER`, `retry CORE`, `idle 0`, or
-/// `reply REPLICA CLIENT ID RESULT`, which comes to the core with the place of the client's number.
+/// An event in which a core asks for a read: core, observer and user.
+fn ask(rt: &impl Abort, words: &str) -> Event {
+    let (core, words) = words.split_once(' ').expect(rt, "a core");
+    let (observer, user) = words.split_once(' ').expect(rt, "an observer");
+    Event::Ask {
+        core: core.parse::<usize>().expect(rt, "a core"),
+        observer: observer.parse::<u8>().expect(rt, "an observer"),
+        user: user.parse::<u64>().expect(rt, "a user"),
+    }
+}
+
+/// An answer that comes to the core with the place of the client's number.
+fn answered(rt: &impl Abort, alloc: Global, words: &str) -> Event {
+    let bytes = Bytes::from_vec(answer(rt, alloc, words));
+    let (_, words) = words.split_once(' ').expect(rt, "a position");
+    let (_, words) = words.split_once(' ').expect(rt, "a client");
+    let (client, _) = words.split_once(' ').expect(rt, "an id");
+    let core = client.parse::<usize>().expect(rt, "a number");
+    Event::Datagram { core, bytes }
+}
+
+/// A line of a script: `open USER`, `send USER TEXT`, `left USER`, `read USER`, `retry CORE`, `ask
+/// CORE OBSERVER USER`, `reassign CORE`, `idle 0`, or `reply REPLICA CLIENT ID RESULT` and `answer
+/// OBSERVER POSITION CLIENT ID RESULT`, which come to the core with the place of the client's
+/// number.
 fn event_of(rt: &impl Abort, alloc: Global, line: &str) -> Event {
     let (kind, rest) = line.split_once(' ').expect(rt, "a word");
     match kind {
@@ -101,6 +150,11 @@ fn event_of(rt: &impl Abort, alloc: Global, line: &str) -> Event {
         "retry" => Event::Retry {
             core: rest.parse::<usize>().expect(rt, "a core"),
         },
+        "ask" => ask(rt, rest),
+        "reassign" => Event::Reassign {
+            core: rest.parse::<usize>().expect(rt, "a core"),
+        },
+        "answer" => answered(rt, alloc, rest),
         "idle" => Event::Idle,
         _ => {
             let bytes = Bytes::from_vec(reply(rt, alloc, rest));
@@ -112,9 +166,10 @@ fn event_of(rt: &impl Abort, alloc: Global, line: &str) -> Event {
     }
 }
 
-/// A gateway with so many cores takes the lines of a script that are not indented; those that are say what is done.
-pub fn play(rt: &impl Abort, alloc: Global, cores: usize, script: &str) {
-    let config = Config::new(3, 1, 1, 1, 0).expect(rt, "a group");
+/// A gateway with so many cores, beside so many observers, takes the lines of a script that are not
+/// indented; those that are say what is done.
+pub fn play(rt: &impl Abort, alloc: Global, cores: usize, observers: u8, script: &str) {
+    let config = Config::new(3, 1, 1, 1, observers).expect(rt, "a group");
     assert!(rt; cores <= 16);
     let mut gate = GateState::new(alloc, config, 0, cores).expect(rt, "memory");
     let mut given = String::new(alloc);

@@ -5,7 +5,7 @@ use Rattle.gate.proofs.attaching.attach_one.Goals as goal
 
 pub returns-in-Ok-push-clause-attaches : goal.returns-in-Ok-push-clause-attaches
 returns-in-Ok-push-clause-attaches g c = record {
-  line = record { link = c.in-Ok.link; at = c.args.at; timer = c.new.result; lost = 0 };
+  line = _;
   added = c.in-Ok-push.ensures.items;
   faults = c.in-Ok.ensures.faults;
   content = c.in-Ok.ensures.content;

@@ -1,5 +1,6 @@
+use Rattle.std.proofs.Common.{ap}
 use Rattle.gate.specs.Sides.{lines_seen, users_seen}
-use Rattle.gate.proofs.Calling.{accepted_act, call_all, closed_act, replied_act, sent_act, submitted_act}
+use Rattle.gate.proofs.Calling.{accepted_act, answered_act, call_all, closed_act, reading_act, replied_act, sent_act, submitted_act, waits_act}
 use Rattle.users.specs.declared.event.UserCall.TheVariants as calls
 use Rattle.gate.proofs.site.Site.carry_out.Goals as goal
 
@@ -23,6 +24,28 @@ returns-in-Accepted-clause-makes g c =
     let us = users_seen g.U.Users c.args.users.now in
     let xs = lines_seen g.L.Link c.args.self.now.lines.lines.items in
     accepted_act g0 us xs (lines_seen g.L.Link c.accepted.new.self.lines.items) c.args.act _ _ c.in-Accepted.is c.accepted.ensures
+
+pub returns-in-Reading-clause-makes : goal.returns-in-Reading-clause-makes
+returns-in-Reading-clause-makes g c =
+    let g0 = c.args.self.now.state in
+    let us = users_seen g.U.Users c.args.users.now in
+    let xs = lines_seen g.L.Link c.args.self.now.lines.lines.items in
+    reading_act g0 us xs (lines_seen g.L.Link c.asked.new.self.lines.items) c.args.act c.asked.result _ _ c.in-Reading.is c.asked.ensures
+
+pub returns-in-Answered-clause-makes : goal.returns-in-Answered-clause-makes
+returns-in-Answered-clause-makes g c =
+    let g0 = c.args.self.now.state in
+    let us = users_seen g.U.Users c.args.users.now in
+    let xs = lines_seen g.L.Link c.args.self.now.lines.lines.items in
+    answered_act g0 us xs (lines_seen g.L.Link c.answered.new.self.lines.items) c.args.act _ _ c.in-Answered.is c.answered.ensures
+
+pub returns-in-Waits-clause-makes : goal.returns-in-Waits-clause-makes
+returns-in-Waits-clause-makes g c =
+    let us = users_seen g.U.Users c.args.users.now in
+    let xs = lines_seen g.L.Link c.args.self.now.lines.lines.items in
+    waits_act c.args.act c.make_wait.result c.args.self.now.state c.make_wait.new.self.state us xs
+    (lines_seen g.L.Link c.make_wait.new.self.lines.lines.items) _ _ c.in-Waits.is c.make_wait.ensures.state
+    (ap (λ z. lines_seen g.L.Link z.lines.items) c.make_wait.ensures.lines)
 
 pub returns-in-Reply-clause-makes : goal.returns-in-Reply-clause-makes
 returns-in-Reply-clause-makes g c =
