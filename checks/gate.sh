@@ -1,8 +1,9 @@
 #!/bin/bash
 # Runs `kv_gate` on clusters of real processes, with a client of its own that speaks the protocol of Redis: each request of docs/GATEWAY.md;
 # requests sent at once, byte by byte, half, and not as the protocol has them; a user who never reads. Then the leader and the sequencer in
-# use are killed, and the same connection is answered. With one replica of three a user waits, and connections stay open. By a list of hosts
-# a gateway is answered, and another one with its numbers is refused. It takes some ten seconds, leaves nothing behind, and ends with status
+# use are killed, and the same connection is answered. With one replica of three a user waits, and connections stay open. Reads of observers
+# see what their connection wrote, also where an observer is killed. By a list of hosts a gateway is answered, and another one with its
+# numbers is refused. It takes some fifteen seconds, leaves nothing behind, and ends with status
 # 1 at any difference.
 #
 #   checks/gate.sh               the programs are those of crates/*/out/, or the files that NOPAXOS, HOSTS and GATE name
@@ -90,6 +91,34 @@ def odd():
     for half in halves: half.socket.sendall(spelled('ECHO', 'abc')[-4:])
     same('halves at last', [half.reply() for half in halves], ['abc'] * 50)
 
+def alone():
+    user = User()
+    for words in ('GETAT k', 'GETAT k k', 'GETAT ' + 'k' * 65, 'GET k'): same(words, user.ask(*words.split()), None if words == 'GET k' else '-ERR')
+
+def reads(observer):
+    user, other, reader = User(), User(), User()
+    same('a read of no key', user.ask('GETAT', 'none'), None)
+    for words in (('GETAT', ''), ('GETAT',), ('GETAT', 'k' * 65), ('GETAT', 'r', 'r')): same(words, user.ask(*words), '-ERR')
+    same('a read of no bytes', [user.ask('SET', 'r', ''), user.ask('GETAT', 'r')], ['+OK', ''])
+    seen = 0
+    for i in range(1, 6):
+        user.socket.sendall(spelled('SET', 'r', str(i)) + spelled('GETAT', 'r') + spelled('GETAT', 'none'))
+        same('its own put', [user.reply() for _ in range(3)], ['+OK', str(i), None])
+        found = int(reader.ask('GETAT', 'r') or 0)
+        same('a read of another one', seen <= found <= i, True)
+        seen = found
+    same('after a get', [other.ask('GET', 'r'), other.ask('GETAT', 'r')], ['5', '5'])
+    many = [User() for _ in range(50)]
+    for i, one in enumerate(many): one.socket.sendall(spelled('SET', 'r' + str(i), str(i)) + spelled('GETAT', 'r' + str(i)) * 3)
+    same('50 at once', [[one.reply() for _ in range(4)] for one in many], [['+OK'] + [str(i)] * 3 for i in range(50)])
+    os.kill(int(observer), signal.SIGKILL)
+    began = time.time()
+    for i in range(6, 9): same('with one observer', [user.ask('SET', 'r', str(i)), user.ask('GETAT', 'r')], ['+OK', str(i)])
+    same('reads of one who left', [one.socket.close() for one in many], [None] * 50)
+    same('after that', [other.ask('GETAT', 'r') in ('5', '6', '7', '8'), other.ask('GET', 'r')], [True, '8'])
+    took = time.time() - began
+    same(f'an observer killed: {took} s, at most 10', took <= 10, True)
+
 def fails(leader, sequencer, replica, most):
     user, other = User(), User()
     same('before', user.ask('SET', 'f', '0'), '+OK')
@@ -106,7 +135,7 @@ def fails(leader, sequencer, replica, most):
 
 def hosts(before, after):
     user = User()
-    same('by a list', [user.ask('GET', 'k'), user.ask('SET', 'k', after)], [before or None, '+OK'])
+    same('by a list', [user.ask('GET', 'k'), user.ask('SET', 'k', after), user.ask('GETAT', 'k')], [before or None, '+OK', after])
 
 globals()[sys.argv[1]](*sys.argv[2:])
 print(made, wrong, file=open(os.environ['COUNTS'], 'w'))
@@ -145,11 +174,12 @@ ends() {
 }
 
 # ---- what is not taken
-usage='usage: kv_gate LISTEN (PORT REPLICAS SEQUENCERS | LIST [--marks FOLDER]) FIRST COUNT'
+usage='usage: kv_gate LISTEN (PORT REPLICAS SEQUENCERS [--observers M] | LIST [--marks FOLDER]) FIRST COUNT'
 listen=127.0.0.1:$tcp
 for words in '' "$listen" "$listen $base 3 2 0" "$listen $base 3 2 0 0" "$listen $base 3 2 0 17" "$listen $base 3 2 4294967295 2" \
     "$listen $base 2 2 0 1" "$listen $base 3 0 0 1" "$listen 1023 3 2 0 1" "127.0.0.1 $base 3 2 0 1" "localhost:$base $base 3 2 0 1" \
-    "$listen $base 3 2 -1 1" "$listen $folder/none 0" "$listen $folder/none --marks 0 1"; do
+    "$listen $base 3 2 -1 1" "$listen $folder/none 0" "$listen $folder/none --marks 0 1" "$listen $base 3 2 --observers 5 0 1" \
+    "$listen $base 3 2 --observers x 0 1" "$listen $base 3 2 --observer 1 0 1" "$listen $base 3 2 --observers 0 1"; do
     # shellcheck disable=SC2086
     ends 2 "$usage" $words
 done
@@ -159,15 +189,20 @@ ends 2 'error line 1 rule 4' "$listen" "$folder/bad" 0 1
 
 # ---- a cluster of this machine
 for i in 0 1; do start "s$i" sequencer --id $i; done
-for i in 0 1 2; do start "r$i" node --id $i; done
+for i in 0 1 2; do start "r$i" node --id $i --observers 2; done
+for i in 0 1; do start "o$i" observer --id $i; done
 for i in 0 1; do start "ctl$i" controller --id $i; done
-are_up s0 s1 r0 r1 r2 ctl0 ctl1
-gate gate "$base" 3 2 0 2
+are_up s0 s1 r0 r1 r2 o0 o1 ctl0 ctl1
+gate alone "$base" 3 2 4 1
+users alone
+kills alone
+gate gate "$base" 3 2 --observers 2 0 2
 ends 5 '' "$listen" "$base" 3 2 2 1
 ends 5 '' "[::1]:$tcp" "$base" 3 2 0 1
 users table
 users order
 users odd
+users reads "${pids[o0]}" 2> /dev/null
 made=$((made + 1))
 memory=$(sed -n 's/^VmHWM:[^0-9]*\([0-9]*\) kB/\1/p' "/proc/${pids[gate]}/status")
 [ "${memory:-99999}" -lt 32768 ] || differs "the gateway had $memory kB of memory"
@@ -183,14 +218,15 @@ stop
     for i in 0 1 2; do echo "r$i 127.0.1.$((i + 1)):$((base + i))"; done
     echo "s0 127.0.1.1:$((base + 8))"
     echo "ctl 127.0.1.1:$((base + 12))"
+    echo "o0 127.0.1.2:$((base + 32))"
     for i in {0..15}; do echo "c$i 127.0.1.4:$((base + 16 + i))"; done
 } > "$folder/list"
 nodes_of "$at_hosts" "$folder/list"
-for name in r0 r1 r2 s0 ctl; do
+for name in r0 r1 r2 s0 ctl o0; do
     "$at_hosts" "$folder/list" "$name" > "$folder/$name" 2>&1 &
     pids[$name]=$!
 done
-are_up r0 r1 r2 s0 ctl
+are_up r0 r1 r2 s0 ctl o0
 gate gate "$folder/list" 0 3
 users hosts '' first
 kills gate

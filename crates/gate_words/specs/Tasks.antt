@@ -1,9 +1,10 @@
 -- The task that words ask for.
-use Rattle.std.specs.Prelude.{ℕ, ◌+◌, ◌-◌, ◌^◌, ◌≤◌, List, [], ◌∷◌, Option, Some, None, codes, if◌then◌else◌}
+use Rattle.std.specs.Prelude.{ℕ, ◌+◌, ◌-◌, ◌^◌, ◌≤◌, ◌==◌, length, List, [], ◌∷◌, Option, Some, None, codes, if◌then◌else◌}
 use Rattle.std.specs.Option.{option_copied}
 use Rattle.std.specs.declared.net.socket_addr.SocketAddr.{SocketAddr}
 use Rattle.oum_codec.specs.Numbers.{◌>>=◌}
 use Rattle.line_fields.specs.Fields.{is_text}
+use Rattle.nop_types.specs.declared.limits.TheConstants.{MAX_OBSERVERS}
 use Rattle.client_call.specs.declared.call.Service.{Service}
 use Rattle.host_list.specs.Addresses.{spelled_address}
 use Rattle.call_words.specs.Services.{number_in, service_of}
@@ -59,11 +60,39 @@ asked_at listen service first count = do
   s ← service
   asked listen (AtPorts s) first count
 
+-- with so many observers
+abbrev pub observed : Option Service → List ℕ → Option Service
+observed service observers = do
+  s ← service
+  n ← number_in 0 MAX_OBSERVERS observers
+  Some (record s { config = record s.config { observers = n } })
+
+-- a service on this machine, with observers
+abbrev pub of_eight : List ℕ → List ℕ → List ℕ → List ℕ → List ℕ → List ℕ → List ℕ → List ℕ → Option Asked
+of_eight listen port replicas sequencers option observers first count =
+    if is_text (codes "--observers") option
+    then asked_at listen (observed (service_of port replicas sequencers) observers) first count
+    else None
+
+-- the words after the first four
+abbrev pub observed_at : List ℕ → List ℕ → List ℕ → List ℕ → List (List ℕ) → Option Asked
+observed_at listen port replicas sequencers (option ∷ observers ∷ first ∷ count ∷ []) =
+    of_eight listen port replicas sequencers option observers first count
+observed_at listen port replicas sequencers words = None
+
+-- eight words behind the program's name
+abbrev pub observed_task : List (List ℕ) → Option Asked
+observed_task (program ∷ listen ∷ port ∷ replicas ∷ sequencers ∷ rest) = observed_at listen port replicas sequencers rest
+observed_task words = None
+
 -- six words behind the program's name, or four
-abbrev pub task_of : List (List ℕ) → Option Asked
-task_of (program ∷ listen ∷ a ∷ b ∷ c ∷ first ∷ count ∷ []) =
+abbrev pub plain_task : List (List ℕ) → Option Asked
+plain_task (program ∷ listen ∷ a ∷ b ∷ c ∷ first ∷ count ∷ []) =
     if is_text (codes "--marks") b
     then asked listen (AtHosts a (Some c)) first count
     else asked_at listen (service_of a b c) first count
-task_of (program ∷ listen ∷ list ∷ first ∷ count ∷ []) = asked listen (AtHosts list None) first count
-task_of words = None
+plain_task (program ∷ listen ∷ list ∷ first ∷ count ∷ []) = asked listen (AtHosts list None) first count
+plain_task words = None
+
+abbrev pub task_of : List (List ℕ) → Option Asked
+task_of words = if length words == 9 then observed_task words else plain_task words

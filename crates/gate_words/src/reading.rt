@@ -1,13 +1,17 @@
 //! The task that words ask for.
 
 ghost use Rattle.std.specs.Prelude.{◌≡◌, None, Some, IfSome, option_map, map, string_bytes};
-ghost use Rattle.gate_words.specs.Tasks.{AreBelow, AtHosts, asked, asked_at, ends_of, numbers_of, seen, task_of};
+ghost use Rattle.gate_words.specs.Tasks.{AreBelow, AtHosts, asked, asked_at, ends_of, numbers_of, observed};
+ghost use Rattle.gate_words.specs.Tasks.{observed_at, observed_task, of_eight, plain_task, seen};
+ghost use Rattle.gate_words.specs.Tasks.{task_of};
 ghost use Rattle.call_words.specs.Services.{service_of};
 
 use crate::task::{MAX_NUMBERS, Numbers, Site, Task};
 use call_words::{number_in, service_of};
+use client_call::Service;
 use host_list::spelled_address;
 use line_fields::is_word;
+use nop_types::{Config, MAX_OBSERVERS};
 use std::net::SocketAddr;
 
 fn numbers_of(first: &[u8], count: &[u8]) -> Option<Numbers>
@@ -32,6 +36,41 @@ fn ends_of(listen: &str, first: &str, count: &str) -> Option<(SocketAddr, Number
     Some((address, numbers))
 }
 
+/// The service, with so many observers.
+fn with_observers(service: Service, observers: &[u8]) -> Option<Service>
+    ensures { result ≡ observed (Some service) observers.now }
+{
+    let observers = number_in(0, u64::from(MAX_OBSERVERS), observers)?;
+    let config = service.config;
+    match Config::new(
+        config.replicas(),
+        config.sequencers(),
+        config.clients(),
+        config.controllers(),
+        observers as u8,
+    ) {
+        Some(config) => Some(Service {
+            base: service.base,
+            config,
+        }),
+        None => None,
+    }
+}
+
+/// A task of this service on this machine.
+fn at_ports<'a>(listen: &str, service: Service, first: &str, count: &str) -> Option<Task<'a>>
+    ensures task { option_map seen result
+        ≡ asked_at listen.now (Some service) first.now count.now }
+    ensures below { IfSome result (λ task. AreBelow task.numbers) }
+{
+    let (listen, numbers) = ends_of(listen, first, count)?;
+    Some(Task {
+        listen,
+        site: Site::Near(service),
+        numbers,
+    })
+}
+
 /// A task of a service on this machine.
 fn near<'a>(
     listen: &str,
@@ -46,12 +85,27 @@ fn near<'a>(
     ensures below { IfSome result (λ task. AreBelow task.numbers) }
 {
     let service = service_of(port.as_bytes(), replicas.as_bytes(), sequencers.as_bytes())?;
-    let (listen, numbers) = ends_of(listen, first, count)?;
-    Some(Task {
-        listen,
-        site: Site::Near(service),
-        numbers,
-    })
+    at_ports(listen, service, first, count)
+}
+
+/// A task of a service on this machine, with so many observers.
+fn near_observed<'a>(
+    listen: &str,
+    port: &str,
+    replicas: &str,
+    sequencers: &str,
+    observers: &str,
+    first: &str,
+    count: &str,
+) -> Option<Task<'a>>
+    ensures task { option_map seen result ≡ asked_at listen.now
+        (observed (service_of port.now replicas.now sequencers.now) observers.now) first.now
+        count.now }
+    ensures below { IfSome result (λ task. AreBelow task.numbers) }
+{
+    let service = service_of(port.as_bytes(), replicas.as_bytes(), sequencers.as_bytes())?;
+    let service = with_observers(service, observers.as_bytes())?;
+    at_ports(listen, service, first, count)
 }
 
 /// A task of a service where a list of hosts says, with a folder of marks.
@@ -91,9 +145,75 @@ fn listed<'a>(listen: &str, list: &'a str, first: &str, count: &str) -> Option<T
     })
 }
 
-/// The task that words ask for; the first one is the program's name.
-pub fn task_of(words: &[String]) -> Option<Task<'_>>
-    ensures task { option_map seen result ≡ task_of (map string_bytes words.now) }
+/// A task of eight words.
+fn of_eight<'a>(
+    listen: &str,
+    port: &str,
+    replicas: &str,
+    sequencers: &str,
+    option: &str,
+    observers: &str,
+    first: &str,
+    count: &str,
+) -> Option<Task<'a>>
+    ensures task { option_map seen result ≡ of_eight listen.now port.now replicas.now
+        sequencers.now option.now observers.now first.now count.now }
+    ensures below { IfSome result (λ task. AreBelow task.numbers) }
+{
+    if is_word(option.as_bytes(), "--observers") {
+        near_observed(listen, port, replicas, sequencers, observers, first, count)
+    } else {
+        None
+    }
+}
+
+/// A task of eight words: those after the first four.
+fn observed_at<'a>(
+    listen: &str,
+    port: &str,
+    replicas: &str,
+    sequencers: &str,
+    rest: &[String],
+) -> Option<Task<'a>>
+    ensures task { option_map seen result ≡ observed_at listen.now port.now replicas.now
+        sequencers.now (map string_bytes rest.now) }
+    ensures below { IfSome result (λ task. AreBelow task.numbers) }
+{
+    let [option, observers, first, count] = rest else {
+        return None;
+    };
+    of_eight(
+        listen,
+        port,
+        replicas,
+        sequencers,
+        option.as_str(),
+        observers.as_str(),
+        first.as_str(),
+        count.as_str(),
+    )
+}
+
+/// A task of eight words behind the program's name.
+fn observed_task<'a>(words: &[String]) -> Option<Task<'a>>
+    ensures task { option_map seen result ≡ observed_task (map string_bytes words.now) }
+    ensures below { IfSome result (λ task. AreBelow task.numbers) }
+{
+    let [_, listen, port, replicas, sequencers, rest @ ..] = words else {
+        return None;
+    };
+    observed_at(
+        listen.as_str(),
+        port.as_str(),
+        replicas.as_str(),
+        sequencers.as_str(),
+        rest,
+    )
+}
+
+/// A task of six words behind the program's name, or of four.
+fn plain_task(words: &[String]) -> Option<Task<'_>>
+    ensures task { option_map seen result ≡ plain_task (map string_bytes words.now) }
     ensures below { IfSome result (λ task. AreBelow task.numbers) }
 {
     if let [_, listen, list, first, count] = words {
@@ -113,5 +233,17 @@ pub fn task_of(words: &[String]) -> Option<Task<'_>>
         marked(listen, a, c, first, count)
     } else {
         near(listen, a, b, c, first, count)
+    }
+}
+
+/// The task that words ask for; the first one is the program's name.
+pub fn task_of(words: &[String]) -> Option<Task<'_>>
+    ensures task { option_map seen result ≡ task_of (map string_bytes words.now) }
+    ensures below { IfSome result (λ task. AreBelow task.numbers) }
+{
+    if words.len() == 9 {
+        observed_task(words)
+    } else {
+        plain_task(words)
     }
 }

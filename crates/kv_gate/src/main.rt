@@ -1,7 +1,9 @@
 //! The program `kv_gate`: a gateway to the key-value store, for users who speak the protocol of Redis (RESP 2).
 //!
-//!     kv_gate LISTEN PORT REPLICAS SEQUENCERS FIRST COUNT       the nodes are on this machine
-//!     kv_gate LISTEN LIST [--marks FOLDER] FIRST COUNT          they are where a list of hosts says
+//!     kv_gate LISTEN PORT REPLICAS SEQUENCERS [--observers M] FIRST COUNT
+//!         the nodes are on this machine
+//!     kv_gate LISTEN LIST [--marks FOLDER] FIRST COUNT
+//!         they are where a list of hosts says
 //!
 //!     kv_gate 127.0.0.1:6379 47000 3 2 4 2
 //!     redis-cli set k v                                         OK
