@@ -5,8 +5,8 @@
 //! It claims no number, so it may be ended and started again at any time, as long as that observer does not run. What comes from an
 //! address outside the list is dropped.
 //!
-//! Proved is what `watching::watch_cluster` promises of the watch, since it is called as it is, that the place is that of an observer of
-//! the list (`observer_in`), and that `main` is safe and ends. That files and sockets are what they should be is tested only, by
+//! Proved is what `host_watch` says of the watch, that the place is that of an observer of the list (`observer_in`), and that `main` is
+//! safe and ends. That files and sockets are what they should be is tested only, by
 //! `checks/watch.sh`.
 //!
 //! Files: `place` (the observer), `running`. Definitions: `specs/Places`.
