@@ -1,0 +1,15 @@
+use Rattle.std.proofs.Common.{◌≡◌, ◌++◌, map}
+use Rattle.std.specs.Vec.Iter.{into_iter_items, into_iter_len}
+use Rattle.service_load.specs.Loads.{HasRoom}
+use Rattle.service_load.proofs.loading.detach_all.Given as goal
+
+abbrev pub invariant-loop-lane : goal.invariant-loop-lane
+invariant-loop-lane g l = record {
+  detached : g.P.Ports.detached l.ports ++ map (λ x. x.link) (into_iter_items l.rest)
+      ≡ g.P.Ports.detached l.fn.ports ++ map (λ x. x.link) l.fn.lanes.items;
+  attached : g.P.Ports.attached l.ports ≡ g.P.Ports.attached l.fn.ports;
+  room : HasRoom (g.P.Ports.attached l.ports) (g.P.Ports.detached l.ports) (into_iter_items l.rest);
+}
+
+abbrev pub decreases-loop-lane : goal.decreases-loop-lane
+decreases-loop-lane g l = into_iter_len l.rest
