@@ -5,13 +5,8 @@
 #
 #   checks/calls.sh              the nodes are those of crates/nopaxos/out/nopaxos, or of the file that NOPAXOS names; KV names the tool
 . "$(dirname "$0")/common.bash" || exit 2
-needs "${NOPAXOS:-}" nopaxos -- replay
-nopaxos=$program
-needs "${KV:-}" kv -- --version
-
 . checks/nodes.bash
-finds_ports
-nodes_of "$nopaxos" --replicas 3 --sequencers 1 --base "$base"
+kv_cluster
 
 # ends STATUS WANTED ARGUMENTS..: the program ends with this status, and writes what is wanted.
 ends() {

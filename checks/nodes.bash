@@ -9,6 +9,16 @@ nodes_of() {
     site="${*:2}"
 }
 
+# kv_cluster, in scripts of checks/: $program is the tool `kv`, or the file that KV names. The nodes are those of $nopaxos, `nopaxos` or the
+# file that NOPAXOS names, from $base on: three replicas, and one sequencer.
+kv_cluster() {
+    needs "${NOPAXOS:-}" nopaxos -- replay
+    nopaxos=$program
+    needs "${KV:-}" kv -- --version
+    finds_ports
+    nodes_of "$nopaxos" --replicas 3 --sequencers 1 --base "$base"
+}
+
 # start NAME WORDS..: a node. What it writes goes to the file of its name.
 start() {
     local name=$1

@@ -1,17 +1,22 @@
 #!/bin/bash
-# Runs `kv`, the key-value store in words, on a cluster of real processes: each op, the lines of an input as one client, and forty wrong
-# calls, each with the reason that docs/FORMATS.md has for it. It takes a few seconds, leaves nothing behind, and ends with status 1 at any
-# difference.
+# Runs `kv`, the key-value store in words, and `locks`, the lock service, on clusters of real processes: each op, the lines of an input as one
+# client, the state that is shown, and some fifty wrong calls, each with the reason that docs/FORMATS.md has for it; then over a list of
+# hosts, on addresses 127.0.1.1 to 127.0.1.4. It takes some twenty seconds, leaves nothing behind, and ends with status 1 at any difference.
 #
-#   checks/tool.sh               the nodes are those of crates/nopaxos/out/nopaxos, or of the file that NOPAXOS names; KV names the tool
+#   checks/tool.sh               the nodes are those of crates/nopaxos/out/nopaxos, or of the file that NOPAXOS names; likewise
+#                                lock_service and LOCKS, nopaxos_hosts and HOSTS; KV and LOCK_TOOL name the tools
 . "$(dirname "$0")/common.bash" || exit 2
-needs "${NOPAXOS:-}" nopaxos -- replay
-nopaxos=$program
-needs "${KV:-}" kv -- --version
+needs "${LOCKS:-}" lock_service -- replay
+lock_service=$program
+needs "${HOSTS:-}" nopaxos_hosts
+nopaxos_hosts=$program
+needs "${LOCK_TOOL:-}" locks -- --version
+locks=$program
+digits='\(0\|[1-9][0-9]*\)'
 
 . checks/nodes.bash
-finds_ports
-nodes_of "$nopaxos" --replicas 3 --sequencers 1 --base "$base"
+kv_cluster
+kv=$program
 
 # ends STATUS WANTED TOLD ARGUMENTS..: the program ends with this status, writes what is wanted, and tells this on standard error.
 ends() {
@@ -29,7 +34,23 @@ ends() {
 refuses() {
     local told=$1
     shift
-    ends 2 '' "kv: $told" "$@"
+    ends 2 '' "${program##*/}: $told" "$@"
+}
+
+# shows LEAST WORDS..: one state of the service is shown, with at least this length.
+shows() {
+    local least=$1 status
+    shift
+    made=$((made + 1))
+    timeout 60 "$program" "$@" status > "$folder/out" 2> "$folder/err"
+    status=$?
+    read -r _ view _ _ leader _ _ _ synced _ < <(tail -n 1 "$folder/out")
+    if [ "$status" != 0 ] || [ -s "$folder/err" ] || ! tail -n 1 "$folder/out" |
+        grep -qx "view $digits $digits leader r[0-2] controller ctl synced $digits rate $digits age $digits"; then
+        differs "'$* status': status $status, '$(head -c 300 "$folder/out")', and on standard error '$(head -c 300 "$folder/err")'"
+    elif [ "$leader" != "r$((view % 3))" ] || [ "$synced" -lt "$least" ]; then
+        differs "'$* status' shows '$(tail -n 1 "$folder/out")'"
+    fi
 }
 
 # called ID WANTED OP..: a new client is answered so.
@@ -43,9 +64,10 @@ called() {
 : > "$folder/input"
 site="--replicas 3 --sequencers 1 --base $base"
 start s0 sequencer --id 0
-for i in 0 1 2; do start "r$i" node --id $i; done
+for i in 0 1 2; do start "r$i" node --id $i --observers 2; done
 start ctl controller --id 0
-are_up s0 r0 r1 r2 ctl
+start o0 observer --id 0
+are_up s0 r0 r1 r2 ctl o0
 
 called 0 none put k v
 called 1 '=v' get k
@@ -69,8 +91,40 @@ timeout 60 "$program" $site --id 6 repl < "$folder/input" > "$folder/out" 2>&1
 ends 2 '=499' 'kv: want at most 4294967295 lines of at most 4096 bytes' $site --id 7 repl
 : > "$folder/input"
 
+# The state, at the place of an observer that does not run, and of one that does.
+# shellcheck disable=SC2086
+shows 507 $site --observer 1
+# shellcheck disable=SC2086
+ends 5 '' "kv: the observer's port is in use: take another one by --observer" $site status
+# Replicas tell observers 0 and 1 only.
+# shellcheck disable=SC2086
+ends 7 '' 'kv: no leader told anything. Is the service up, and does it know of this observer?' $site --observer 2 --turns 200 status
+
+# A load: all its ops are answered, and the last value of a key is one of the load's.
+made=$((made + 1))
+# shellcheck disable=SC2086
+timeout 60 "$program" $site --id 16 load 4 2000 > "$folder/out" 2> "$folder/err"
+status=$?
+[ "$status" = 0 ] && grep -qx "answered 2000 of 2000 rate $digits p50 $digits p99 $digits" "$folder/out" &&
+    ! grep -qvx "kv: answered $digits of 2000 rate $digits" "$folder/err" ||
+    differs "a load: status $status, '$(head -c 300 "$folder/out")', and on standard error '$(head -c 300 "$folder/err")'"
+called 20 '=4' get load-d
+# shellcheck disable=SC2086
+shows 2508 $site --observer 1
+refuses "load: want load CLIENTS OPS" load
+refuses "load: want load CLIENTS OPS" --id 20 load 4
+refuses "0: want 1 to 16 clients" --id 20 load 0 100
+refuses "17: want 1 to 16 clients" --id 20 load 17 100
+refuses "0: want 1 to 1000000000 ops" --id 20 load 4 0
+refuses "1000000001: want 1 to 1000000000 ops" --id 20 load 4 1000000001
+refuses "more: want no further word" --id 20 load 4 100 more
+refuses "want --id and a client number that was never used before" load 4 100
+ends 2 '' 'kv: want client numbers up to 4294967295' --id 4294967295 load 2 100
+
 # What is asked for on the words themselves.
-made=$((made + 3))
+made=$((made + 5))
+[ "$("$program" load --help | grep -c '^  load CLIENTS OPS: ')" = 1 ] || differs "no help on loads"
+[ "$("$program" status --help | grep -c '^  status: ')" = 1 ] || differs "no help on status"
 "$program" --help | grep -q '^  put KEY VALUE: ' || differs "no help"
 "$program" --help | grep -q '^  --hosts FILE: ' || differs "no help on options"
 [ "$("$program" put --help | grep -c '^  ')" = 1 ] || differs "no help on one word"
@@ -79,7 +133,7 @@ ends 0 5000016b000176 '' op put k v
 ends 0 'put k v' '' text 5000016b000176
 ends 0 '=v' '' result 3d76
 
-command='want a command: an op, repl, op, text or result'
+command='want a command: an op, repl, status, load, op, text or result'
 no_op='no op of this service, and no command: see --help'
 put='  put KEY VALUE: sets a key; gives its value before, as =VALUE or none'
 get='  get KEY: gives the value of a key, as =VALUE or none'
@@ -117,6 +171,10 @@ $swap" swap k v
 refuses "$id" put k v
 refuses "$id" repl
 refuses "more: want no further word" --id 7 repl more
+refuses "more: want no further word" status more
+refuses "4: want the number of an observer from 0 to 3" --observer 4 status
+refuses "o0: want the number of an observer from 0 to 3" --observer o0 status
+refuses "--observer: want a value behind this option" --observer
 refuses "--bas: no such option: see --help" --bas 47000 get k
 refuses "--id: want a value behind this option" --id
 refuses "--hosts: want a value behind this option" --hosts
@@ -141,9 +199,77 @@ printf '%s\n' 'cluster 1' 'r0 127.0.0.1:4001' 's0 127.0.0.1:4002' 'ctl 127.0.0.1
 ends 2 '' 'kv: the list of hosts has no place for this client number' --hosts "$folder/hosts" --id 7 get k
 ends 2 '' 'kv: want op WORDS, text OP or result RESULT, by an op of this service' text 47
 
+ends 2 '' 'kv: the list of hosts has no place for this observer' --hosts "$folder/hosts" status
+
 # Sequencer 0 holds its port, which is that of client 0 of a service 8 ports below.
 ends 5 '' "kv: the client's port is in use, or its number was used before: take one that never was" --base $((base - 8)) --id 0 get k
 # Nobody is at these ports.
 ends 7 '' 'kv: no answer in its turns; the op may still be executed. Is the service up, and the number one that was never used?' \
     --base $((base + 64)) --id 0 --turns 20 get k
+stop
+
+# ---- the lock service
+program=$locks
+nodes_of "$lock_service" --replicas 3 --sequencers 1 --base "$base"
+site="--replicas 3 --sequencers 1 --base $base"
+start s0 sequencer --id 0
+for i in 0 1 2; do start "r$i" node --id $i --observers 1; done
+start ctl controller --id 0
+are_up s0 r0 r1 r2 ctl
+called 0 'granted 1' acquire db ann
+called 1 'held 1 ann' acquire db bob
+called 2 'held 1 ann' inspect db
+called 3 released release db ann 1
+printf '%s\n' 'acquire db bob' 'inspect db' 'release db bob 2' 'inspect db' > "$folder/input"
+# shellcheck disable=SC2086
+ends 0 $'granted 2\nheld 2 bob\nreleased\nfree' '' $site --id 4 repl
+: > "$folder/input"
+made=$((made + 1))
+# shellcheck disable=SC2086
+timeout 60 "$program" $site --id 16 load 2 500 > "$folder/out" 2> "$folder/err"
+grep -qx "answered 500 of 500 rate $digits p50 $digits p99 $digits" "$folder/out" ||
+    differs "a load on locks: '$(head -c 300 "$folder/out")', and on standard error '$(head -c 300 "$folder/err")'"
+# shellcheck disable=SC2086
+shows 508 $site
+refuses "0: want 1 to 16 clients" --id 20 load 0 100
+refuses "put: $no_op" put k v
+refuses "acquire: $no_op
+  acquire NAME OWNER: takes a lock; gives granted with its token, or held with who holds it" acquire db
+refuses "release: $no_op
+  release NAME OWNER TOKEN: gives a lock back, by the token of its grant" release db ann x
+refuses "more: want no further word" status more
+refuses "$id" inspect db
+stop
+
+# ---- a list of hosts
+program=$kv
+hosts=$folder/hosts
+{
+    echo 'cluster 7'
+    echo "r0 127.0.1.1:$base"
+    echo "s0 127.0.1.1:$((base + 8))"
+    echo "ctl 127.0.1.1:$((base + 12))"
+    echo "r1 127.0.1.2:$((base + 1))"
+    echo "r2 127.0.1.3:$((base + 2))"
+    for ((i = 0; i < 8; i++)); do echo "c$i 127.0.1.4:$((base + 16 + i))"; done
+    echo "o0 127.0.1.4:$((base + 32))"
+} > "$hosts"
+nodes_of "$nopaxos_hosts"
+site=
+for name in r0 r1 r2 s0; do start "$name" "$hosts" "$name"; done
+start ctl "$hosts" ctl --install 0
+are_up r0 r1 r2 s0 ctl
+site="--hosts $hosts"
+called 0 none put k v
+called 1 '=v' get k
+printf '%s\n' 'put a 1' 'get a' > "$folder/input"
+ends 0 $'none\n=1' '' --hosts "$hosts" --id 2 repl
+: > "$folder/input"
+# A number that was used before is refused.
+ends 5 '' "kv: the client's port is in use, or its number was used before: take one that never was" --hosts "$hosts" --id 0 get k
+# Any number of times, since no number is claimed.
+shows 4 --hosts "$hosts"
+shows 4 --hosts "$hosts"
+ends 2 '' 'kv: the list of hosts has no place for this observer' --hosts "$hosts" --observer 1 status
+ends 2 '' 'kv: the list of hosts has no place for this client number' --hosts "$hosts" --id 8 get k
 concludes

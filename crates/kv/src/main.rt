@@ -36,5 +36,11 @@ fn main(rt: HostRuntime) -> ExitCode {
             about: "sets a key to NEW where its value is OLD; gives yes or no",
         },
     ];
-    run_tool::<KvText>(&rt, "kv", &rows)
+    let load: &[&[&str]] = &[
+        &["put", "load-a", "1"],
+        &["put", "load-b", "2"],
+        &["put", "load-c", "3"],
+        &["put", "load-d", "4"],
+    ];
+    run_tool::<KvText>(&rt, "kv", &rows, load)
 }

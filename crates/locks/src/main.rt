@@ -31,5 +31,6 @@ fn main(rt: HostRuntime) -> ExitCode {
             about: "tells who holds a lock",
         },
     ];
-    run_tool::<LockText>(&rt, "locks", &rows)
+    let load: &[&[&str]] = &[&["inspect", "load-a"], &["inspect", "load-b"]];
+    run_tool::<LockText>(&rt, "locks", &rows, load)
 }

@@ -12,7 +12,8 @@ use Rattle.service_tool.specs.Outputs.{Outputs}
 use Rattle.service_tool.specs.Repl.{AreAnswers, MoreAnswers, NoAnswers, TakesOp, WroteAnswers}
 use Rattle.service_tool.specs.Running.{DoesIn}
 use Rattle.service_tool.specs.declared.asked.Command.{Command}
-use Rattle.service_tool.specs.declared.asked.Command.TheVariants.{Help, Version, Execute, Repl, Turn}
+use Rattle.service_tool.specs.declared.asked.Command.TheVariants as commands
+use Rattle.service_tool.specs.declared.asked.Command.TheVariants.{Help, Version, Execute, Repl, Load, Turn}
 use Rattle.service_tool.specs.declared.status.Status.{Status}
 use Rattle.service_tool.specs.declared.telling.Tool.{Tool}
 
@@ -71,6 +72,8 @@ did_none op_of result_words program s Repl with_slot o e (Ok status) h =
     wrote_none op_of result_words s.config s.number with_slot o.out o.now_out h.1.1
 did_none op_of result_words program s (Help at) with_slot o e (Ok status) h = h.1.1
 did_none op_of result_words program s Version with_slot o e (Ok status) h = h.1.1
+did_none op_of result_words program s commands.Status with_slot o e (Ok status) h = h.1.1
+did_none op_of result_words program s (Load clients ops) with_slot o e (Ok status) h = h.1.1
 did_none op_of result_words program s (Turn at) with_slot o e (Ok status) h = h.1.1
 did_none op_of result_words program s command with_slot o e (Err x) h = tt
 

@@ -7,3 +7,4 @@ pub mod Repl
 pub mod Running
 pub mod Statuses
 pub mod Telling
+pub mod Watched

@@ -1,12 +1,14 @@
 -- What the options before a command say.
-use Rattle.std.specs.Prelude.{ℕ, ◌+◌, List, [], ◌∷◌, Bool, true, false, Option, Some, None, Result, Ok, Err, codes, nat_le, ◌==◌, ◌&&◌, ◌||◌}
+use Rattle.std.specs.Prelude.{ℕ, ◌+◌, ◌-◌, List, [], ◌∷◌, Bool, true, false, Option, Some, None, Result, Ok, Err, codes, ◌==◌, ◌&&◌, ◌||◌}
 use Rattle.std.specs.Prelude.{if◌then◌else◌}
-use Rattle.nop_types.specs.declared.limits.TheConstants.{MAX_SEQUENCERS}
-use Rattle.line_fields.specs.Fields.{is_text, number_of}
+use Rattle.nop_types.specs.declared.limits.TheConstants.{MAX_OBSERVERS, MAX_SEQUENCERS}
+use Rattle.line_fields.specs.Fields.{is_text}
+use Rattle.call_words.specs.Services.{number_in}
 use Rattle.service_tool.specs.declared.options.Options.{Options}
 use Rattle.service_tool.specs.declared.reason.Fault.{Fault}
 use Rattle.service_tool.specs.declared.reason.Reason.{Reason}
-use Rattle.service_tool.specs.declared.reason.Reason.TheVariants.{UnknownOption, NoValue, BadBase, BadReplicas, BadSequencers, BadId, BadTurns}
+use Rattle.service_tool.specs.declared.reason.Reason.TheVariants.{UnknownOption, NoValue, BadBase, BadReplicas, BadSequencers}
+use Rattle.service_tool.specs.declared.reason.Reason.TheVariants.{BadId, BadObserver, BadTurns}
 
 -- without options
 abbrev pub opening : Options
@@ -16,6 +18,7 @@ opening = record {
   sequencers = 2;
   hosts = None;
   id = None;
+  observer = 0;
   turns = 10000;
   slot = false;
   help = false;
@@ -37,17 +40,6 @@ with_flag o word =
     if is_text (codes "--slot") word then record o { slot = true }
     else if is_text (codes "--help") word then record o { help = true }
     else record o { version = true }
-
--- the number, if it is in the range
-abbrev pub in_range : ℕ → ℕ → ℕ → Option ℕ
-in_range least most n = if nat_le least n && nat_le n most then Some n else None
-
-abbrev pub in_range_of : ℕ → ℕ → Option ℕ → Option ℕ
-in_range_of least most None = None
-in_range_of least most (Some n) = in_range least most n
-
-abbrev pub number_in : ℕ → ℕ → List ℕ → Option ℕ
-number_in least most word = in_range_of least most (number_of word)
 
 abbrev pub has_replicas : ℕ → Bool
 has_replicas n = n == 1 || (n == 3 || (n == 5 || n == 7))
@@ -74,6 +66,10 @@ abbrev pub turns_in : Options → Option ℕ → Result Options Reason
 turns_in o None = Err BadTurns
 turns_in o (Some n) = Ok (record o { turns = n })
 
+abbrev pub observer_in : Options → Option ℕ → Result Options Reason
+observer_in o None = Err BadObserver
+observer_in o (Some n) = Ok (record o { observer = n })
+
 -- where the service is
 abbrev pub with_site : Options → List ℕ → List ℕ → Result Options Reason
 with_site o word value =
@@ -82,11 +78,12 @@ with_site o word value =
     else if is_text (codes "--sequencers") word then sequencers_in o (number_in 1 MAX_SEQUENCERS value)
     else Err UnknownOption
 
--- who calls it
+-- who calls it, or looks at it
 abbrev pub with_number : Options → List ℕ → List ℕ → Result Options Reason
 with_number o word value =
     if is_text (codes "--id") word then id_in o (number_in 0 4294967295 value)
     else if is_text (codes "--turns") word then turns_in o (number_in 1 18446744073709551615 value)
+    else if is_text (codes "--observer") word then observer_in o (number_in 0 (MAX_OBSERVERS - 1) value)
     else with_site o word value
 
 -- an option that is none is at fault itself, else its value is

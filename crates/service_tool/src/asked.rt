@@ -2,12 +2,13 @@
 
 ghost use Rattle.std.specs.Prelude.{◌≡◌, ◌+◌, ◌<◌, ◌^◌, IfOk, length};
 ghost use Rattle.service_tool.specs.Asked.{asked_by, asked_of, command_of, is_turned, needs_id};
-ghost use Rattle.service_tool.specs.Asked.{ends_in_help, one_word, op_command};
+ghost use Rattle.service_tool.specs.Asked.{ends_in_help, load_command, load_of, one_word, op_command};
 
 use crate::options::{Options, options_in};
 use crate::reason::{Fault, Reason};
+use call_words::number_in;
 use line_fields::is_word;
-use nop_types::{Bytes, NoMemory, Op};
+use nop_types::{Bytes, MAX_CLIENTS, NoMemory, Op};
 use op_text::OpText;
 use std::alloc::Global;
 
@@ -21,6 +22,10 @@ pub enum Command {
     Execute(Op),
     /// Each line of the input is an op, and is executed.
     Repl,
+    /// A state of the service is shown, as an observer sees it.
+    Status,
+    /// Through so many client numbers from the own one on, so many ops are executed.
+    Load(u32, u64),
     /// The words from this index on are turned: an op into bytes, or bytes into words.
     Turn(usize),
 }
@@ -49,17 +54,55 @@ fn ends_in_help(words: &[Bytes]) -> bool
     }
 }
 
-/// The command `repl`, which is one word.
-fn one_word(at: usize, words: &[Bytes]) -> Result<Command, Fault>
+/// A command that is one word.
+fn one_word(at: usize, words: &[Bytes], command: Command) -> Result<Command, Fault>
     requires { at + length words.now < 2 ^ 64 }
-    ensures { result ≡ one_word at words.now }
+    ensures { result ≡ one_word at words.now command }
 {
     match words {
         [_, _, ..] => Err(Fault {
             reason: Reason::ExtraWord,
             at: at + 1,
         }),
-        _ => Ok(Command::Repl),
+        _ => Ok(command),
+    }
+}
+
+/// So many ops through so many clients.
+fn load_of(at: usize, clients: &[u8], ops: &[u8]) -> Result<Command, Fault>
+    requires { at + 2 < 2 ^ 64 }
+    ensures { result ≡ load_of at clients.now ops.now }
+{
+    let Some(clients) = number_in(1, u64::from(MAX_CLIENTS), clients) else {
+        return Err(Fault {
+            reason: Reason::BadClients,
+            at: at + 1,
+        });
+    };
+    match number_in(1, 1_000_000_000, ops) {
+        Some(ops) => Ok(Command::Load(clients as u32, ops)),
+        None => Err(Fault {
+            reason: Reason::BadOps,
+            at: at + 2,
+        }),
+    }
+}
+
+/// The command `load`, with its two words.
+fn load_command(at: usize, words: &[Bytes]) -> Result<Command, Fault>
+    requires { at + length words.now < 2 ^ 64 }
+    ensures { result ≡ load_command at words.now }
+{
+    match words {
+        [_, clients, ops] => load_of(at, clients.as_slice(), ops.as_slice()),
+        [_, _, _, _, ..] => Err(Fault {
+            reason: Reason::ExtraWord,
+            at: at + 3,
+        }),
+        _ => Err(Fault {
+            reason: Reason::NoLoad,
+            at,
+        }),
     }
 }
 
@@ -91,7 +134,13 @@ fn command_of<T: OpText>(
         }));
     };
     if is_word(word.as_slice(), "repl") {
-        return Ok(one_word(at, words));
+        return Ok(one_word(at, words, Command::Repl));
+    }
+    if is_word(word.as_slice(), "status") {
+        return Ok(one_word(at, words, Command::Status));
+    }
+    if is_word(word.as_slice(), "load") {
+        return Ok(load_command(at, words));
     }
     if is_turned(word.as_slice()) {
         return Ok(Ok(Command::Turn(at)));
@@ -104,10 +153,12 @@ fn needs_id(options: Options, count: usize, command: Command) -> Result<Asked, F
     ensures { result ≡ needs_id options count command }
 {
     match command {
-        Command::Execute(_) | Command::Repl if options.id.is_none() => Err(Fault {
-            reason: Reason::NoId,
-            at: count,
-        }),
+        Command::Execute(_) | Command::Repl | Command::Load(..) if options.id.is_none() => Err(
+            Fault {
+                reason: Reason::NoId,
+                at: count,
+            },
+        ),
         _ => Ok(Asked { options, command }),
     }
 }

@@ -3,6 +3,8 @@
 //!     kv --id 7 put k v              none
 //!     kv --id 8 --slot get k         slot 3, =v
 //!     kv --id 9 repl < ops           the results of the ops of all lines, as they come
+//!     kv status                      who leads, and how far the service is
+//!     kv --id 16 load 16 100000      a load, its rate and times
 //!
 //! A program brings an `OpText` and a `Tool`, its name and its words. What it writes on standard
 //! output are results; why there is none, and what would be right, it tells on standard error.
@@ -13,13 +15,15 @@
 //! `run_command`: for an op that the lines of the answer of f + 1 replicas to the request with this
 //! op are written, or why there are none is told, with which status; for `repl` that such lines are
 //! written, one answer behind another, and nothing else; that the client's port is given back; that
-//! an error comes exactly where a write failed, and ReadFault only where a read did. That `repl` takes
-//! all lines of its input, in order, is tested only (`checks/tool.sh`).
+//! an error comes exactly where a write failed, and ReadFault only where a read did. Of `tell_watch`:
+//! what is told of a watch that ended, with which status, exactly (`specs/Watched`). That `repl` takes
+//! all lines of its input, in order, is tested only (`checks/tool.sh`); what `status` shows is said
+//! at the head of `watching`, what `load` does at that of `service_load`.
 //!
-//! Calls, for `tool_program`: `told` and `run_command`, with `Tool` and `Row`. Files: `options`,
-//! `asked`, `reason` (the words), `telling` (texts), `status`, `calling` and `repl` (ops), `running`.
-//! Definitions: `specs/Options`, `Asked`, `Reasons`, `Telling`; `Outputs`, `Statuses`, `Calls`,
-//! `Repl`, `Running`.
+//! Calls, for `tool_program`: `told`, `run_command` and `tell_watch`, with `Tool` and `Row`. Files:
+//! `options`, `asked`, `reason` (the words), `telling` (texts), `status`, `calling` and `repl` (ops),
+//! `running`, `watched`. Definitions: `specs/Options`, `Asked`, `Reasons`, `Telling`; `Outputs`,
+//! `Statuses`, `Calls`, `Repl`, `Running`, `Watched`.
 #![tactic(auto)]
 
 mod asked;
@@ -30,6 +34,7 @@ mod repl;
 mod running;
 mod status;
 mod telling;
+mod watched;
 
 pub use asked::{Asked, Command, asked_of};
 pub use options::Options;
@@ -37,3 +42,4 @@ pub use reason::{Fault, Reason};
 pub use running::{run_command, told};
 pub use status::Status;
 pub use telling::{Row, Tool};
+pub use watched::tell_watch;

@@ -1,13 +1,14 @@
 //! The options before the command.
 
-ghost use Rattle.std.specs.Prelude.{◌≡◌, ◌+◌, ◌<◌, ◌≤◌, ◌^◌, length, IfOk, IfSome};
-ghost use Rattle.service_tool.specs.Options.{is_flag, is_option, number_in, opening, options_in};
+ghost use Rattle.std.specs.Prelude.{◌≡◌, ◌+◌, ◌<◌, ◌≤◌, ◌^◌, length, IfOk};
+ghost use Rattle.service_tool.specs.Options.{is_flag, is_option, opening, options_in};
 ghost use Rattle.service_tool.specs.Options.{has_replicas, with_flag};
 ghost use Rattle.service_tool.specs.Options.{with_number, with_site, with_value};
 
 use crate::reason::{Fault, Reason};
-use line_fields::{is_word, number};
-use nop_types::{Bytes, MAX_SEQUENCERS};
+use call_words::number_in;
+use line_fields::is_word;
+use nop_types::{Bytes, MAX_OBSERVERS, MAX_SEQUENCERS};
 
 /// What the options say.
 #[derive(Clone, Copy, Debug, PartialEq, Eq)]
@@ -20,6 +21,8 @@ pub struct Options {
     pub hosts: Option<usize>,
     /// The client's number.
     pub id: Option<u32>,
+    /// The observer at whose place a state is awaited.
+    pub observer: u8,
     /// The most turns of an op.
     pub turns: u64,
     /// Whether the slot of an op is written too.
@@ -38,6 +41,7 @@ fn opening() -> Options
         sequencers: 2,
         hosts: None,
         id: None,
+        observer: 0,
         turns: 10_000,
         slot: false,
         help: false,
@@ -83,19 +87,6 @@ fn with_flag(options: Options, word: &[u8]) -> Options
     }
 }
 
-/// A number from `least` to `most`.
-fn number_in(least: u64, most: u64, word: &[u8]) -> Option<u64>
-    ensures number { result ≡ number_in least most word.now }
-    ensures limit { IfSome result (λ n. n ≤ most) }
-{
-    let n = number(word)?;
-    if least <= n && n <= most {
-        Some(n)
-    } else {
-        None
-    }
-}
-
 fn has_replicas(n: u64) -> bool
     ensures { result ≡ has_replicas n }
 {
@@ -135,7 +126,7 @@ fn with_site(options: Options, word: &[u8], value: &[u8]) -> Result<Options, Rea
     }
 }
 
-/// The options of a client, with a value.
+/// The options of who asks, with a value.
 fn with_number(options: Options, word: &[u8], value: &[u8]) -> Result<Options, Reason>
     ensures { result ≡ with_number options word.now value.now }
 {
@@ -154,6 +145,14 @@ fn with_number(options: Options, word: &[u8], value: &[u8]) -> Result<Options, R
                 ..options
             }),
             None => Err(Reason::BadTurns),
+        }
+    } else if is_word(word, "--observer") {
+        match number_in(0, u64::from(MAX_OBSERVERS) - 1, value) {
+            Some(n) => Ok(Options {
+                observer: n as u8,
+                ..options
+            }),
+            None => Err(Reason::BadObserver),
         }
     } else {
         with_site(options, word, value)

@@ -16,8 +16,13 @@ pub enum Reason {
     BadSequencers,
     BadId,
     BadTurns,
+    BadObserver,
     /// No client number was given.
     NoId,
+    /// The words of a load are missing.
+    NoLoad,
+    BadClients,
+    BadOps,
     /// The words are no op of the service, and no command.
     BadOp,
     /// A word follows where none may.
@@ -39,7 +44,7 @@ impl Reason {
         ensures { result.now ≡ text_of self }
     {
         match self {
-            Reason::NoCommand => "want a command: an op, repl, op, text or result",
+            Reason::NoCommand => "want a command: an op, repl, status, load, op, text or result",
             Reason::UnknownOption => "no such option: see --help",
             Reason::NoValue => "want a value behind this option",
             Reason::BadBase => "want a port from 1024 to 65000",
@@ -47,7 +52,11 @@ impl Reason {
             Reason::BadSequencers => "want 1 to 4 sequencers",
             Reason::BadId => "want a client number from 0 to 4294967295",
             Reason::BadTurns => "want a number of turns from 1 to 18446744073709551615",
+            Reason::BadObserver => "want the number of an observer from 0 to 3",
             Reason::NoId => "want --id and a client number that was never used before",
+            Reason::NoLoad => "want load CLIENTS OPS",
+            Reason::BadClients => "want 1 to 16 clients",
+            Reason::BadOps => "want 1 to 1000000000 ops",
             Reason::BadOp => "no op of this service, and no command: see --help",
             Reason::ExtraWord => "want no further word",
             Reason::LongInput => "want at most 4294967295 lines of at most 4096 bytes",

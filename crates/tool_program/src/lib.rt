@@ -5,10 +5,13 @@
 //! `service_tool`; that the devices are what they should be, and that a list of hosts is read from its
 //! file, is tested only (`checks/tool.sh`).
 //!
-//! Calls: `run_tool`. Files: `program`; `rows`, the commands and options that each tool has.
+//! Calls: `run_tool`. Files: `program`; `load`, with `clock`; `saying`; `rows`, the commands and options that each tool has.
 #![tactic(auto)]
 
+mod clock;
+mod load;
 mod program;
 mod rows;
+mod saying;
 
 pub use program::run_tool;

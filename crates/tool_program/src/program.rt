@@ -1,44 +1,28 @@
 //! The program of a tool: its words, and its devices.
 
+use crate::load;
+use crate::load::load_over;
 use crate::rows::all_rows;
+use crate::saying::{status_of, tell};
 use client_call::Service;
 use host_list::HostList;
 use host_places::{address_in, own_of, places_of};
-use nop_types::{Actor, Bytes, Config, MAX_CONTROLLERS, NoMemory};
+use host_watch::watch_at;
+use nop_types::{Actor, Bytes, Config, MAX_CONTROLLERS, MAX_OBSERVERS, NoMemory};
 use op_text::{OpText, Words};
 use outside::{WriteError, WriteMem, write_all};
-use service_tool::{Asked, Command, Row, Status, Tool, run_command, told};
+use roll_call::Roll;
+use service_tool::{Asked, Command, Options, Row, Status, Tool, run_command, tell_watch, told};
 use standard_io::{StandardIn, StandardOut};
 use std::fs;
 use std::io::ErrorKind;
 use std::process::ExitCode;
-use udp_node::BasePort;
+use udp_node::{Address, BasePort};
 use udp_ports::{Home, SystemClock, UdpPorts};
+use watching::{WatchError, watch_cluster};
 
-/// Tells a reason on standard error.
-fn tell(rt: &HostRuntime, tool: &Tool<'_>, reason: &str, status: Status) -> Status {
-    let mut err = StandardOut::new(rt.stderr());
-    let program = tool.program;
-    match format!(in rt.alloc(); "{program}: {reason}\n") {
-        Ok(text) => match write_all(&mut err, text.as_str().as_bytes()) {
-            Ok(()) => status,
-            Err(_) => Status::WriteFault,
-        },
-        Err(_) => Status::NoMemory,
-    }
-}
-
-/// The status of a command that was done, or of a write that failed.
-fn status_of(ended: Result<Status, WriteError>) -> Status {
-    match ended {
-        Ok(status) => status,
-        Err(WriteError::Failed) => Status::WriteFault,
-        Err(WriteError::NoMemory) => Status::NoMemory,
-    }
-}
-
-/// Runs a command over ports, as this client.
-fn run_over<T: OpText>(
+/// Submits ops over ports, as this client.
+fn call_over<T: OpText>(
     rt: &HostRuntime,
     tool: &Tool<'_>,
     service: &Service,
@@ -64,8 +48,8 @@ fn run_over<T: OpText>(
     ))
 }
 
-/// Runs a command on this machine, at the ports of a service.
-fn run_here<T: OpText>(rt: &HostRuntime, tool: &Tool<'_>, number: u32, asked: &Asked) -> Status {
+/// Submits ops on this machine, at the ports of a service.
+fn call_here<T: OpText>(rt: &HostRuntime, tool: &Tool<'_>, asked: &Asked, number: u32) -> Status {
     let options = asked.options;
     let config = Config::new(options.replicas, options.sequencers, 1, MAX_CONTROLLERS, 0);
     let (Some(base), Some(config)) = (BasePort::new(options.base), config) else {
@@ -73,16 +57,16 @@ fn run_here<T: OpText>(rt: &HostRuntime, tool: &Tool<'_>, number: u32, asked: &A
     };
     let service = Service { base, config };
     let mut ports = UdpPorts::new(rt, rt.alloc());
-    run_over::<T>(rt, tool, &service, number, asked, &mut ports)
+    call_over::<T>(rt, tool, &service, number, asked, &mut ports)
 }
 
-/// Runs a command as a client of a list of hosts.
-fn run_in<T: OpText>(
+/// Submits ops as a client of a list of hosts.
+fn call_in<T: OpText>(
     rt: &HostRuntime,
     tool: &Tool<'_>,
     list: &HostList,
-    number: u32,
     asked: &Asked,
+    number: u32,
 ) -> Status {
     let own = Actor::Client(number);
     if list.address_of(own).is_none() {
@@ -112,7 +96,80 @@ fn run_in<T: OpText>(
         config: at.config,
     };
     let mut ports = UdpPorts::at_hosts(rt, rt.alloc(), &homes);
-    run_over::<T>(rt, tool, &service, number, asked, &mut ports)
+    call_over::<T>(rt, tool, &service, number, asked, &mut ports)
+}
+
+/// Puts a load on a service on this machine.
+fn load_here<T: OpText>(
+    rt: &HostRuntime,
+    tool: &Tool<'_>,
+    load: &[&[&str]],
+    options: Options,
+    asked: load::Asked,
+) -> Status {
+    let config = Config::new(options.replicas, options.sequencers, 1, MAX_CONTROLLERS, 0);
+    let (Some(base), Some(config)) = (BasePort::new(options.base), config) else {
+        return Status::Usage;
+    };
+    let service = Service { base, config };
+    let mut ports = UdpPorts::new(rt, rt.alloc());
+    load_over::<T>(rt, tool, load, &service, asked, &mut ports)
+}
+
+/// One state, in the turns of the options.
+fn one_state(options: Options) -> watching::Asked {
+    watching::Asked {
+        once: true,
+        redraws: false,
+        turns: options.turns,
+    }
+}
+
+/// Tells how a watch ended, where no state was shown.
+fn ended(rt: &HostRuntime, tool: &Tool<'_>, ended: Result<bool, WatchError>) -> Status {
+    let mut err = StandardOut::new(rt.stderr());
+    status_of(tell_watch(rt.alloc(), tool, ended, &mut err))
+}
+
+/// Shows the state of a service on this machine.
+fn show_here(rt: &HostRuntime, tool: &Tool<'_>, options: Options) -> Status {
+    let config = Config::new(
+        options.replicas,
+        options.sequencers,
+        1,
+        MAX_CONTROLLERS,
+        MAX_OBSERVERS,
+    );
+    let (Some(base), Some(config)) = (BasePort::new(options.base), config) else {
+        return Status::Usage;
+    };
+    let own = Actor::Observer(options.observer);
+    let at = Address { base, own, config };
+    let shown = watch_cluster(
+        rt.alloc(),
+        config,
+        at.port_of(own),
+        one_state(options),
+        Roll::none(rt.alloc()),
+        &mut UdpPorts::new(rt, rt.alloc()),
+        &mut SystemClock::new(rt),
+        &mut StandardOut::new(std::io::writer(rt)),
+    );
+    ended(rt, tool, shown)
+}
+
+/// Shows the state of a service of a list of hosts.
+fn show_in(rt: &HostRuntime, tool: &Tool<'_>, list: &HostList, options: Options) -> Status {
+    let own = Actor::Observer(options.observer);
+    if list.address_of(own).is_none() {
+        return tell(
+            rt,
+            tool,
+            "the list of hosts has no place for this observer",
+            Status::Usage,
+        );
+    }
+    ended(rt, tool, watch_at(rt, list, own, one_state(options)))
 }
 
 /// The text of a word that names a file.
@@ -121,33 +178,31 @@ fn name_at(words: &[Bytes], at: usize) -> Option<&str> {
     std::str::from_utf8(word.as_slice()).ok()
 }
 
-/// Runs a command as a client of the list in a file.
-fn run_listed<T: OpText>(
+/// The list of hosts in the file that a word names. Where there is none, why is told.
+fn list_at(
     rt: &HostRuntime,
     tool: &Tool<'_>,
     words: &[Bytes],
     at: usize,
-    number: u32,
-    asked: &Asked,
-) -> Status {
+) -> Result<HostList, Status> {
     let Some(name) = name_at(words, at) else {
-        return tell(rt, tool, "want a file name behind --hosts", Status::Usage);
+        return Err(tell(rt, tool, "want a file name behind --hosts", Status::Usage));
     };
     let Ok(text) = fs::read(rt, name) else {
-        return tell(
+        return Err(tell(
             rt,
             tool,
             "the file of the list of hosts can't be read",
             Status::ReadFault,
-        );
+        ));
     };
     match host_list::read(&text) {
-        Ok(list) => run_in::<T>(rt, tool, &list, number, asked),
+        Ok(list) => Ok(list),
         Err(refusal) => {
             let (line, rule) = (refusal.line, refusal.rule.number());
             match format!(in rt.alloc(); "the list of hosts breaks rule {rule} at line {line}") {
-                Ok(reason) => tell(rt, tool, reason.as_str(), Status::Usage),
-                Err(_) => Status::NoMemory,
+                Ok(reason) => Err(tell(rt, tool, reason.as_str(), Status::Usage)),
+                Err(_) => Err(Status::NoMemory),
             }
         }
     }
@@ -183,10 +238,44 @@ fn turn<T: OpText>(
     }
 }
 
+/// Does what is asked for at the ports of this machine.
+fn run_here<T: OpText>(
+    rt: &HostRuntime,
+    tool: &Tool<'_>,
+    load: &[&[&str]],
+    asked: &Asked,
+) -> Status {
+    match (&asked.command, asked.options.id) {
+        (Command::Load(clients, ops), Some(first)) => {
+            let loading = load::Asked {
+                first,
+                clients: *clients,
+                ops: *ops,
+                patience: asked.options.turns,
+            };
+            load_here::<T>(rt, tool, load, asked.options, loading)
+        }
+        (Command::Status, _) => show_here(rt, tool, asked.options),
+        (_, Some(number)) => call_here::<T>(rt, tool, asked, number),
+        (_, None) => Status::Usage,
+    }
+}
+
+/// Does what is asked for at the places of a list of hosts.
+fn run_in<T: OpText>(rt: &HostRuntime, tool: &Tool<'_>, list: &HostList, asked: &Asked) -> Status {
+    match (&asked.command, asked.options.id) {
+        (Command::Load(..), _) => tell(rt, tool, "load takes no --hosts", Status::Usage),
+        (Command::Status, _) => show_in(rt, tool, list, asked.options),
+        (_, Some(number)) => call_in::<T>(rt, tool, list, asked, number),
+        (_, None) => Status::Usage,
+    }
+}
+
 /// Does what is asked for.
 fn run_asked<T: OpText>(
     rt: &HostRuntime,
     tool: &Tool<'_>,
+    load: &[&[&str]],
     words: &[Bytes],
     asked: &Asked,
 ) -> Status {
@@ -194,22 +283,29 @@ fn run_asked<T: OpText>(
         let (_options, turned) = words.split_at(at.min(words.len()));
         return status_of(turn::<T>(rt, tool, turned));
     }
-    match (asked.options.id, asked.options.hosts) {
-        (None, _) => Status::Usage,
-        (Some(number), None) => run_here::<T>(rt, tool, number, asked),
-        (Some(number), Some(at)) => run_listed::<T>(rt, tool, words, at, number, asked),
+    match asked.options.hosts {
+        None => run_here::<T>(rt, tool, load, asked),
+        Some(at) => match list_at(rt, tool, words, at) {
+            Ok(list) => run_in::<T>(rt, tool, &list, asked),
+            Err(status) => status,
+        },
     }
 }
 
 /// Does what the words ask for, but for the first one, which is the program's name.
-fn run_words<T: OpText>(rt: &HostRuntime, tool: &Tool<'_>, words: &[String]) -> Status {
+fn run_words<T: OpText>(
+    rt: &HostRuntime,
+    tool: &Tool<'_>,
+    load: &[&[&str]],
+    words: &[String],
+) -> Status {
     let Ok(words) = Words::of_arguments(rt.alloc(), words) else {
         return Status::NoMemory;
     };
     let mut out = StandardOut::new(std::io::writer(rt));
     let mut err = StandardOut::new(rt.stderr());
     match told::<T, _, _>(rt.alloc(), tool, words.as_slice(), &mut out, &mut err) {
-        Ok(Ok(asked)) => run_asked::<T>(rt, tool, words.as_slice(), &asked),
+        Ok(Ok(asked)) => run_asked::<T>(rt, tool, load, words.as_slice(), &asked),
         Ok(Err(status)) => status,
         Err(WriteError::Failed) => Status::WriteFault,
         Err(WriteError::NoMemory) => Status::NoMemory,
@@ -232,8 +328,13 @@ fn words_in(rt: &HostRuntime, tool: &Tool<'_>) -> Result<Vec<String>, Status> {
 }
 
 /// The program of a tool, whose rows are the ops of a service: does what the command line asks for,
-/// and ends with its status.
-pub fn run_tool<T: OpText>(rt: &HostRuntime, program: &str, ops: &[Row<'_>]) -> ExitCode {
+/// and ends with its status. A load consists of the ops of these words, at least one.
+pub fn run_tool<T: OpText>(
+    rt: &HostRuntime,
+    program: &str,
+    ops: &[Row<'_>],
+    load: &[&[&str]],
+) -> ExitCode {
     let Ok(rows) = all_rows(rt.alloc(), ops) else {
         return ExitCode::from(Status::NoMemory as u8);
     };
@@ -242,7 +343,7 @@ pub fn run_tool<T: OpText>(rt: &HostRuntime, program: &str, ops: &[Row<'_>]) -> 
         rows: &rows,
     };
     let status = match words_in(rt, &tool) {
-        Ok(words) => run_words::<T>(rt, &tool, &words),
+        Ok(words) => run_words::<T>(rt, &tool, load, &words),
         Err(status) => status,
     };
     ExitCode::from(status as u8)

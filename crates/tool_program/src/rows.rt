@@ -12,6 +12,16 @@ const COMMON: &[Row<'static>] = &[
         about: "has the ops of the lines of standard input executed, as one client",
     },
     Row {
+        word: "status",
+        form: "status",
+        about: "tells who leads, and how far the log is synchronised, as an observer is told",
+    },
+    Row {
+        word: "load",
+        form: "load CLIENTS OPS",
+        about: "puts so many ops through so many client numbers from --id on; gives their rate",
+    },
+    Row {
         word: "op",
         form: "op WORDS",
         about: "gives the bytes of an op, in hexadecimal; no service is asked",
@@ -54,7 +64,12 @@ const COMMON: &[Row<'static>] = &[
     Row {
         word: "--turns",
         form: "--turns N",
-        about: "the most turns of each op, about a millisecond each, 10000 if left out",
+        about: "the most turns of each op and of status, about a millisecond each, 10000 if left out",
+    },
+    Row {
+        word: "--observer",
+        form: "--observer N",
+        about: "the observer at whose place status listens, 0 to 3, 0 if left out",
     },
     Row {
         word: "--slot",
