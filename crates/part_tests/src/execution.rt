@@ -1,13 +1,15 @@
 ghost use Rattle.std.specs.Prelude.{◌≡◌};
+ghost use Rattle.nop_types.specs.Logs.{Trimmed, length_of};
 ghost use Rattle.nop_types.specs.Ranges.{EntryFits, LogFits};
 ghost use Rattle.executor.specs.Running.{reached};
 ghost use Rattle.executor.specs.Undoing.{HasExecuted};
 
+use crate::checking::{check, check_row};
 use crate::logs::full_log;
 use crate::requests::{is_expected, request};
 use executor::{Executor, checkpoint_loads};
 use kv_host::KvHost;
-use nop_types::{Answered, Bytes, Checkpoint, Entry, Host, MAX_SLOTS};
+use nop_types::{Answered, Bytes, Checkpoint, Entry, Host, MAX_SLOTS, SavedClient};
 use replica_log::ReplicaLog;
 use std::alloc::Global;
 use std::process::Abort;
@@ -59,24 +61,47 @@ fn log_of_slots(rt: &impl Abort, alloc: Global) -> ReplicaLog
     log
 }
 
+/// Executes a log without a checkpoint up to a slot.
+fn started<H: Host>(rt: &impl Abort, alloc: Global, log: &ReplicaLog, slot: u32) -> Executor<H>
+    ensures point { log.now.sync_point ≡ 0 }
+    ensures reached { reached result ≡ slot }
+    ensures run { HasExecuted H.state H.meaning H.undo_of log.now result }
+{
+    assert!(rt; log.sync_point() == 0 && log.checkpoint().is_none() && slot <= log.len());
+    let mut executor: Executor<H> = Executor::new(alloc).expect(rt, "memory");
+    executor.run_to(log, slot).expect(rt, "memory");
+    executor
+}
+
+/// The executor has this result of a request, or none.
+fn has_result<H: Host>(
+    executor: &Executor<H>,
+    client: u32,
+    id: u64,
+    expected: Option<&[u8]>,
+) -> bool {
+    is_expected(executor.result(client, id), expected)
+}
+
 /// Executes a log without a checkpoint, undoes it down to slot 1, and executes it again.
 fn executed_again<H: Host>(rt: &impl Abort, alloc: Global, log: &ReplicaLog) -> Executor<H>
     ensures { HasExecuted H.state H.meaning H.undo_of log.now result }
 {
-    assert!(rt; log.sync_point() == 0 && log.checkpoint().is_none());
-    let mut executor: Executor<H> = Executor::new(alloc).expect(rt, "memory");
-    executor.run_to(log, log.len()).expect(rt, "memory");
+    let mut executor: Executor<H> = started(rt, alloc, log, log.len());
     assert!(rt; executor.reached() >= 1);
     executor.rewind(log, 1);
-    assert!(rt; executor.reached() == 1 && executor.result(2, 1).is_none());
+    check(
+        rt,
+        has_result(&executor, 2, 1, None),
+        "no result of client 2",
+    );
     executor.run_to(log, log.len()).expect(rt, "memory");
     executor
 }
 
 fn check_answers<H: Host>(rt: &impl Abort, executor: &Executor<H>) {
     for (row, (client, id, expected)) in RESULTS.iter().enumerate() {
-        let answer = executor.result(*client, *id);
-        assert!(rt; is_expected(answer, *expected), "row {row}");
+        check_row(rt, has_result(executor, *client, *id, *expected), row);
     }
 }
 
@@ -95,9 +120,9 @@ fn executed_and_undone(rt: HostRuntime) {
 fn check_full<H: Host>(rt: &impl Abort, alloc: Global) {
     let log = full_log(rt, alloc);
     let executor: Executor<H> = executed_again(rt, alloc, &log);
-    assert!(rt; executor.reached() == log.len());
-    let answer = executor.result(7, MAX_SLOTS as u64);
-    assert!(rt; is_expected(answer, Some(b"bad")));
+    check(rt, executor.reached() == log.len(), "the whole log");
+    let last = has_result(&executor, 7, MAX_SLOTS as u64, Some(b"bad"));
+    check(rt, last, "the last answer");
 }
 
 #[test]
@@ -125,30 +150,34 @@ const IN_ONE_WINDOW: [u64; 9] = [3, 1, 8, 2, 7, 4, 6, 5, 16];
 fn have_results<H: Host>(executor: &Executor<H>, count: usize) -> bool {
     for (place, id) in IN_ONE_WINDOW.iter().enumerate() {
         let expected: Option<&[u8]> = if place < count { Some(b"none") } else { None };
-        if !is_expected(executor.result(7, *id), expected) {
+        if !has_result(executor, 7, *id, expected) {
             return false;
         }
     }
     true
 }
 
-/// Results that left the window come back where what drove them out is undone.
-fn check_one_window<H: Host>(rt: &impl Abort, alloc: Global) {
+fn log_of_one_window(rt: &impl Abort, alloc: Global) -> ReplicaLog {
     let mut log = ReplicaLog::new(alloc);
     for id in &IN_ONE_WINDOW {
         assert!(rt; log.has_room());
         log.append(entry(rt, alloc, 7, *id, b"G\0\x01k"))
             .expect(rt, "memory");
     }
-    assert!(rt; log.sync_point() == 0 && log.checkpoint().is_none() && log.len() == 9);
-    let mut executor: Executor<H> = Executor::new(alloc).expect(rt, "memory");
-    executor.run_to(&log, 9).expect(rt, "memory");
-    assert!(rt; executor.result(7, 8).is_none());
-    assert!(rt; is_expected(executor.result(7, 16), Some(b"none")));
+    log
+}
+
+/// Results that left the window come back where what drove them out is undone.
+fn check_one_window<H: Host>(rt: &impl Abort, alloc: Global) {
+    let log = log_of_one_window(rt, alloc);
+    check(rt, log.len() == 9, "nine slots");
+    let mut executor: Executor<H> = started(rt, alloc, &log, 9);
+    check(rt, has_result(&executor, 7, 8, None), "8 left the window");
+    check(rt, has_result(&executor, 7, 16, Some(b"none")), "16 came");
     executor.rewind(&log, 8);
-    assert!(rt; have_results(&executor, 8));
+    check(rt, have_results(&executor, 8), "the first eight");
     executor.rewind(&log, 3);
-    assert!(rt; have_results(&executor, 3));
+    check(rt, have_results(&executor, 3), "the first three");
 }
 
 #[test]
@@ -188,10 +217,25 @@ fn log_of_many_clients(rt: &impl Abort, alloc: Global) -> ReplicaLog
 
 fn check_after_the_first<H: Host>(rt: &impl Abort, executor: &Executor<H>) {
     for (row, (client, id, _op, expected)) in AFTER_THE_FIRST.iter().enumerate() {
-        let answer = executor.result(*client, *id);
-        assert!(rt; is_expected(answer, *expected), "row {row}");
+        check_row(rt, has_result(executor, *client, *id, *expected), row);
     }
-    assert!(rt; is_expected(executor.result(2, 1), Some(b"none")));
+    check(rt, has_result(executor, 2, 1, Some(b"none")), "client 2");
+}
+
+/// The log begins with a checkpoint of all 256 clients, from which it is executed.
+fn check_from_there<H: Host>(
+    rt: &impl Abort,
+    alloc: Global,
+    log: &ReplicaLog,
+    executor: &mut Executor<H>,
+) {
+    let saved = log.checkpoint().expect(rt, "a checkpoint");
+    check(rt, saved.clients().len() == 256, "all clients");
+    assert!(rt; checkpoint_loads::<H>(alloc, Some(saved)).expect(rt, "memory"));
+    executor.restart(log).expect(rt, "memory");
+    assert!(rt; executor.reached() == 263 && log.len() == 265);
+    executor.run_to(log, 265).expect(rt, "memory");
+    check_after_the_first(rt, executor);
 }
 
 /// A request of the 257th client is not executed, nor is its next one; a served client's next one is. So it is from a checkpoint on that
@@ -203,13 +247,7 @@ fn check_many_clients<H: Host>(rt: &impl Abort, alloc: Global) {
     assert!(rt; log.sync_point() == 0 && log.len() == 265 && executor.reached() == 265);
     executor.rewind(&log, 263);
     trim(rt, &mut log, &mut executor);
-    let saved = log.checkpoint().expect(rt, "a checkpoint");
-    assert!(rt; saved.clients().len() == 256);
-    assert!(rt; checkpoint_loads::<H>(alloc, Some(saved)).expect(rt, "memory"));
-    executor.restart(&log).expect(rt, "memory");
-    assert!(rt; executor.reached() == 263 && log.len() == 265);
-    executor.run_to(&log, 265).expect(rt, "memory");
-    check_after_the_first(rt, &executor);
+    check_from_there(rt, alloc, &log, &mut executor);
 }
 
 #[test]
@@ -240,24 +278,51 @@ fn are_kept(kept: &[Answered], expected: &[(u64, &[u8])]) -> bool {
     true
 }
 
+fn check_client(rt: &impl Abort, saved: &SavedClient, expected: InCheckpoint) {
+    let same = saved.client == expected.0 && saved.greatest == expected.1;
+    assert!(rt;
+        same && are_kept(&saved.kept, expected.2),
+        "client {}",
+        saved.client
+    );
+}
+
+fn check_clients(rt: &impl Abort, clients: &[SavedClient]) {
+    check(rt, clients.len() == IN_THE_CHECKPOINT.len(), "clients");
+    for (saved, expected) in clients.iter().zip(&IN_THE_CHECKPOINT) {
+        check_client(rt, saved, *expected);
+    }
+}
+
 fn check_checkpoint<H: Host>(rt: &impl Abort, alloc: Global) {
     let log = log_of_slots(rt, alloc);
     let executor: Executor<H> = executed_again(rt, alloc, &log);
     let checkpoint = executor.checkpoint().expect(rt, "memory");
-    assert!(rt; checkpoint.clients().len() == IN_THE_CHECKPOINT.len());
-    for (saved, expected) in checkpoint.clients().iter().zip(&IN_THE_CHECKPOINT) {
-        assert!(rt; saved.client == expected.0 && saved.greatest == expected.1);
-        assert!(rt;
-            are_kept(&saved.kept, expected.2),
-            "client {}",
-            saved.client
-        );
-    }
+    check_clients(rt, checkpoint.clients());
 }
 
 #[test]
 fn an_execution_has_a_checkpoint(rt: HostRuntime) {
     check_checkpoint::<KvHost>(&rt, rt.alloc());
+}
+
+/// At the checkpoint of slot 5, the rest of the log is executed and undone.
+fn check_the_rest<H: Host>(rt: &impl Abort, log: &ReplicaLog, executor: &mut Executor<H>)
+    requires run { HasExecuted H.state H.meaning H.undo_of log.now executor.old }
+    ensures there { 9 ≡ length_of Trimmed log.now }
+    ensures reached { reached executor.new ≡ 5 }
+    ensures run { HasExecuted H.state H.meaning H.undo_of log.now executor.new }
+{
+    assert!(rt; log.sync_point() == 5 && log.len() == 9 && executor.reached() == 5);
+    executor.run_to(log, 9).expect(rt, "memory");
+    check_answers(rt, executor);
+    executor.rewind(log, 5);
+    check(rt, has_result(executor, 2, 1, None), "none of client 2");
+    check(
+        rt,
+        has_result(executor, 1, 10, Some(b"none")),
+        "of client 1",
+    );
 }
 
 /// The log up to slot 5 is executed, and a checkpoint is in place of its entries. The rest is executed, undone and executed
@@ -266,17 +331,14 @@ fn check_trimmed<H: Host>(rt: &impl Abort, alloc: Global) -> (ReplicaLog, Execut
     ensures { HasExecuted H.state H.meaning H.undo_of result.0 result.1 }
 {
     let mut log = log_of_slots(rt, alloc);
-    assert!(rt; log.sync_point() == 0 && log.checkpoint().is_none() && log.len() == 9);
-    let mut executor: Executor<H> = Executor::new(alloc).expect(rt, "memory");
-    executor.run_to(&log, 5).expect(rt, "memory");
+    let mut executor: Executor<H> = started(rt, alloc, &log, 5);
     trim(rt, &mut log, &mut executor);
-    assert!(rt; log.sync_point() == 5 && log.len() == 9 && executor.reached() == 5);
-    executor.run_to(&log, 9).expect(rt, "memory");
-    check_answers(rt, &executor);
-    executor.rewind(&log, 5);
-    assert!(rt; executor.reached() == 5 && executor.result(2, 1).is_none());
-    assert!(rt; is_expected(executor.result(1, 10), Some(b"none")));
-    assert!(rt; is_expected(executor.result(1, 3), Some(b"=v")));
+    check_the_rest(rt, &log, &mut executor);
+    check(
+        rt,
+        has_result(&executor, 1, 3, Some(b"=v")),
+        "an earlier id",
+    );
     executor.run_to(&log, 9).expect(rt, "memory");
     check_answers(rt, &executor);
     (log, executor)
@@ -286,14 +348,15 @@ fn check_trimmed<H: Host>(rt: &impl Abort, alloc: Global) -> (ReplicaLog, Execut
 fn check_restarted<H: Host>(rt: &impl Abort, alloc: Global) {
     let (log, mut executor) = check_trimmed::<H>(rt, alloc);
     let loads = checkpoint_loads::<H>(alloc, log.checkpoint()).expect(rt, "memory");
-    assert!(rt; loads && log.checkpoint().is_some() && log.len() == 9);
+    assert!(rt; loads && log.checkpoint().is_some());
     executor.restart(&log).expect(rt, "memory");
-    assert!(rt; executor.reached() == 5 && executor.result(2, 1).is_none());
-    assert!(rt; is_expected(executor.result(1, 10), Some(b"none")));
-    executor.run_to(&log, 9).expect(rt, "memory");
-    check_answers(rt, &executor);
-    executor.rewind(&log, 5);
-    assert!(rt; executor.reached() == 5 && executor.result(2, 1).is_none());
+    check(rt, has_result(&executor, 2, 1, None), "none of client 2");
+    check(
+        rt,
+        has_result(&executor, 1, 10, Some(b"none")),
+        "of client 1",
+    );
+    check_the_rest(rt, &log, &mut executor);
 }
 
 #[test]
@@ -309,7 +372,7 @@ fn check_what_loads<H: Host>(rt: &impl Abort, alloc: Global) {
         let host = Bytes::new(alloc, bytes).expect(rt, "memory");
         let checkpoint = Checkpoint::new(host, Vec::new(alloc)).expect(rt, "a checkpoint");
         let loads = checkpoint_loads::<H>(alloc, Some(&checkpoint)).expect(rt, "memory");
-        assert!(rt; loads == *expected, "row {row}");
+        check_row(rt, loads == *expected, row);
     }
 }
 

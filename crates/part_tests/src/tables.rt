@@ -2,7 +2,8 @@ ghost use Rattle.std.specs.Prelude.{◌≡◌, ◌&&◌};
 ghost use Rattle.nop_types.specs.declared.limits.TheConstants.{WINDOW};
 ghost use Rattle.nop_types.specs.Tables.{is_new_to, kept_for, serves};
 
-use crate::requests::{is_expected, request};
+use crate::checking::{check, check_row};
+use crate::requests::request;
 use client_table::{ClientTable, Judged};
 use nop_types::{Answered, Bytes, Checkpoint, SavedClient};
 use std::alloc::Global;
@@ -35,34 +36,51 @@ fn answer_to(rt: &impl Abort, alloc: Global, client: u32, id: u64) -> Bytes {
 
 /// Keeps the answer to a request of the client that the table takes.
 fn keep(rt: &impl Abort, alloc: Global, table: &mut ClientTable, client: u32, id: u64) {
-    assert!(rt; takes(rt, alloc, table, client, id));
+    check(rt, takes(rt, alloc, table, client, id), "it is taken");
     let answer = answer_to(rt, alloc, client, id);
     table.keep(client, id, answer).expect(rt, "memory");
 }
 
-/// Verdicts where the greatest id of client 7 is 15: ids from 8 on are new, but for that one.
+/// The table has this answer to the request.
+fn has_answer(table: &ClientTable, client: u32, id: u64, expected: &[u8]) -> bool {
+    match table.judge(client, id) {
+        Judged::Same(answer) => answer.as_slice() == expected,
+        _ => false,
+    }
+}
+
+/// A client and an id, where the greatest id of client 7 is 15 and has its answer: whether it is new,
+/// and whether it is stale. Ids from 8 on are new, but for 15.
+const VERDICTS: [(u32, u64, bool, bool); 8] = [
+    (7, 7, false, true),
+    (7, 1, false, true),
+    (7, 8, true, false),
+    (7, 14, true, false),
+    (7, 15, false, false),
+    (7, 16, true, false),
+    (6, 15, true, false),
+    (u32::MAX, u64::MAX, true, false),
+];
+
+/// Each verdict, and that the table takes what is new and nothing else.
+fn check_verdicts(rt: &impl Abort, alloc: Global, table: &ClientTable) {
+    for (row, (client, id, fresh, stale)) in VERDICTS.iter().enumerate() {
+        check_row(rt, is_fresh(table, *client, *id) == *fresh, row);
+        check_row(rt, is_stale(table, *client, *id) == *stale, row);
+        let taken = takes(rt, alloc, table, *client, *id);
+        check_row(rt, taken == *fresh, row);
+    }
+}
+
 #[test]
 fn last_answers(rt: HostRuntime) {
     let mut table = ClientTable::new(rt.alloc());
-    let Judged::Fresh = table.judge(7, 15) else {
-        panic!(rt; "not fresh")
-    };
-    assert!(rt; takes(&rt, rt.alloc(), &table, 7, 15));
+    check(&rt, is_fresh(&table, 7, 15), "15 is new");
+    check(&rt, takes(&rt, rt.alloc(), &table, 7, 15), "15 is taken");
     let answer = Bytes::new(rt.alloc(), b"=v").expect(&rt, "memory");
     table.keep(7, 15, answer).expect(&rt, "memory");
-    assert!(rt; is_stale(&table, 7, 7) && is_stale(&table, 7, 1));
-    assert!(rt; !takes(&rt, rt.alloc(), &table, 7, 7));
-    assert!(rt; is_fresh(&table, 7, 8) && is_fresh(&table, 7, 14));
-    assert!(rt; takes(&rt, rt.alloc(), &table, 7, 8));
-    assert!(rt; !takes(&rt, rt.alloc(), &table, 7, 15));
-    assert!(rt; takes(&rt, rt.alloc(), &table, 7, 16));
-    let Judged::Same(answer) = table.judge(7, 15) else {
-        panic!(rt; "not the same")
-    };
-    assert!(rt; is_expected(Some(answer), Some(b"=v")));
-    assert!(rt; is_fresh(&table, 7, 16));
-    assert!(rt; is_fresh(&table, 6, 15));
-    assert!(rt; is_fresh(&table, u32::MAX, u64::MAX));
+    check(&rt, has_answer(&table, 7, 15, b"=v"), "its answer");
+    check_verdicts(&rt, rt.alloc(), &table);
 }
 
 /// Client 0 was given the ids 2 to 8, and then 9: with that one the id 1 is eight behind.
@@ -72,13 +90,12 @@ fn ids_of_a_window(rt: HostRuntime) {
     for id in 2..9u64 {
         keep(&rt, rt.alloc(), &mut table, 0, id);
     }
-    assert!(rt; is_fresh(&table, 0, 1));
+    check(&rt, is_fresh(&table, 0, 1), "1 is new");
     keep(&rt, rt.alloc(), &mut table, 0, 9);
-    assert!(rt; is_stale(&table, 0, 1) && is_fresh(&table, 0, 10));
-    let Judged::Same(answer) = table.judge(0, 2) else {
-        panic!(rt; "not the same")
-    };
-    assert!(rt; answer.as_slice() == b"\0\0\0\0\0\0\0\0\0\0\0\x02".as_slice());
+    check(&rt, is_stale(&table, 0, 1), "1 is stale");
+    check(&rt, is_fresh(&table, 0, 10), "10 is new");
+    let expected = b"\0\0\0\0\0\0\0\0\0\0\0\x02";
+    check(&rt, has_answer(&table, 0, 2, expected), "the answer to 2");
 }
 
 /// A request that has the greatest id, which no client has here, is taken.
@@ -86,20 +103,41 @@ fn serves(rt: &impl Abort, alloc: Global, table: &ClientTable, client: u32) -> b
     takes(rt, alloc, table, client, u64::MAX)
 }
 
+/// A table in which clients 0 to 254 have an id, and client 0 another one.
+fn clients_but_one(rt: &impl Abort, alloc: Global) -> ClientTable {
+    let mut table = ClientTable::new(alloc);
+    for client in 0..255u32 {
+        keep(rt, alloc, &mut table, client, 1);
+    }
+    keep(rt, alloc, &mut table, 0, 2);
+    table
+}
+
+/// A client, and whether it is served where clients 0 to 254 and the last one are in the table.
+const SERVED: [(u32, bool); 5] = [
+    (0, true),
+    (254, true),
+    (u32::MAX, true),
+    (255, false),
+    (256, false),
+];
+
 /// With 256 clients in the table each of them is served, and no other one.
 #[test]
 fn as_many_clients_as_are_served(rt: HostRuntime) {
-    let mut table = ClientTable::new(rt.alloc());
-    for client in 0..255u32 {
-        keep(&rt, rt.alloc(), &mut table, client, 1);
-    }
-    keep(&rt, rt.alloc(), &mut table, 0, 2);
-    assert!(rt; serves(&rt, rt.alloc(), &table, 255) && serves(&rt, rt.alloc(), &table, u32::MAX));
+    let mut table = clients_but_one(&rt, rt.alloc());
+    check(&rt, serves(&rt, rt.alloc(), &table, 255), "255 is served");
+    check(
+        &rt,
+        serves(&rt, rt.alloc(), &table, u32::MAX),
+        "so is the last",
+    );
     keep(&rt, rt.alloc(), &mut table, u32::MAX, 1);
-    assert!(rt; serves(&rt, rt.alloc(), &table, 0) && serves(&rt, rt.alloc(), &table, 254));
-    assert!(rt; serves(&rt, rt.alloc(), &table, u32::MAX));
-    assert!(rt; !serves(&rt, rt.alloc(), &table, 255) && is_fresh(&table, 255, 1));
-    assert!(rt; !serves(&rt, rt.alloc(), &table, 256));
+    for (row, (client, expected)) in SERVED.iter().enumerate() {
+        let served = serves(&rt, rt.alloc(), &table, *client);
+        check_row(&rt, served == *expected, row);
+    }
+    check(&rt, is_fresh(&table, 255, 1), "an id of 255 is new");
 }
 
 /// A client with an id, as they were kept, and as they are saved: each client with its greatest id, and its ids. The id 12 drives 3 and 4 out, and 11 is kept
@@ -120,36 +158,64 @@ const SAVED: [(u32, u64, &[u64]); 3] = [
     (u32::MAX, u64::MAX, &[u64::MAX]),
 ];
 
+/// The answer is kept under this id, and tells it and the client.
+fn is_kept(rt: &impl Abort, alloc: Global, answered: &Answered, client: u32, id: u64) -> bool {
+    let answer = answer_to(rt, alloc, client, id);
+    answered.id == id && answered.result.as_slice() == answer.as_slice()
+}
+
 fn check_kept(rt: &impl Abort, alloc: Global, saved: &SavedClient, ids: &[u64]) {
-    assert!(rt; saved.kept.len() == ids.len());
+    check(rt, saved.kept.len() == ids.len(), "kept ids");
     for (answered, id) in saved.kept.iter().zip(ids) {
-        let answer = answer_to(rt, alloc, saved.client, *id);
-        assert!(rt; answered.id == *id && answered.result.as_slice() == answer.as_slice());
+        let kept = is_kept(rt, alloc, answered, saved.client, *id);
+        check(rt, kept, "a kept id");
     }
 }
 
 fn check_saved(rt: &impl Abort, alloc: Global, clients: &[SavedClient]) {
-    assert!(rt; clients.len() == SAVED.len());
+    check(rt, clients.len() == SAVED.len(), "saved clients");
     for (saved, (client, greatest, ids)) in clients.iter().zip(&SAVED) {
-        assert!(rt; saved.client == *client && saved.greatest == *greatest);
+        check(rt, saved.client == *client, "a saved client");
+        check(rt, saved.greatest == *greatest, "its greatest id");
         check_kept(rt, alloc, saved, ids);
     }
 }
 
+/// The table that the clients and ids above lead to.
+fn kept_table(rt: &impl Abort, alloc: Global) -> ClientTable {
+    let mut table = ClientTable::new(alloc);
+    for (client, id) in &KEPT {
+        keep(rt, alloc, &mut table, *client, *id);
+    }
+    table
+}
+
+/// The table that is loaded from a checkpoint which has these clients.
+fn loaded_from(rt: &impl Abort, alloc: Global, clients: Vec<SavedClient>) -> ClientTable {
+    let host = Bytes::new(alloc, b"").expect(rt, "memory");
+    let checkpoint = Checkpoint::new(host, clients).expect(rt, "a checkpoint");
+    let (_host, clients) = checkpoint.into_parts();
+    ClientTable::load(alloc, clients).expect(rt, "memory")
+}
+
+fn check_loaded(rt: &impl Abort, table: &ClientTable) {
+    check(
+        rt,
+        matches!(table.judge(9, 5), Judged::Same(_)),
+        "5 has an answer",
+    );
+    check(rt, is_fresh(table, 9, 6), "6 is new");
+    check(rt, is_stale(table, 9, 4), "4 is stale");
+    check(rt, is_fresh(table, 1, 1), "client 1 is new");
+}
+
 #[test]
 fn a_table_is_saved_and_loaded(rt: HostRuntime) {
-    let mut table = ClientTable::new(rt.alloc());
-    for (client, id) in &KEPT {
-        keep(&rt, rt.alloc(), &mut table, *client, *id);
-    }
+    let table = kept_table(&rt, rt.alloc());
     let clients = table.saved(rt.alloc()).expect(&rt, "memory");
     check_saved(&rt, rt.alloc(), &clients);
-    let host = Bytes::new(rt.alloc(), b"").expect(&rt, "memory");
-    let checkpoint = Checkpoint::new(host, clients).expect(&rt, "a checkpoint");
-    let (_host, clients) = checkpoint.into_parts();
-    let loaded = ClientTable::load(rt.alloc(), clients).expect(&rt, "memory");
-    assert!(rt; matches!(loaded.judge(9, 5), Judged::Same(_)) && is_fresh(&loaded, 9, 6));
-    assert!(rt; is_stale(&loaded, 9, 4) && is_fresh(&loaded, 1, 1));
+    let loaded = loaded_from(&rt, rt.alloc(), clients);
+    check_loaded(&rt, &loaded);
     let again = loaded.saved(rt.alloc()).expect(&rt, "memory");
     check_saved(&rt, rt.alloc(), &again);
 }
@@ -187,7 +253,7 @@ fn what_is_no_checkpoint(rt: HostRuntime) {
             clients.push(client).expect(&rt, "memory");
         }
         let made = Checkpoint::new(Bytes::from_vec(bytes), clients);
-        assert!(rt; made.is_some() == *expected, "row {row}");
+        check_row(&rt, made.is_some() == *expected, row);
     }
 }
 
@@ -217,6 +283,6 @@ fn what_a_checkpoint_keeps(rt: HostRuntime) {
         let clients = vec![in rt.alloc(); client].expect(&rt, "memory");
         let host = Bytes::new(rt.alloc(), b"").expect(&rt, "memory");
         let made = Checkpoint::new(host, clients);
-        assert!(rt; made.is_some() == *expected, "row {row}");
+        check_row(&rt, made.is_some() == *expected, row);
     }
 }

@@ -71,7 +71,7 @@ const LONG: [(u8, &[(u8, u64)], &[u8]); 17] = [
 ];
 
 /// Adds a field, which begins with its length in two bytes.
-fn put_field(rt: &impl Abort, byte: u8, len: u64, to: &mut Vec<u8>) {
+pub fn put_field(rt: &impl Abort, byte: u8, len: u64, to: &mut Vec<u8>) {
     to.push((len / 256 % 256) as u8).expect(rt, "memory");
     to.push((len % 256) as u8).expect(rt, "memory");
     for _ in 0..len {
@@ -95,8 +95,9 @@ pub fn answers<H: Host>(rt: &impl Abort, host: &mut H, op: &[u8], expected: &[u8
     answer.as_slice() == expected
 }
 
-fn check_ops<H: Host>(rt: &impl Abort, host: &mut H) {
-    for (row, (op, expected)) in OPS.iter().enumerate() {
+/// The host gives these answers to these ops, one after the other.
+pub fn check_ops<H: Host>(rt: &impl Abort, host: &mut H, ops: &[(&[u8], &[u8])]) {
+    for (row, (op, expected)) in ops.iter().enumerate() {
         assert!(rt; answers(rt, host, op, expected), "row {row}");
     }
 }
@@ -110,7 +111,7 @@ fn check_long<H: Host>(rt: &impl Abort, alloc: Global, host: &mut H) {
 
 fn check_host<H: Host>(rt: &impl Abort, alloc: Global) {
     let mut host = H::fresh(alloc).expect(rt, "memory");
-    check_ops(rt, &mut host);
+    check_ops(rt, &mut host, &OPS);
     check_long(rt, alloc, &mut host);
 }
 

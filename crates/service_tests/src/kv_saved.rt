@@ -1,4 +1,4 @@
-use crate::kv::answers;
+use crate::kv::{answers, put_field};
 use kv_host::{KvHost, MAX_KEYS};
 use nop_types::Host;
 use std::alloc::Global;
@@ -67,12 +67,12 @@ const LENGTHS: [(u64, u64, bool); 4] = [
 ];
 
 /// The host is saved as these bytes.
-fn is_saved_as<H: Host>(rt: &impl Abort, host: &H, bytes: &[u8]) -> bool {
+pub fn is_saved_as<H: Host>(rt: &impl Abort, host: &H, bytes: &[u8]) -> bool {
     host.save().expect(rt, "memory").as_slice() == bytes
 }
 
 /// The bytes load, and are saved again as they were.
-fn loads<H: Host>(rt: &impl Abort, alloc: Global, bytes: &[u8]) -> bool {
+pub fn loads<H: Host>(rt: &impl Abort, alloc: Global, bytes: &[u8]) -> bool {
     match H::load(alloc, bytes).expect(rt, "memory") {
         Some(host) => is_saved_as(rt, &host, bytes),
         None => false,
@@ -90,6 +90,10 @@ fn check_saved<H: Host>(rt: &impl Abort, alloc: Global) {
     }
 }
 
+fn check_saved_as<H: Host>(rt: &impl Abort, host: &H, bytes: &[u8]) {
+    assert!(rt; is_saved_as(rt, host, bytes));
+}
+
 /// A key is put, deleted, compared and put. Undone one by one, each state comes back that was passed.
 fn check_undone<H: Host>(rt: &impl Abort, alloc: Global) {
     let mut host = H::fresh(alloc).expect(rt, "memory");
@@ -97,15 +101,15 @@ fn check_undone<H: Host>(rt: &impl Abort, alloc: Global) {
     let (_answer, deleted) = host.apply(b"D\0\x01k").expect(rt, "memory");
     let (_answer, compared) = host.apply(b"C\0\x01k\0\x01v\0\x01w").expect(rt, "memory");
     let (_answer, again) = host.apply(b"P\0\x01k\0\x01x").expect(rt, "memory");
-    assert!(rt; is_saved_as(rt, &host, b"\0\0\0\x01\0\x01k\0\x01x"));
+    check_saved_as(rt, &host, b"\0\0\0\x01\0\x01k\0\x01x");
     host.undo(again);
-    assert!(rt; is_saved_as(rt, &host, b"\0\0\0\0"));
+    check_saved_as(rt, &host, b"\0\0\0\0");
     host.undo(compared);
-    assert!(rt; is_saved_as(rt, &host, b"\0\0\0\0"));
+    check_saved_as(rt, &host, b"\0\0\0\0");
     host.undo(deleted);
-    assert!(rt; is_saved_as(rt, &host, b"\0\0\0\x01\0\x01k\0\x01v"));
+    check_saved_as(rt, &host, b"\0\0\0\x01\0\x01k\0\x01v");
     host.undo(put);
-    assert!(rt; is_saved_as(rt, &host, b"\0\0\0\0"));
+    check_saved_as(rt, &host, b"\0\0\0\0");
 }
 
 #[test]
@@ -114,8 +118,9 @@ fn states_are_saved(rt: HostRuntime) {
     check_undone::<KvHost>(&rt, rt.alloc());
 }
 
-fn check_refused<H: Host>(rt: &impl Abort, alloc: Global) {
-    for (row, bytes) in REFUSED.iter().enumerate() {
+/// Each of these bytes is refused.
+pub fn check_refused<H: Host>(rt: &impl Abort, alloc: Global, refused: &[&[u8]]) {
+    for (row, bytes) in refused.iter().enumerate() {
         let host = H::load(alloc, bytes).expect(rt, "memory");
         assert!(rt; host.is_none(), "row {row}");
     }
@@ -123,23 +128,14 @@ fn check_refused<H: Host>(rt: &impl Abort, alloc: Global) {
 
 #[test]
 fn other_bytes_are_refused(rt: HostRuntime) {
-    check_refused::<KvHost>(&rt, rt.alloc());
-}
-
-/// Adds a field of so many bytes, which begins with its length in two bytes.
-fn put_field(rt: &impl Abort, len: u64, to: &mut Vec<u8>) {
-    to.push((len / 256 % 256) as u8).expect(rt, "memory");
-    to.push((len % 256) as u8).expect(rt, "memory");
-    for _ in 0..len {
-        to.push(b'x').expect(rt, "memory");
-    }
+    check_refused::<KvHost>(&rt, rt.alloc(), &REFUSED);
 }
 
 fn check_lengths<H: Host>(rt: &impl Abort, alloc: Global) {
     for (row, (key, value, holds)) in LENGTHS.iter().enumerate() {
         let mut bytes = Vec::from_slice(alloc, b"\0\0\0\x01").expect(rt, "memory");
-        put_field(rt, *key, &mut bytes);
-        put_field(rt, *value, &mut bytes);
+        put_field(rt, b'x', *key, &mut bytes);
+        put_field(rt, b'x', *value, &mut bytes);
         assert!(rt; loads::<H>(rt, alloc, &bytes) == *holds, "row {row}");
     }
 }

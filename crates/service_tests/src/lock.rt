@@ -1,4 +1,5 @@
-use crate::kv::answers;
+use crate::kv::{answers, check_ops};
+use crate::kv_saved::{check_refused, is_saved_as, loads};
 use lock_host::LockHost;
 use nop_types::Host;
 use std::alloc::Global;
@@ -55,16 +56,10 @@ const OPS: [(&[u8], &[u8]); 42] = [
     (b"A\x01c\x01z", b"granted\0\0\0\0\0\0\0\x06"),
 ];
 
-fn check_ops<H: Host>(rt: &impl Abort, alloc: Global) {
-    let mut host = H::fresh(alloc).expect(rt, "memory");
-    for (row, (op, expected)) in OPS.iter().enumerate() {
-        assert!(rt; answers(rt, &mut host, op, expected), "row {row}");
-    }
-}
-
 #[test]
 fn lock_ops(rt: HostRuntime) {
-    check_ops::<LockHost>(&rt, rt.alloc());
+    let mut host = LockHost::fresh(rt.alloc()).expect(&rt, "memory");
+    check_ops(&rt, &mut host, &OPS);
 }
 
 /// How long the two names of an acquire are, and whether it is granted.
@@ -162,19 +157,6 @@ const REFUSED: [&[u8]; 14] = [
     b"\xff\xff\xff\xff\xff\xff\xff\xff\xff\xff\xff\xff\xff\xff\xff\xff\0",
 ];
 
-/// The host is saved as these bytes.
-fn is_saved_as<H: Host>(rt: &impl Abort, host: &H, bytes: &[u8]) -> bool {
-    host.save().expect(rt, "memory").as_slice() == bytes
-}
-
-/// The bytes load, and are saved again as they were.
-fn loads<H: Host>(rt: &impl Abort, alloc: Global, bytes: &[u8]) -> bool {
-    match H::load(alloc, bytes).expect(rt, "memory") {
-        Some(host) => is_saved_as(rt, &host, bytes),
-        None => false,
-    }
-}
-
 /// Each op is undone and done again, and the state that they lead to is saved so.
 fn check_saved<H: Host>(rt: &impl Abort, alloc: Global) {
     for (row, (ops, bytes)) in SAVED.iter().enumerate() {
@@ -196,16 +178,9 @@ fn locks_are_saved(rt: HostRuntime) {
     check_saved::<LockHost>(&rt, rt.alloc());
 }
 
-fn check_refused<H: Host>(rt: &impl Abort, alloc: Global) {
-    for (row, bytes) in REFUSED.iter().enumerate() {
-        let host = H::load(alloc, bytes).expect(rt, "memory");
-        assert!(rt; host.is_none(), "row {row}");
-    }
-}
-
 #[test]
 fn other_bytes_are_no_locks(rt: HostRuntime) {
-    check_refused::<LockHost>(&rt, rt.alloc());
+    check_refused::<LockHost>(&rt, rt.alloc(), &REFUSED);
 }
 
 /// An acquire, by x, of the lock of a number, or a release by its token.
