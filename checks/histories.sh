@@ -10,10 +10,15 @@ nopaxos=$program
 needs "${KV_LINEARIZE:-}" kv_linearize
 kv_linearize=$program
 
-# converts FORM [--keyed]: the lines of standard input lie in out.
+# converts FORM [--keyed]: the lines of standard input lie in out, and what is said of them in counts.
 converts() {
     python3 -B examples/history.py "$@" > "$folder/out" 2> "$folder/err"
     status=$?
+    counts=
+    if [ $status = 0 ]; then
+        counts=$(cat "$folder/err")
+        : > "$folder/err"
+    fi
 }
 
 cat > "$folder/json" <<'END'
@@ -48,6 +53,9 @@ history 3 c1 2 47000178'
 for form in json edn; do
     converts $form < "$folder/$form"
     cp "$folder/out" "$folder/lines"
+    wanted='history.py: 6 operations, 0 passed over'
+    [ $form = json ] || wanted='history.py: 8 operations, 1 passed over'
+    [ "$counts" = "$wanted" ] || differs "$form: '$counts' and not '$wanted'"
     same "$form" "$status" 0 "$lines
 end"
     "$kv_linearize" < "$folder/lines" > "$folder/out" 2> "$folder/err"
@@ -60,8 +68,11 @@ end"
     same "the judge of $form" $? 0 'legal 3 2 3'
 done
 
-sed '6s/"value": 1/"value": null/' "$folder/json" | python3 -B examples/history.py json | "$kv_linearize" > "$folder/out" 2> "$folder/err"
-same 'a read that is too old' $? 8 'none part 78 line 6'
+sed '6s/"value": 1/"value": null/' "$folder/json" | python3 -B examples/history.py json 2> "$folder/err" |
+    "$kv_linearize" > "$folder/out"
+status=$?
+: > "$folder/err"
+same 'a read that is too old' $status 8 'none part 78 line 6'
 
 # a write whose ok says what was there before, one whose ok does not, a pair with a key, and a delete
 converts json --keyed <<'END'
@@ -114,10 +125,29 @@ refuses() {
     converts "${@:3}"
     same "$1" "$status" 1 "$2" err
 }
-refuses 'an end without a beginning' 'history.py: this is no history: process 0 ends an operation that it did not begin' edn \
+refuses 'an end without a beginning' 'history.py: this is no history: operation 1: process 0 ends an operation that it did not begin' edn \
     <<< '{:process 0 :type :ok :f :read :value 1}'
 refuses 'a bracket that is missing' "history.py: this is no history: '}' is missing" edn <<< '{:process 0 :type :ok'
-refuses 'an operation that nobody knows' "history.py: this is no history: there is no operation 'append'" json \
+refuses 'an operation that nobody knows' "history.py: this is no history: operation 1: there is no operation 'append'" json \
     <<< '{"process": 0, "type": "invoke", "f": "append", "value": 1}'
+refuses 'JSON as EDN' "history.py: this is no history: operation 1: 'str' object has no attribute 'get'" edn <<< '"process"'
+refuses 'a number as text' "history.py: this is no history: operation 1: the process '0' is neither a number nor a word" json \
+    <<< '{"process": "0", "type": "invoke", "f": "read"}'
+refuses 'nothing of a client' 'history.py: this is no history: no operation in it has a process with a number' edn <<< '{:process :nemesis}'
+refuses 'a long key' 'history.py: this is no history: operation 1: a key of 65 bytes; it has 1 to 64' json \
+    <<< "{\"process\": 0, \"type\": \"invoke\", \"f\": \"read\", \"key\": \"$(printf %65s | tr ' ' k)\"}"
+refuses 'a long value' 'history.py: this is no history: operation 1: a value of 257 bytes; it has 0 to 256' json \
+    <<< "{\"process\": 0, \"type\": \"invoke\", \"f\": \"write\", \"value\": \"$(printf %257s | tr ' ' v)\"}"
+refuses 'a pair that is no value' "history.py: this is no history: operation 1: ['x', 1] is no value of a register (pairs with a key in front want --keyed)" \
+    edn <<< '{:process 0 :type :invoke :f :write :value [x 1]}'
+refuses 'a comparison that failed' \
+    'history.py: this is no history: operation 2: the ok of a cas has another value than its pair; a comparison that failed is a fail' json <<'END'
+{"process": 0, "type": "invoke", "f": "cas", "value": [1, 2]}
+{"process": 0, "type": "ok", "f": "cas", "value": false}
+END
+refuses 'a line that is no JSON' 'history.py: this is no history: line 2: Expecting value: line 1 column 1 (char 0)' json <<'END'
+{"process": 0, "type": "invoke", "f": "read"}
+x
+END
 refuses 'no word' 'usage: history.py json|edn [--keyed] < HISTORY > LINES' < /dev/null
 concludes

@@ -6,8 +6,10 @@
     kv_linearize < LINES
 
 An operation has `process` (a number), `type` (`invoke`, `ok`, `fail`, `info`), `f` and `value`; other fields are passed over, and so are
-operations whose process is no number, as Jepsen's `:nemesis`. `f` is `read` or `get`, `write` or `put`, `delete`, or `cas` (its value the
-pair of the old value and the new one). The key is the field `key`, or else the first of a pair with the option `--keyed`, or else `x`.
+operations whose process is a word, as Jepsen's `:nemesis`: how many, is said on standard error. `f` is `read` or `get`, `write` or `put`,
+`delete`, or `cas` (its value the pair of the old value and the new one; its `ok` means that it was done, a comparison that failed is a
+`fail`). The key is the field `key`, or else the first of a pair with the option `--keyed`, as `jepsen.independent` has it, or else `x`. A key
+has 1 to 64 bytes, a value at most 256: write a digest in place of longer ones. No key has a value before the first operation.
 
 What a write answers here is the value before it. Where the `ok` of a write or a delete has a field `previous` (null or nil: the key was
 absent), that is its result; where it has none, a `?` stands for it: the operation has to be in the order, with any result. `info` leaves an
@@ -20,6 +22,7 @@ two slots, is executed at the first, and may have been accepted by the second. T
 import json
 import sys
 
+KEY_BYTES, VALUE_BYTES = 64, 256
 FUNCTIONS = {"read": "get", "get": "get", "write": "put", "put": "put", "delete": "delete", "cas": "cas"}
 CLIENTS = 16
 
@@ -97,35 +100,59 @@ def edn_forms(tokens, closing):
     return forms
 
 
+def json_of(number, line):
+    try:
+        return json.loads(line)
+    except ValueError as reason:
+        raise Malformed(f"line {number}: {reason}") from None
+
+
 def operations(form, text):
     """The operations of a history, as dictionaries."""
     if form == "json":
-        return [json.loads(line) for line in text.splitlines() if line.strip()]
+        return [json_of(number, line) for number, line in enumerate(text.splitlines(), 1) if line.strip()]
     forms = edn_forms(list(edn_tokens(text))[::-1], None)
     return forms[0] if len(forms) == 1 and isinstance(forms[0], list) else forms
 
 
-def field(value):
+def text_of(value):
+    """A value as text, in bytes."""
+    if isinstance(value, (list, dict)):
+        raise Malformed(f"{value} is no value of a register (pairs with a key in front want --keyed)")
+    return str(value).encode()
+
+
+def field(what, least, most, value):
     """A key or a value of an op: its length in two bytes, and its bytes."""
-    text = str(value).encode()
+    text = text_of(value)
+    if not least <= len(text) <= most:
+        raise Malformed(f"a {what} of {len(text)} bytes; it has {least} to {most}")
     return len(text).to_bytes(2, "big") + text
+
+
+def key_field(key):
+    return field("key", 1, KEY_BYTES, key)
+
+
+def value_field(value):
+    return field("value", 0, VALUE_BYTES, value)
 
 
 def op_of(function, key, value):
     """The bytes of an op."""
     if function == "get":
-        return b"G" + field(key)
+        return b"G" + key_field(key)
     if function == "put":
-        return b"P" + field(key) + field(value)
+        return b"P" + key_field(key) + value_field(value)
     if function == "delete":
-        return b"D" + field(key)
+        return b"D" + key_field(key)
     old, new = value
-    return b"C" + field(key) + field(old) + field(new)
+    return b"C" + key_field(key) + value_field(old) + value_field(new)
 
 
 def found(value):
     """What a get answers."""
-    return b"none" if value is None else b"=" + str(value).encode()
+    return b"none" if value is None else b"=" + value_field(value)[2:]
 
 
 def result_of(function, value, operation):
@@ -137,34 +164,62 @@ def result_of(function, value, operation):
     return found(operation["previous"]).hex() if "previous" in operation else "?"
 
 
-def lines_of(history, keyed):
-    """The lines of a history."""
-    lines, last_ids, under_way = [], [0] * CLIENTS, {}
-    for operation in history:
+class Lines:
+    """The lines of a history, how many operations they are of, and how many were passed over."""
+
+    def __init__(self, keyed):
+        self.keyed, self.lines, self.last_ids, self.under_way, self.taken, self.passed = keyed, [], [0] * CLIENTS, {}, 0, 0
+
+    def take(self, operation):
+        """The next operation of the history."""
         process, kind = operation.get("process"), operation.get("type")
-        if not isinstance(process, int):
-            continue
+        if isinstance(process, str) and not process.lstrip("-").isdigit():
+            self.passed += 1
+            return
+        if type(process) is not int:
+            raise Malformed(f"the process {process!r} is neither a number nor a word")
+        self.taken += 1
         function, value = FUNCTIONS.get(operation.get("f")), operation.get("value")
         if function is None:
             raise Malformed(f"there is no operation '{operation.get('f')}'")
         key = operation.get("key", "x")
-        if keyed and value is not None:
+        if self.keyed and value is not None:
             key, value = value
         if kind == "invoke":
-            client = process % CLIENTS
-            last_ids[client] += 1
-            name = f"c{client} {last_ids[client]}"
-            under_way[process] = (name, len(lines))
-            lines.append(f"submit {name} {op_of(function, key, value).hex()}")
-            continue
-        if process not in under_way:
+            self.begin(process, op_of(function, key, value), value)
+        else:
+            self.end(process, kind, function, value, operation)
+
+    def begin(self, process, op, value):
+        client = process % CLIENTS
+        self.last_ids[client] += 1
+        name = f"c{client} {self.last_ids[client]}"
+        self.under_way[process] = (name, len(self.lines), value)
+        self.lines.append(f"submit {name} {op.hex()}")
+
+    def end(self, process, kind, function, value, operation):
+        if process not in self.under_way:
             raise Malformed(f"process {process} ends an operation that it did not begin")
-        name, place = under_way.pop(process)
+        name, place, asked = self.under_way.pop(process)
         if kind == "fail":
-            lines[place] = None
+            self.lines[place] = None
         elif kind == "ok":
-            lines.append(f"accept {name} {result_of(function, value, operation)}")
-    return [line for line in lines if line is not None]
+            if function == "cas" and value not in (None, asked):
+                raise Malformed("the ok of a cas has another value than its pair; a comparison that failed is a fail")
+            self.lines.append(f"accept {name} {result_of(function, value, operation)}")
+        elif kind != "info":
+            raise Malformed(f"there is no type '{kind}'")
+
+
+def lines_of(history, keyed):
+    """The lines of a history."""
+    found = Lines(keyed)
+    for number, operation in enumerate(history, 1):
+        try:
+            found.take(operation)
+        except (Malformed, ValueError, TypeError, AttributeError) as reason:
+            raise Malformed(f"operation {number}: {reason}") from None
+    return found
 
 
 def main(words):
@@ -172,11 +227,16 @@ def main(words):
     words = [word for word in words if word != "--keyed"]
     if words not in (["json"], ["edn"]):
         sys.exit("usage: history.py json|edn [--keyed] < HISTORY > LINES")
+    text = sys.stdin.read()
     try:
-        lines = lines_of(operations(words[0], sys.stdin.read()), keyed)
+        found = lines_of(operations(words[0], text), keyed)
+        if text.strip() and not found.taken:
+            raise Malformed("no operation in it has a process with a number")
     except (Malformed, ValueError, TypeError, AttributeError, StopIteration) as reason:
         sys.exit(f"history.py: this is no history: {reason}")
+    lines = [line for line in found.lines if line is not None]
     print("transcript 1 replicas 1 sequencers 1 clients 16", *lines, "end", sep="\n")
+    print(f"history.py: {found.taken} operations, {found.passed} passed over", file=sys.stderr)
 
 
 if __name__ == "__main__":
