@@ -5,6 +5,7 @@
 #     speed      puts and gets a second, with 1, 50 and 500 connections, of 1 and 16 requests at a time (bench/gate/load.rs, rustc), beside a
 #                redis-server with one replica, each put confirmed by it (WAIT 1)
 #     benchmark  the same by redis-benchmark, where its puts are not confirmed by a replica
+#     reads      reads of two observers a second (GETAT, by a gateway with 16 numbers), beside gets of the same redis-server
 #     memory     OPS (1000000) puts by 50 connections; memory before and after
 #     idle       processor time of a gateway that nobody uses
 #     loss       puts a second of 8 connections, without and with 1 % of all datagrams lost (bench/gate/loss.c, gcc)
@@ -26,7 +27,7 @@ wrong=0
 check=gate
 . checks/nodes.bash
 eval "$(sed -n '/^# awaits/,/^}/p; /^# is_taken/,/^}/p; /^# finds_ports/,/^}/p; /^# differs/,/^}/p' checks/common.bash)"
-[ $# != 0 ] || set -- speed benchmark memory idle loss histories library
+[ $# != 0 ] || set -- speed benchmark reads memory idle loss histories library
 rustc --edition 2021 -O -o "$folder/load" bench/gate/load.rs || exit 2
 gcc -O2 -shared -fPIC -o "$folder/loss.so" bench/gate/loss.c -ldl || exit 2
 finds_ports
@@ -37,20 +38,21 @@ listens() {
     grep -q " 0100007F:$(printf %04X "$1") 00000000:0000 0A " /proc/net/tcp
 }
 
-# cluster: nodes of a cluster.
+# cluster [OBSERVERS]: nodes of a cluster.
 cluster() {
     local i
     nodes_of "$program" --replicas 3 --sequencers 2 --base "$base"
     for i in 0 1; do start "s$i" sequencer --id $i; done
-    for i in 0 1 2; do start "r$i" node --id $i; done
+    for i in 0 1 2; do start "r$i" node --id $i --observers "${1:-0}"; done
+    for ((i = 0; i < ${1:-0}; i++)); do start "o$i" observer --id $i; done
     for i in 0 1; do start "ctl$i" controller --id $i; done
     are_up s0 s1 r0 r1 r2 ctl0 ctl1
     first=0
 }
 
-# gateway NAME PORT COUNT: a gateway with the next numbers.
+# gateway NAME PORT COUNT [OBSERVERS]: a gateway with the next numbers.
 gateway() {
-    "$gate" "127.0.0.1:$2" "$base" 3 2 "$first" "$3" > "$folder/$1" 2>&1 &
+    "$gate" "127.0.0.1:$2" "$base" 3 2 ${4:+--observers "$4"} "$first" "$3" > "$folder/$1" 2>&1 &
     pids[$1]=$!
     first=$((first + $3))
     awaits listens "$2" || differs "no gateway"
@@ -101,6 +103,22 @@ benchmark() {
                     "$(redis-benchmark -p $((base + at)) -t set,get -n 20000 -c $connections -P $pipeline -r 1000 --csv 2>&1 |
                         awk -F'"' '/SET|GET/ { print $2, $4 }' | xargs)"
             done
+        done
+    done
+    stop
+}
+
+reads() {
+    cluster 2
+    gateway gate "$base" 16 2
+    peer
+    "$folder/load" "$base" set 50 16 1 > /dev/null
+    "$folder/load" $((base + 1)) set 50 16 1 > /dev/null
+    local connections pipeline
+    for connections in 1 50 500; do
+        for pipeline in 1 16; do
+            echo "gateway $("$folder/load" "$base" getat $connections $pipeline "$seconds")"
+            echo "redis   $("$folder/load" $((base + 1)) get $connections $pipeline "$seconds")"
         done
     done
     stop
@@ -192,7 +210,7 @@ for part in "$@"; do
     memory) memory_part ;;
     # what bash says of those that were killed goes nowhere
     histories) histories 2> /dev/null ;;
-    speed | benchmark | idle | loss | library) "$part" ;;
+    speed | benchmark | reads | idle | loss | library) "$part" ;;
     *) differs "no part $part" ;;
     esac
 done

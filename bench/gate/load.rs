@@ -1,10 +1,10 @@
 //! Load on a server of the Redis protocol: connections that each send some requests at once, and wait for all replies.
 //!
-//!     load PORT set|get|wait CONNECTIONS PIPELINE SECONDS
+//!     load PORT set|get|getat|wait CONNECTIONS PIPELINE SECONDS
 //!
-//! `set` puts one of 1,000 keys of 3 bytes a value of 3 bytes, `get` gets one, `wait` puts one and has a replica confirm it (`WAIT 1 0`). It
-//! prints how many puts or gets were answered a second, the median time of a round in microseconds, and the time of which one in a hundred is
-//! longer.
+//! `set` puts one of 1,000 keys of 3 bytes a value of 3 bytes, `get` gets one, `getat` reads one at an observer, `wait` puts one and has a
+//! replica confirm it (`WAIT 1 0`). It prints how many puts or gets were answered a second, the median time of a round in microseconds, and
+//! the time of which one in a hundred is longer.
 use std::io::{Read, Write};
 use std::net::TcpStream;
 use std::time::{Duration, Instant};
@@ -13,6 +13,7 @@ fn request(kind: &str, key: usize) -> Vec<u8> {
     let key = format!("{:03}", key % 1000);
     match kind {
         "get" => format!("*2\r\n$3\r\nGET\r\n$3\r\n{key}\r\n"),
+        "getat" => format!("*2\r\n$5\r\nGETAT\r\n$3\r\n{key}\r\n"),
         "set" => format!("*3\r\n$3\r\nSET\r\n$3\r\n{key}\r\n$3\r\nxyz\r\n"),
         _ => format!("*3\r\n$3\r\nSET\r\n$3\r\n{key}\r\n$3\r\nxyz\r\n*3\r\n$4\r\nWAIT\r\n$1\r\n1\r\n$1\r\n0\r\n"),
     }
