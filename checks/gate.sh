@@ -3,8 +3,7 @@
 # requests sent at once, byte by byte, half, and not as the protocol has them; a user who never reads. Then the leader and the sequencer in
 # use are killed, and the same connection is answered. With one replica of three a user waits, and connections stay open. Reads of observers
 # see what their connection wrote, also where an observer is killed. By a list of hosts a gateway is answered, and another one with its
-# numbers is refused. It takes some fifteen seconds, leaves nothing behind, and ends with status
-# 1 at any difference.
+# numbers is refused. It takes some fifteen seconds, leaves nothing behind, and ends with status 1 at any difference.
 #
 #   checks/gate.sh               the programs are those of crates/*/out/, or the files that NOPAXOS, HOSTS and GATE name
 . "$(dirname "$0")/common.bash" || exit 2

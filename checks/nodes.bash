@@ -68,3 +68,16 @@ stop() {
 # A node that is killed before it runs its program still has these traps; it stops nothing.
 trap 'case $BASHPID in $$) stop; rm -rf "$folder" ;; esac' EXIT
 trap 'exit 130' INT TERM
+
+# three_hosts CLIENTS: a list of three replicas, a sequencer, a controller, so many clients and an observer, on addresses 127.0.1.1 to 127.0.1.4.
+three_hosts() {
+    local i
+    echo 'cluster 7'
+    echo "r0 127.0.1.1:$base"
+    echo "s0 127.0.1.1:$((base + 8))"
+    echo "ctl 127.0.1.1:$((base + 12))"
+    echo "r1 127.0.1.2:$((base + 1))"
+    echo "r2 127.0.1.3:$((base + 2))"
+    for ((i = 0; i < $1; i++)); do echo "c$i 127.0.1.4:$((base + 16 + i))"; done
+    echo "o0 127.0.1.4:$((base + 32))"
+}

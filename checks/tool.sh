@@ -244,16 +244,7 @@ stop
 # ---- a list of hosts
 program=$kv
 hosts=$folder/hosts
-{
-    echo 'cluster 7'
-    echo "r0 127.0.1.1:$base"
-    echo "s0 127.0.1.1:$((base + 8))"
-    echo "ctl 127.0.1.1:$((base + 12))"
-    echo "r1 127.0.1.2:$((base + 1))"
-    echo "r2 127.0.1.3:$((base + 2))"
-    for ((i = 0; i < 8; i++)); do echo "c$i 127.0.1.4:$((base + 16 + i))"; done
-    echo "o0 127.0.1.4:$((base + 32))"
-} > "$hosts"
+three_hosts 8 > "$hosts"
 nodes_of "$nopaxos_hosts"
 site=
 for name in r0 r1 r2 s0; do start "$name" "$hosts" "$name"; done

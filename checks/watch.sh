@@ -129,16 +129,7 @@ stop
 # ---- nodes on several hosts: what is not taken
 program=$watch_hosts
 hosts=$folder/list
-{
-    echo 'cluster 7'
-    echo "r0 127.0.1.1:$base"
-    echo "s0 127.0.1.1:$((base + 8))"
-    echo "ctl 127.0.1.1:$((base + 12))"
-    echo "r1 127.0.1.2:$((base + 1))"
-    echo "r2 127.0.1.3:$((base + 2))"
-    echo "c0 127.0.1.4:$((base + 16))"
-    echo "o0 127.0.1.4:$((base + 32))"
-} > "$hosts"
+three_hosts 1 > "$hosts"
 usage='usage: watch_hosts LIST OBSERVER [--once | --redraw] [--turns TURNS]'
 ends 2 "$usage"
 ends 2 "$usage" "$hosts"

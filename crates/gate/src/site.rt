@@ -129,7 +129,8 @@ impl<L: Link> Site<L> {
         event: Event,
         users: &mut U,
     ) -> Result<bool, GateError>
-        ensures { (before : Side) → Took (event ∷ []) before (side L.Link U.Users self.old users.old)
+        ensures { (before : Side)
+            → Took (event ∷ []) before (side L.Link U.Users self.old users.old)
             → Runs result before (side L.Link U.Users self.new users.new) }
     {
         match self.step(event, users) {
