@@ -12,6 +12,7 @@ use Rattle.std.proofs.Math.Seq.{take-append_seam, drop-append_seam}
 use Rattle.std.proofs.lemmas.Nat.{be_bytes_2, from_be_bytes-to_be_bytes_2}
 use borrow.Author.Tests.{eqb-true}
 use Rattle.nop_types.specs.declared.limits.TheConstants.{MAX_KEY_BYTES, MAX_VALUE_BYTES}
+use Rattle.lemmas.proofs.Options.{then_holds}
 use Rattle.nop_types.specs.Lists.{all_below}
 use Rattle.kv_host.specs.declared.op.TheConstants.{GET, PUT, DELETE, SWAP}
 use Rattle.kv_host.specs.Op.{Op, Get, Put, Delete, Swap, Bad, Field, field_at, key_at, value_at, at_end, read_get, read_put, read_delete}
@@ -90,11 +91,6 @@ pub last_value : (value : List ℕ) → ValueFits value → value_at (field valu
 last_value value fits = ap value_at (sym (append-nil (field value))) ∙ first_value value [] fits
 
 -- ---- an op that is read
-
-pub then_holds : {A B : Type 0} (P : A → Type 0) (Q : B → Type 0) (o : Option A) (f : A → Option B) → IfSome o P
-    → ((x : A) → P x → IfSome (f x) Q) → IfSome (option_and_then f o) Q
-then_holds P Q None f h k = tt
-then_holds P Q (Some x) f h k = k x h
 
 -- the op has its fields within their limits, and the bytes spell it
 record IsRead (kind : ℕ) (bytes : List ℕ) (op : Op) : Type 0 where

@@ -14,12 +14,13 @@ use Rattle.std.proofs.lemmas.Bool.Decides.{nat_tests}
 use Rattle.std.proofs.lemmas.List.{length-append, append-nil}
 use Rattle.std.proofs.lemmas.Nat.{be_bytes_4, from_be_bytes-to_be_bytes_4}
 use Rattle.std.proofs.Math.Nat.{mod-lt}
+use Rattle.lemmas.proofs.Options.{then_holds}
 use Rattle.nop_types.specs.declared.limits.TheConstants.{MAX_KEY_BYTES, MAX_VALUE_BYTES, MAX_HOST_BYTES}
 use Rattle.nop_types.specs.Lists.{all_below}
 use Rattle.kv_host.specs.declared.table.TheConstants.{MAX_KEYS}
 use Rattle.kv_host.specs.Op.{Field, key_at, value_at}
 use Rattle.kv_host.specs.Spelling.{KeyFits, ValueFits, field}
-use Rattle.kv_host.specs.Reading.{Begins, field_at-begins, then_holds, first_key, first_value}
+use Rattle.kv_host.specs.Reading.{Begins, field_at-begins, first_key, first_value}
 use Rattle.kv_host.specs.Values.{Kv}
 use Rattle.kv_host.specs.Kv.{IsSound}
 use Rattle.kv_host.specs.Saved.{spelled_entries, four_bytes, saved, nothing_after, entry_at, with_keys, loaded}

@@ -4,13 +4,13 @@ use Rattle.std.proofs.Common.{eqb, eqb-true, ◌<◌, ◌^◌}
 use Rattle.std.specs.Prelude.{IfSome}
 use Rattle.std.specs.Option.{unwrap_or, option_and_then}
 use Rattle.std.proofs.lemmas.List.{append-nil}
+use Rattle.lemmas.proofs.Options.{then_holds}
 use Rattle.lock_host.specs.declared.op.TheConstants.{ACQUIRE, RELEASE, INSPECT}
 use Rattle.lock_host.specs.declared.op.LockOp.{LockOp}
 use Rattle.lock_host.specs.declared.op.LockOp.TheVariants.{Acquire, Release, Inspect, Bad}
 use Rattle.lock_host.specs.Fields.{NameFits, name_bytes, number_bytes, name_at, number_at}
 use Rattle.lock_host.specs.Op.{at_end, read_acquire, read_release, read_inspect, read_fields, read_op}
 use Rattle.lock_host.specs.Reading.{Field, BeginsName, BeginsNumber, name_at-begins, name_at-name, number_at-begins, number_at-number}
-use Rattle.lock_host.specs.Reading.{then_holds}
 use Rattle.lock_host.specs.Spelling.{Spells, ReadsSpelled, ReadsOnlySpelled}
 
 -- ---- what is spelled is read

@@ -7,6 +7,7 @@ use Rattle.std.specs.Option.{unwrap_or, option_and_then}
 use Rattle.std.specs.List.{list_any}
 use Rattle.std.proofs.lemmas.List.{length-append}
 use Rattle.std.proofs.Math.Seq.{take-append_seam}
+use Rattle.lemmas.proofs.Options.{then_holds}
 use Rattle.nop_types.specs.declared.limits.TheConstants.{MAX_RESULT_BYTES}
 use Rattle.lock_host.specs.declared.locks.TheConstants.{MAX_LOCKS, LAST_TOKEN}
 use Rattle.lock_host.specs.declared.op.TheConstants.{ACQUIRE, RELEASE, INSPECT}
@@ -15,7 +16,7 @@ use Rattle.lock_host.specs.declared.op.LockOp.{LockOp}
 use Rattle.lock_host.specs.declared.op.LockOp.TheVariants.{Acquire, Release, Inspect, Bad}
 use Rattle.lock_host.specs.Fields.{NameFits, number_bytes, name_at, number_at}
 use Rattle.lock_host.specs.Op.{at_end, read_acquire, read_release, read_inspect, read_fields, read_op}
-use Rattle.lock_host.specs.Reading.{Field, BeginsName, name_at-begins, then_holds, length-number}
+use Rattle.lock_host.specs.Reading.{Field, BeginsName, name_at-begins, length-number}
 use Rattle.lock_host.specs.Locks.{Places, Locks, Step, is_same, is_free, is_named, found, granted, held, holder_text, says, granted_at, acquire}
 use Rattle.lock_host.specs.Locks.{holds, release, step, undone}
 use Rattle.lock_host.specs.Finding.{IsFound, found_is, IsFree, free_is}

@@ -3,7 +3,6 @@
 use Rattle.std.proofs.Common.{◌≡◌, ℕ, zero, suc, ◌<◌, ◌^◌, ◌/◌, Bool, true, false, cond, List, [], ◌∷◌, ◌++◌, length, take, drop, get_or}
 use Rattle.std.proofs.Common.{Option, Some, None, refl, sym, ap, ◌∙◌, arith, ltb-false}
 use Rattle.std.specs.Prelude.{IfSome, nat_le, nat_lt, ◌&&◌}
-use Rattle.std.specs.Option.{option_and_then}
 use Rattle.std.specs.Int.{w64, from_be_bytes, to_be_bytes}
 use Rattle.std.proofs.lemmas.Bool.Decides.{nat_tests}
 use Rattle.std.proofs.lemmas.List.{length-take, length-append, take-append-drop, take_at, drop_at}
@@ -114,8 +113,3 @@ number_at-number n rest fits =
     let l = length-append (number_bytes n) rest in
     let test : nat_lt (length (number_bytes n ++ rest)) 8 ≡ false = grind (arith, nat_tests, l, len) in
     rw (prefix, eight_below n, test, back, again n fits) refl
-
-pub then_holds : {A B : Type 0} (P : A → Type 0) (Q : B → Type 0) (o : Option A) (f : A → Option B) → IfSome o P
-    → ((x : A) → P x → IfSome (f x) Q) → IfSome (option_and_then f o) Q
-then_holds P Q None f h k = tt
-then_holds P Q (Some x) f h k = k x h

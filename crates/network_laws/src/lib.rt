@@ -18,7 +18,7 @@
 //! point rises stays in its ranges. Each host keeps them (`trimmed_logs_keep_bounds` of `trimming`).
 //!
 //! Files: `laws`; the proofs of `safety` and `replay` cite them. Definitions: `specs/Carried`,
-//! `Network`, `Steps` (`Delivers`). More in docs/PROOF.md, "From programs to the protocol".
+//! `Network`, `Steps` (`Delivers`). More in docs/PROOF.md, "From moves to the program".
 #![tactic(auto)]
 
 mod laws;
