@@ -1,16 +1,17 @@
 -- Proofs: nothing here has to be believed.
 -- The laws of a host, of the counter.
-use Rattle.std.proofs.Common.{◌≡◌, ℕ, ◌+◌, ◌<◌, ◌≤◌, ◌^◌, Bool, true, false, cond, List, [], ◌∷◌, ◌++◌, length, Option, Some, None}
-use Rattle.std.proofs.Common.{refl, sym, ap, subst, ◌∙◌, arith, append-nil}
-use Rattle.std.specs.Prelude.{IfSome, ⊤, codes, nat_lt, ◌&&◌}
+use Rattle.std.proofs.Common.{◌≡◌, ℕ, ◌+◌, ◌≤◌, Bool, true, false, cond, List, length, Some}
+use Rattle.std.proofs.Common.{refl, arith}
+use Rattle.std.specs.Prelude.{⊤, codes, ◌&&◌}
 use Rattle.std.proofs.lemmas.Bool.Decides.{nat_tests}
+use Rattle.lemmas.proofs.Bools.{either_holds}
 use Rattle.lemmas.proofs.Bytes as services
 use Rattle.lemmas.proofs.Bytes.{small_bytes}
 use Rattle.nop_types.specs.Services.{IsBytes, AnswersAreBytes}
 use Rattle.nop_types.specs.declared.limits.TheConstants.{MAX_RESULT_BYTES, MAX_HOST_BYTES}
-use Rattle.saved_fields.specs.Numbers.{BeginsNumber, number_at, number_bytes}
-use Rattle.saved_fields.specs.Reading.{eight_below, length-number, number_at-begins, number_at-number}
-use Rattle.counter_host.specs.Counter.{IsSound, added, adds, after, answer, asks, counter_meaning, has_next, loaded, undo_of, undone, whole}
+use Rattle.saved_fields.specs.Numbers.{number_at, number_bytes}
+use Rattle.saved_fields.specs.Reading.{length-number, number_is_bytes, numbers, whole_only, whole_saved}
+use Rattle.counter_host.specs.Counter.{IsSound, added, adds, after, answer, asks, counter_meaning, has_next, loaded, undo_of, undone}
 
 -- ---- ops
 
@@ -38,23 +39,19 @@ stays_sound n op sound =
 number_short : (n : ℕ) → length (number_bytes n) ≤ MAX_RESULT_BYTES
 number_short n = let l = length-number n in omega (arith, l)
 
-pick : (P : List ℕ → Type 0) (b : Bool) (x y : List ℕ) → P x → P y → P (cond b x y)
-pick P true x y p q = p
-pick P false x y p q = q
-
 pub answers_short : (n : ℕ) (op : List ℕ) → IsSound n → length (answer n op) ≤ MAX_RESULT_BYTES
 answers_short n op sound =
     let P : List ℕ → Type 0 = λ x. length x ≤ MAX_RESULT_BYTES in
-    pick P (adds op) (added n) (cond (asks op) (number_bytes n) (codes "bad"))
-    (pick P (has_next n) (number_bytes (n + 1)) (codes "full") (number_short (n + 1)) (omega arith))
-    (pick P (asks op) (number_bytes n) (codes "bad") (number_short n) (omega arith))
+    either_holds P (adds op) (added n) (cond (asks op) (number_bytes n) (codes "bad"))
+    (either_holds P (has_next n) (number_bytes (n + 1)) (codes "full") (number_short (n + 1)) (omega arith))
+    (either_holds P (asks op) (number_bytes n) (codes "bad") (number_short n) (omega arith))
 
 answer_is : (n : ℕ) (op : List ℕ) → IsBytes (answer n op)
 answer_is n op =
-    pick IsBytes (adds op) (added n) (cond (asks op) (number_bytes n) (codes "bad"))
-    (pick IsBytes (has_next n) (number_bytes (n + 1)) (codes "full") (small_bytes (number_bytes (n + 1)) (eight_below (n + 1)))
+    either_holds IsBytes (adds op) (added n) (cond (asks op) (number_bytes n) (codes "bad"))
+    (either_holds IsBytes (has_next n) (number_bytes (n + 1)) (codes "full") (number_is_bytes (n + 1))
     (small_bytes (codes "full") refl))
-    (pick IsBytes (asks op) (number_bytes n) (codes "bad") (small_bytes (number_bytes n) (eight_below n)) (small_bytes (codes "bad") refl))
+    (either_holds IsBytes (asks op) (number_bytes n) (codes "bad") (number_is_bytes n) (small_bytes (codes "bad") refl))
 
 pub answers_are_bytes : AnswersAreBytes counter_meaning
 answers_are_bytes = services.answers_are_bytes counter_meaning (λ n. ⊤) tt (λ n op is all. tt) (λ n op is all. answer_is n op)
@@ -65,20 +62,10 @@ pub saves_short : (n : ℕ) → IsSound n → length (number_bytes n) ≤ MAX_HO
 saves_short n sound = let l = length-number n in omega (arith, l)
 
 pub loads_saved : (n : ℕ) → IsSound n → loaded (number_bytes n) ≡ Some n
-loads_saved n sound =
-    ap loaded (sym (append-nil (number_bytes n))) ∙ ap whole (number_at-number n [] sound)
-
-only_whole : (o : Option (ℕ × List ℕ)) (bytes : List ℕ) (n : ℕ) → IfSome o (BeginsNumber bytes) → whole o ≡ Some n
-    → IsSound n × (number_bytes n ≡ bytes)
-only_whole None bytes n h e = absurd cc
-only_whole (Some (m, b ∷ rest)) bytes n h e = absurd cc
-only_whole (Some (m, [])) bytes n h e =
-    let same : m ≡ n = cc in
-    let spelled : number_bytes m ≡ bytes = sym (h.spelled ∙ append-nil (number_bytes m)) in
-    (subst IsSound same h.fits, subst (λ (k : ℕ). number_bytes k ≡ bytes) same spelled)
+loads_saved = whole_saved IsSound number_bytes number_at numbers
 
 pub loads_only : (bytes : List ℕ) (n : ℕ) → loaded bytes ≡ Some n → IsSound n × (number_bytes n ≡ bytes)
-loads_only bytes n e = only_whole (number_at bytes) bytes n (number_at-begins bytes) e
+loads_only = whole_only IsSound number_bytes number_at numbers
 
 -- ---- what the counter promises
 

@@ -3,7 +3,7 @@ ghost use Rattle.saved_fields.specs.Numbers.{number_bytes};
 ghost use Rattle.counter_host.specs.Counter.{after, answer, loaded};
 
 use nop_types::{Bytes, Host, NoMemory};
-use saved_fields::{number, put_number};
+use saved_fields::{number, put_number, whole};
 use std::alloc::Global;
 
 /// The number, and the memory that answers take.
@@ -48,10 +48,7 @@ fn answer(alloc: Global, count: u64, op: &[u8]) -> Result<Bytes, NoMemory>
 fn loaded(bytes: &[u8]) -> Option<u64>
     ensures { result ≡ loaded bytes.now }
 {
-    match number(bytes)? {
-        (count, []) => Some(count),
-        _ => None,
-    }
+    whole(number(bytes))
 }
 
 impl Host for CounterHost {

@@ -1,2 +1,6 @@
+pub mod Fields
+pub mod ListReading
+pub mod Lists
 pub mod Numbers
 pub mod Reading
+pub mod Texts

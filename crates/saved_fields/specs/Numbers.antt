@@ -1,8 +1,8 @@
 -- Numbers of eight bytes.
-use Rattle.std.specs.Prelude.{◌≡◌, ℕ, ◌<◌, ◌^◌, List, ◌++◌, length, take, drop, Option, Some, None, nat_lt}
-use Rattle.std.specs.Prelude.{if◌then◌else◌}
+use Rattle.std.specs.Prelude.{ℕ, ◌<◌, ◌^◌, List, length, take, drop, Option, Some, None, nat_lt, if◌then◌else◌}
 use Rattle.std.specs.Int.{w64, from_be_bytes, to_be_bytes}
 use Rattle.nop_types.specs.Lists.{all_below}
+use Rattle.saved_fields.specs.Fields.{Begins}
 
 -- a number in eight bytes, the highest first
 unfoldable pub number_bytes : ℕ → List ℕ
@@ -16,7 +16,9 @@ first_eight bytes = if nat_lt (length bytes) 8 then None else Some (from_be_byte
 unfoldable pub number_at : List ℕ → Option (ℕ × List ℕ)
 number_at bytes = if all_below (take 8 bytes) 256 then first_eight bytes else None
 
+abbrev pub NumberFits : ℕ → Type 0
+NumberFits n = n < 2 ^ 64
+
 -- the bytes begin with the number
-pub record BeginsNumber (bytes : List ℕ) (n : ℕ × List ℕ) : Type 0 where
-  pub fits : n.0 < 2 ^ 64
-  pub spelled : bytes ≡ number_bytes n.0 ++ n.1
+abbrev pub BeginsNumber : List ℕ → ℕ × List ℕ → Type 0
+BeginsNumber = Begins NumberFits number_bytes

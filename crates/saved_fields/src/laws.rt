@@ -1,15 +1,28 @@
-//! What is written is read, and what is read was written so.
+//! What is spelled is read, and what is read is spelled so.
 
-ghost use Rattle.std.specs.Prelude.{◌≡◌, ◌++◌, ◌<◌, ◌^◌, ℕ, List, IfSome, Some};
-ghost use Rattle.saved_fields.specs.Numbers.{BeginsNumber, number_at, number_bytes};
+ghost use Rattle.std.specs.Prelude.{◌<◌, ◌^◌, ℕ};
+ghost use Rattle.saved_fields.specs.Fields.{IsField};
+ghost use Rattle.saved_fields.specs.Lists.{ListFits, list_at, list_bytes};
+ghost use Rattle.saved_fields.specs.Numbers.{NumberFits, number_at, number_bytes};
+ghost use Rattle.saved_fields.specs.Texts.{TextFits, text_at, text_bytes};
 
-/// A number that is written is read, whatever follows it.
-pub fn numbers_are_read()
-    ensures { (n : ℕ) (rest : List ℕ) → n < 2 ^ 64
-        → number_at (number_bytes n ++ rest) ≡ Some (n, rest) }
+use crate::field::Field;
+
+/// Numbers are read as they are spelled.
+#[tactic(auto, using(crate::specs::Reading::numbers))]
+pub fn numbers_are_a_field()
+    ensures { IsField NumberFits number_bytes number_at }
 {}
 
-/// Where a number is read, the bytes begin with it.
-pub fn read_numbers_are_spelled()
-    ensures { (bytes : List ℕ) → IfSome (number_at bytes) (BeginsNumber bytes) }
+/// Texts are, whatever is the most that they have.
+#[tactic(auto, using(crate::specs::Reading::texts))]
+pub fn texts_are_a_field()
+    ensures { (most : ℕ) → IsField (TextFits most) text_bytes (text_at most) }
+{}
+
+/// Where values are a field, lists of them are, whatever is the most that they have.
+#[tactic(auto, using(crate::specs::ListReading::lists))]
+pub fn lists_are_a_field<E: Field>()
+    ensures { (most : ℕ) → most < 2 ^ 64
+        → IsField (ListFits most E.fits) (list_bytes E.spell) (list_at most E.read_at) }
 {}

@@ -3,7 +3,9 @@
 ghost use Rattle.std.specs.Prelude.{◌≡◌, ◌+◌, ◌++◌, length, option_map, OnOk};
 ghost use Rattle.saved_fields.specs.Numbers.{first_eight, number_at, number_bytes};
 
+use crate::field::Field;
 use nop_types::NoMemory;
+use std::alloc::Global;
 
 /// The number in the first eight bytes, the highest one first, and the bytes after it.
 fn eight(bytes: &[u8]) -> Option<(u64, &[u8])>
@@ -34,4 +36,25 @@ pub fn put_number(to: &mut Vec<u8>, number: u64) -> Result<(), NoMemory>
 {
     to.extend_from_slice(&number.to_be_bytes())?;
     Ok(())
+}
+
+impl Field for u64 {
+    ghost use Rattle.saved_fields.specs.Numbers.{NumberFits};
+    ghost use Rattle.saved_fields.specs.Reading.{numbers};
+
+    ghost fits = { NumberFits };
+
+    ghost spell = { number_bytes };
+
+    ghost read_at = { number_at };
+
+    ghost is_field = { numbers };
+
+    fn put(&self, to: &mut Vec<u8>) -> Result<(), NoMemory> {
+        put_number(to, *self)
+    }
+
+    fn read(_alloc: Global, bytes: &[u8]) -> Result<Option<(u64, &[u8])>, NoMemory> {
+        Ok(number(bytes))
+    }
 }
