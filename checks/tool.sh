@@ -53,6 +53,18 @@ shows() {
     fi
 }
 
+# loads ID: a load through four numbers from this one on, all of whose ops are answered.
+loads() {
+    local status
+    made=$((made + 1))
+    # shellcheck disable=SC2086
+    timeout 60 "$program" $site --id "$1" load 4 2000 > "$folder/out" 2> "$folder/err"
+    status=$?
+    [ "$status" = 0 ] && grep -qx "answered 2000 of 2000 rate $digits p50 $digits p99 $digits" "$folder/out" &&
+        ! grep -qvx "kv: answered $digits of 2000 rate $digits" "$folder/err" ||
+        differs "a load: status $status, '$(head -c 300 "$folder/out")', and on standard error '$(head -c 300 "$folder/err")'"
+}
+
 # called ID WANTED OP..: a new client is answered so.
 called() {
     local id=$1 wanted=$2
@@ -88,7 +100,7 @@ timeout 60 "$program" $site --id 6 repl < "$folder/input" > "$folder/out" 2>&1
 # A line that is too long is the last one.
 { echo 'get n'; printf 'x%.0s' {1..4097}; printf '\nget n\n'; } > "$folder/input"
 # shellcheck disable=SC2086
-ends 2 '=499' 'kv: want at most 4294967295 lines of at most 4096 bytes' $site --id 7 repl
+ends 2 '=499' 'kv: want at most 4294967294 lines of at most 4096 bytes' $site --id 7 repl
 : > "$folder/input"
 
 # The state, at the place of an observer that does not run, and of one that does.
@@ -101,13 +113,7 @@ ends 5 '' "kv: the observer's port is in use: take another one by --observer" $s
 ends 7 '' 'kv: no leader told anything. Is the service up, and does it know of this observer?' $site --observer 2 --turns 200 status
 
 # A load: all its ops are answered, and the last value of a key is one of the load's.
-made=$((made + 1))
-# shellcheck disable=SC2086
-timeout 60 "$program" $site --id 16 load 4 2000 > "$folder/out" 2> "$folder/err"
-status=$?
-[ "$status" = 0 ] && grep -qx "answered 2000 of 2000 rate $digits p50 $digits p99 $digits" "$folder/out" &&
-    ! grep -qvx "kv: answered $digits of 2000 rate $digits" "$folder/err" ||
-    differs "a load: status $status, '$(head -c 300 "$folder/out")', and on standard error '$(head -c 300 "$folder/err")'"
+loads 16
 called 20 '=4' get load-d
 # shellcheck disable=SC2086
 shows 2508 $site --observer 1
@@ -263,4 +269,10 @@ shows 4 --hosts "$hosts"
 shows 4 --hosts "$hosts"
 ends 2 '' 'kv: the list of hosts has no place for this observer' --hosts "$hosts" --observer 1 status
 ends 2 '' 'kv: the list of hosts has no place for this client number' --hosts "$hosts" --id 8 get k
+# A load, each client at its place; not where one has none, nor where a number was used.
+loads 3
+called 7 '=4' get load-d
+ends 2 '' 'kv: the list of hosts has no place for one of these client numbers' --hosts "$hosts" --id 7 load 2 100
+ends 2 '' 'kv: want client numbers up to 4294967295' --hosts "$hosts" --id 4294967295 load 2 100
+ends 5 '' "kv: a client's port is in use, or its number was used before: take numbers that never were" --hosts "$hosts" --id 3 load 1 100
 concludes

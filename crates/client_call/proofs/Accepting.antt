@@ -62,10 +62,10 @@ first_submitted number op (Busy c ∷ outs) t one = Has-rest (Submitted (request
 first_submitted number op (_ ∷ outs) t one = absurd t
 
 -- the only open request is the one that is accepted
-alone_is : (r : Request) (id : ℕ) → Holds (r ∷ []) id → id ≡ r.id
+pub alone_is : (r : Request) (id : ℕ) → Holds (r ∷ []) id → id ≡ r.id
 alone_is r id h = sym h.2 ∙ ap (λ (q : Request). q.id) (Has-one h.0 r h.1)
 
-alone_left : (r : Request) (id : ℕ) → id ≡ r.id → without (r ∷ []) id ≡ []
+pub alone_left : (r : Request) (id : ℕ) → id ≡ r.id → without (r ∷ []) id ≡ []
 alone_left r id is = rw (eq-eqb r.id id (sym is)) refl
 
 module _ (at : Address) where

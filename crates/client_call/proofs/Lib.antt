@@ -1,4 +1,5 @@
 mod Accepting
 mod Ending
+mod LoneRequests
 mod SessionEnds
 mod Sessions

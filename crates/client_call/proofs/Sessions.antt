@@ -1,7 +1,7 @@
 -- The client of a session: from the inputs that it took to what it answers.
 use Rattle.std.proofs.Common.{◌≡◌, ℕ, ◌+◌, Bool, true, false, Option, Some, None, refl, sym, ap, subst, ◌∙◌, inl, inr}
-use Rattle.std.proofs.Common.{List, [], ◌∷◌, ◌++◌, append_assoc}
-use Rattle.std.specs.Prelude.{Result, Ok, Err, OnOk, cond, is_err, option_and_then}
+use Rattle.std.proofs.Common.{List, [], ◌∷◌, ◌++◌, append_assoc, arith}
+use Rattle.std.specs.Prelude.{Result, Ok, Err, OnOk, cond, is_err, length, map, option_and_then}
 use Rattle.nop_types.specs.Configuration.{Configuration}
 use Rattle.nop_types.specs.Given.{Given, Packet, Ticked, Submit, Read}
 use Rattle.nop_types.specs.Lists.{Has}
@@ -13,9 +13,10 @@ use Rattle.lemmas.proofs.Members.{Has-append_right, Has-first}
 use Rattle.client_quorum.specs.ClientSteps.{begin, can_submit, next, opening, request_of, sent, submitted}
 use Rattle.client_quorum.specs.Core as client
 use Rattle.client_quorum.specs.Core.{Client}
+use Rattle.client_quorum.specs.OpenRequests.{open_requests}
 use Rattle.client_quorum.specs.Opens.{accepted_in}
 use Rattle.client_quorum.specs.Rows.{Row, Rests, SaysBusy, Opens, Repeats, Keeps, Accepts}
-use Rattle.client_quorum.specs.Runs.{after, gave, replies_of, IsAgreed}
+use Rattle.client_quorum.specs.Runs.{after, gave, ops_of, replies_of, IsAgreed}
 use Rattle.client_quorum.specs.declared.state.ClientState.{ClientState}
 use Rattle.client_quorum.proofs.Recents.{recent_kept}
 use Rattle.client_quorum.proofs.RowLemmas.{row_of}
@@ -26,7 +27,7 @@ use Rattle.udp_node.specs.NodeRun.{first_inputs}
 use Rattle.udp_node.specs.declared.address.Address.{Address}
 use Rattle.client_call.specs.Calls.{GivesAccepted}
 use Rattle.client_call.specs.Sessions as sessions
-use Rattle.client_call.specs.Sessions.{AnswersOp, GoesOn, IsAnswered, IsLater, IsRun, SessionState, acceptance, awaiting, first_of, last_id}
+use Rattle.client_call.specs.Sessions.{AnswersOp, GoesOn, IsAnswered, IsRun, SessionState, Submits, acceptance, awaiting, first_of, last_id}
 use Rattle.client_call.specs.declared.errors.CallError.{CallError}
 use Rattle.client_call.specs.declared.errors.CallError.TheVariants.{Unanswered}
 
@@ -75,25 +76,34 @@ number_after : (xs : List Given) (s : ClientState) → (after s xs).number ≡ s
 number_after [] s = refl
 number_after (x ∷ xs) s = number_after xs (next s x).0 ∙ row_number s x (next s x) (row_of s x)
 
+ops_append : (xs ys : List Out) → ops_of (xs ++ ys) ≡ ops_of xs ++ ops_of ys
+ops_append [] ys = refl
+ops_append (Submitted r ∷ xs) ys = ap (λ (l : List (List ℕ)). r.op ∷ l) (ops_append xs ys)
+ops_append (_ ∷ xs) ys = ops_append xs ys
+
+sent_ops : (qs : List Request) → ops_of (map sent qs) ≡ []
+sent_ops [] = refl
+sent_ops (q ∷ qs) = sent_ops qs
+
 -- where no op waits and none comes, none is submitted
-row_rests : (s : ClientState) (x : Given) → s.waiting ≡ [] → ((op : List ℕ) → x ≡ Submit op → ⊥) → (y : ClientState × List Out)
-    → Row s x y → (y.0.waiting ≡ []) × (y.0.last_id ≡ s.last_id)
-row_rests s x none alone y (Rests nothing) = (none, refl)
-row_rests s x none alone y (SaysBusy op is busy) = (none, refl)
+pub row_rests : (s : ClientState) (x : Given) → s.waiting ≡ [] → ((op : List ℕ) → x ≡ Submit op → ⊥) → (y : ClientState × List Out)
+    → Row s x y → (y.0.waiting ≡ []) × (y.0.last_id ≡ s.last_id) × (ops_of y.1 ≡ [])
+row_rests s x none alone y (Rests nothing) = (none, refl, refl)
+row_rests s x none alone y (SaysBusy op is busy) = (none, refl, refl)
 row_rests s x none alone y (Opens op waiting may (inl (is, left))) =
     let both : [] ≡ op ∷ waiting = sym none ∙ left in
     absurd cc
 row_rests s x none alone y (Opens op waiting may (inr (is, same))) = absurd (alone op is)
-row_rests s x none alone y (Repeats is) = (none, refl)
-row_rests s x none alone y (Keeps p has e quorum) = (none, refl)
-row_rests s x none alone y (Accepts p leaders has e quorum) = (none, refl)
+row_rests s x none alone y (Repeats is) = (none, refl, sent_ops (open_requests s))
+row_rests s x none alone y (Keeps p has e quorum) = (none, refl, refl)
+row_rests s x none alone y (Accepts p leaders has e quorum) = (none, refl, refl)
 
-no_op : (x : Given) (xs : List Given) → AllOutside (x ∷ xs) → (op : List ℕ) → x ≡ Submit op → ⊥
+pub no_op : (x : Given) (xs : List Given) → AllOutside (x ∷ xs) → (op : List ℕ) → x ≡ Submit op → ⊥
 no_op (Packet bytes) xs outside op e = cc
 no_op (Ticked tick) xs outside op e = cc
 no_op _ xs outside op e = outside
 
-others : (x : Given) (xs : List Given) → AllOutside (x ∷ xs) → AllOutside xs
+pub others : (x : Given) (xs : List Given) → AllOutside (x ∷ xs) → AllOutside xs
 others (Packet bytes) xs outside = outside
 others (Ticked tick) xs outside = outside
 others _ xs outside = absurd outside
@@ -103,6 +113,17 @@ last_stays [] outside s none = refl
 last_stays (x ∷ xs) outside s none =
     let rests = row_rests s x none (no_op x xs outside) (next s x) (row_of s x) in
     last_stays xs (others x xs outside) (next s x).0 rests.0 ∙ rests.1
+
+none_both : (xs ys : List (List ℕ)) → xs ≡ [] → ys ≡ [] → xs ++ ys ≡ []
+none_both xs ys e f = rw (e, f) refl
+
+none_submitted : (xs : List Given) → AllOutside xs → (s : ClientState) → s.waiting ≡ [] → ops_of (gave s xs) ≡ []
+none_submitted [] outside s none = refl
+none_submitted (x ∷ xs) outside s none =
+    let rests = row_rests s x none (no_op x xs outside) (next s x) (row_of s x) in
+    let rest = none_submitted xs (others x xs outside) (next s x).0 rests.0 in
+    ops_append (next s x).1 (gave (next s x).0 xs)
+    ∙ none_both (ops_of (next s x).1) (ops_of (gave (next s x).0 xs)) rests.2 rest
 
 no_more : (prefix waiting : List (List ℕ)) → [] ≡ prefix ++ waiting → waiting ≡ []
 no_more [] waiting e = sym e
@@ -149,30 +170,58 @@ module _ (at : Address) (s t : SessionState) (op : List ℕ) (h i : Option (List
   with_first : (xs : List Given) → first ≡ xs → t.client.requests ≡ after s.client.requests (xs ++ took.inputs)
   with_first xs is = its_requests ∙ ap (λ (ys : List Given). after s.client.requests (ys ++ took.inputs)) is
 
-  waits_none : s.client.requests.waiting ≡ []
+  -- with the op, its request is open from the first step on
+  pub begun : can_submit s.client.requests ≡ true
+      → t.client.requests ≡ after (submitted s.client.requests (request_of s.client.requests op)) took.inputs
+  begun may =
+      with_first (Submit op ∷ []) (first_submits may)
+      ∙ ap (λ (y : ClientState × List Out). after y.0 took.inputs) (submits s.client.requests op may)
+
+  pub waits_none : s.client.requests.waiting ≡ []
   waits_none = none_waits s.config s.number s.client.requests run
 
   -- with the op, the last id is the next one
   last_after : (b : Bool) → can_submit s.client.requests ≡ b → last_id t ≡ cond b (last_id s + 1) (last_id s)
   last_after true may =
-      ap (λ (u : ClientState). u.last_id) (with_first (Submit op ∷ []) (first_submits may))
-      ∙ ap (λ (y : ClientState × List Out). (after y.0 took.inputs).last_id) (submits s.client.requests op may)
+      ap (λ (u : ClientState). u.last_id) (begun may)
       ∙ last_stays took.inputs took.outside (submitted s.client.requests (request_of s.client.requests op)) waits_none
   last_after false may =
       ap (λ (u : ClientState). u.last_id) (with_first [] (first_rests may))
       ∙ last_stays took.inputs took.outside s.client.requests waits_none
 
-  pub is_later : IsLater s t
-  is_later = record {
-    config = ap (λ (u : SessionState). u.config) state_after;
-    number = ap (λ (u : SessionState). u.number) state_after;
-    last_id = last_after (can_submit s.client.requests) refl;
-  }
+  its_config : t.config ≡ s.config
+  its_config = ap (λ (u : SessionState). u.config) state_after
 
-  pub goes_on : (result : Result Accept CallError) → GoesOn s t result
-  goes_on (Ok accept) = is_later
-  goes_on (Err Unanswered) = is_later
-  goes_on _ = tt
+  its_number_after : t.number ≡ s.number
+  its_number_after = ap (λ (u : SessionState). u.number) state_after
+
+  submits_by : (b : Bool) → can_submit s.client.requests ≡ b → Submits s t (cond b (op ∷ []) [])
+  submits_by true may =
+      let r = request_of s.client.requests op in
+      record {
+        config = its_config;
+        number = its_number_after;
+        inputs = Submit op ∷ took.inputs;
+        requests = with_first (Submit op ∷ []) (first_submits may);
+        submitted =
+            ap (λ (y : ClientState × List Out). ops_of (y.1 ++ gave y.0 took.inputs)) (submits s.client.requests op may)
+            ∙ ap (λ (ops : List (List ℕ)). op ∷ ops)
+            (none_submitted took.inputs took.outside (submitted s.client.requests r) waits_none);
+        last_id = last_after true may;
+      }
+  submits_by false may =
+      let same = last_after false may in
+      record {
+        config = its_config;
+        number = its_number_after;
+        inputs = took.inputs;
+        requests = with_first [] (first_rests may);
+        submitted = none_submitted took.inputs took.outside s.client.requests waits_none;
+        last_id = omega (arith, same);
+      }
+
+  submits_op : Submits s t (cond (can_submit s.client.requests) (op ∷ []) [])
+  submits_op = submits_by (can_submit s.client.requests) refl
 
   -- ---- the answer
 
@@ -188,7 +237,7 @@ module _ (at : Address) (s t : SessionState) (op : List ℕ) (h i : Option (List
   acceptance_none : can_submit s.client.requests ≡ false → acceptance t ≡ None
   acceptance_none may = acceptance_awaited ∙ (rw may refl)
 
-  acceptance_next : can_submit s.client.requests ≡ true → acceptance t ≡ accepted_in t.client.requests.recent (last_id s + 1)
+  pub acceptance_next : can_submit s.client.requests ≡ true → acceptance t ≡ accepted_in t.client.requests.recent (last_id s + 1)
   acceptance_next may = acceptance_awaited ∙ (rw may refl)
 
   abbrev whole : List Given
@@ -246,6 +295,21 @@ module _ (at : Address) (s t : SessionState) (op : List ℕ) (h i : Option (List
         agreed = its.0;
         at_slot = its.1;
       }
+
+  -- what is accepted had room
+  pub had_room : (accept : Accept) (b : Bool) → can_submit s.client.requests ≡ b → (o : Option Accept) → acceptance t ≡ o
+      → GivesAccepted o (Ok accept) → can_submit s.client.requests ≡ true
+  had_room accept b may None is gives = absurd gives
+  had_room accept true may (Some a) is gives = may
+  had_room accept false may (Some a) is gives =
+      let both : None ≡ Some a = sym (acceptance_none may) ∙ is in
+      absurd cc
+
+  pub goes_on : (result : Result Accept CallError) → GivesAccepted (acceptance t) result → GoesOn s t op result
+  goes_on (Ok accept) gives =
+      submits_by true (had_room accept (can_submit s.client.requests) refl (acceptance t) refl gives)
+  goes_on (Err Unanswered) gives = submits_op
+  goes_on _ gives = tt
 
   answered_by : (accept : Accept) (b : Bool) → can_submit s.client.requests ≡ b → (o : Option Accept) → acceptance t ≡ o
       → GivesAccepted o (Ok accept) → IsAnswered s.config s.number (last_id s + 1) op accept

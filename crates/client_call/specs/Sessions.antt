@@ -1,5 +1,6 @@
 -- A session: what its client does, and what it answers to each op.
-use Rattle.std.specs.Prelude.{◌≡◌, ℕ, ◌+◌, List, [], ◌∷◌, Bool, true, false, cond, is_some, Option, Some, None, Result, Ok, Err, ⊤, option_and_then}
+use Rattle.std.specs.Prelude.{◌≡◌, ℕ, ◌+◌, List, [], ◌∷◌, length, Bool, true, false, cond, is_some, Option, Some, None, Result, Ok, Err, ⊤}
+use Rattle.std.specs.Prelude.{option_and_then}
 use Rattle.nop_types.specs.Configuration.{Configuration}
 use Rattle.nop_types.specs.Given.{Given, Submit}
 use Rattle.nop_types.specs.Lists.{Has}
@@ -14,8 +15,9 @@ use Rattle.outside.specs.declared.link.Link as links
 use Rattle.outside.specs.declared.link.PollAnswer.{PollAnswer}
 use Rattle.client_quorum.specs.ClientSteps as requests
 use Rattle.client_quorum.specs.Core as client
+use Rattle.client_quorum.specs.OpenRequests.{open_requests}
 use Rattle.client_quorum.specs.Opens.{accepted_in}
-use Rattle.client_quorum.specs.Runs.{after, gave, replies_of, IsAgreed}
+use Rattle.client_quorum.specs.Runs.{after, gave, ops_of, replies_of, IsAgreed}
 use Rattle.client_quorum.specs.declared.state.ClientState.{ClientState}
 use Rattle.udp_node.specs.Effects.{calls, effects_by, step_effects}
 use Rattle.udp_node.specs.NodeRun.{NodeRun, first_inputs, run_after}
@@ -97,16 +99,25 @@ abbrev pub AnswersOp : SessionState → List ℕ → Result Accept CallError →
 AnswersOp s op (Ok accept) = IsAnswered s.config s.number (last_id s + 1) op accept
 AnswersOp s op _ = ⊤
 
--- it is the same client, and its last id rose by one where there was room for the request
-pub record IsLater (s t : SessionState) : Type 0 where
+-- It is the same client, which took these inputs from one state to the other, and the ops that it submitted then are these, in order: each as
+-- the request of the next id (`takes_turns` of `client_quorum`).
+pub record Submits (s t : SessionState) (ops : List (List ℕ)) : Type 0 where
   pub config : t.config ≡ s.config
   pub number : t.number ≡ s.number
-  pub last_id : last_id t ≡ cond (can_submit s) (last_id s + 1) (last_id s)
+  pub inputs : List Given
+  pub requests : t.client.requests ≡ after s.client.requests inputs
+  pub submitted : ops_of (gave s.client.requests inputs) ≡ ops
+  pub last_id : last_id t ≡ last_id s + length ops
 
-abbrev pub GoesOn : SessionState → SessionState → Result Accept CallError → Type 0
-GoesOn s t (Ok accept) = IsLater s t
-GoesOn s t (Err Unanswered) = IsLater s t
-GoesOn s t _ = ⊤
+-- an op that is answered was submitted, and one that is not was where there was room for its request; no other op was
+abbrev pub GoesOn : SessionState → SessionState → List ℕ → Result Accept CallError → Type 0
+GoesOn s t op (Ok accept) = Submits s t (op ∷ [])
+GoesOn s t op (Err Unanswered) = Submits s t (cond (can_submit s) (op ∷ []) [])
+GoesOn s t op _ = ⊤
+
+-- none of its requests is open
+abbrev pub HasNoneOpen : SessionState → Type 0
+HasNoneOpen s = open_requests s.client.requests ≡ []
 
 -- ---- how a session ends
 

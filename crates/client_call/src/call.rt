@@ -18,8 +18,9 @@ pub struct Service {
     pub config: Config,
 }
 
-/// Has one op executed by a service, and gives its result, with the slot from which on the service has executed it. Waits for at most
-/// `turns` turns, of about a millisecond each over sockets. The client's number is one that was never used before.
+/// Has one op executed by a service, and gives its result, with the slot from which on the service
+/// has executed it. Waits for at most `turns` turns, of about a millisecond each over sockets. The
+/// client's number is one that was never used before.
 pub fn submit_and_wait<P: Ports, C: Clock>(
     alloc: Global,
     service: &Service,
@@ -29,7 +30,8 @@ pub fn submit_and_wait<P: Ports, C: Clock>(
     ports: &mut P,
     clock: &mut C,
 ) -> Result<Accept, CallError>
-    // At Ok replicas replied with the result at the slot; the request is open where the call is unanswered.
+    // At Ok replicas replied with the result at the slot; the request is open where the call is
+    // unanswered.
     ensures answers { Answers service.now.config number op result }
 
     // Over an observable link and clock it is what the run of the client over them gives.

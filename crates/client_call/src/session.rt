@@ -5,7 +5,8 @@ ghost use Rattle.udp_node.specs.Ports.{port_of};
 ghost use Rattle.udp_node.specs.Sends.{side};
 ghost use Rattle.client_call.specs.declared.errors.CallError.TheVariants as errors;
 ghost use Rattle.client_call.specs.Sessions as sessions;
-ghost use Rattle.client_call.specs.Sessions.{AnswersOp, GoesOn, IsGiven, TakesOp, address_in};
+ghost use Rattle.client_call.specs.Sessions.{AnswersOp, GoesOn, HasNoneOpen, IsGiven, TakesOp};
+ghost use Rattle.client_call.specs.Sessions.{address_in};
 ghost use Rattle.client_call.specs.Sessions.{ended_after};
 
 use crate::CallError;
@@ -17,7 +18,8 @@ use outside::{AttachError, Clock, Link, Ports};
 use std::alloc::Global;
 use udp_node::BasePort;
 
-/// A client of a service with a link at its own port, which submits one op after another. It is given back by `close_session`.
+/// A client of a service with a link at its own port, which submits one op after another. It is
+/// given back by `close_session`.
 pub struct Session<L> {
     alloc: Global,
     base: BasePort,
@@ -83,36 +85,48 @@ pub fn close_session<P: Ports>(session: Session<P::L>, ports: &mut P)
 }
 
 impl<L: Link> Session<L> {
-    /// The id of the last request, 0 where there is none: the n-th op that was submitted is request n.
+    /// The id of the last request, 0 where there is none: the n-th op that was submitted is request
+    /// n.
     pub fn last_id(&self) -> u64
         ensures { result ≡ sessions.last_id self.now.core.state }
     {
         self.core.last_id()
     }
 
-    /// Whether the next op becomes a request: fewer than eight are open, each less than eight ids behind it.
+    /// Whether the next op becomes a request: fewer than eight are open, each less than eight ids
+    /// behind it.
     pub fn can_submit(&self) -> bool
         ensures { result ≡ sessions.can_submit self.now.core.state }
     {
         self.core.can_submit()
     }
 
-    /// Has one op executed, and gives its result, with the slot from which on the service has executed it. Waits for at most `turns`
-    /// turns, of about a millisecond each over sockets.
+    /// Has one op executed, and gives its result, with the slot from which on the service has
+    /// executed it. Waits for at most `turns` turns, of about a millisecond each over sockets.
     ///
-    /// After `Unanswered` the request stays open: it is sent again in the turns of further ops, beside theirs, and may be executed
-    /// before or after them. Where no further request can be opened beside it (`can_submit`), the op is not submitted; the call takes its turns for the open ones, and
-    /// is `Unanswered`. After `LinkFault` and `NoMemory` the session has ended: further ops are answered with that error.
+    /// After `Unanswered` the request stays open: it is sent again in the turns of further ops,
+    /// beside theirs, and may be executed before or after them. Where no further request can be
+    /// opened beside it (`can_submit`), the op is not submitted; the call takes its turns for the
+    /// open ones, and is `Unanswered`. After `LinkFault` and `NoMemory` the session has ended:
+    /// further ops are answered with that error.
     pub fn submit<C: Clock>(
         &mut self,
         op: &Op,
         turns: u64,
         clock: &mut C,
     ) -> Result<Accept, CallError>
-        // At Ok replicas replied to the request of the next id, which has this op, with the result at the slot.
+        // At Ok replicas replied to the request of the next id, which has this op, with the result
+        // at the slot.
         ensures answers { AnswersOp self.old.core.state op.now result }
+
+        // At Ok the op was submitted, and at Unanswered where there was room for it; no other op
+        // was.
         ensures goes_on { self.old.ended ≡ None
-            → GoesOn self.old.core.state self.new.core.state result }
+            → GoesOn self.old.core.state self.new.core.state op.now result }
+
+        // After answers alone no request is open.
+        ensures none_open { OnOk result (HasNoneOpen self.old.core.state
+            → HasNoneOpen self.new.core.state) }
 
         // One that has ended answers why, and does nothing else.
         ensures ended { self.new.ended ≡ ended_after self.old.ended result }

@@ -1,9 +1,10 @@
 //! One op of a session, over its link.
 
-ghost use Rattle.std.specs.Prelude.{◌≡◌};
+ghost use Rattle.std.specs.Prelude.{◌≡◌, OnOk};
 ghost use Rattle.outside.specs.Causes.{CountsFor};
 ghost use Rattle.udp_node.specs.Sends.{side};
-ghost use Rattle.client_call.specs.Sessions.{AnswersOp, GoesOn, TakesTurns, address_in};
+ghost use Rattle.client_call.specs.Sessions.{AnswersOp, GoesOn, HasNoneOpen, TakesTurns};
+ghost use Rattle.client_call.specs.Sessions.{address_in};
 ghost use Rattle.client_call.specs.declared.errors.CallError.TheVariants as errors;
 
 use crate::CallError;
@@ -25,7 +26,8 @@ pub(crate) fn address_in(base: BasePort, core: &SessionCore) -> Address
     }
 }
 
-/// Submits the op, where there is room for its request, and takes at most `turns` turns, until it is accepted.
+/// Submits the op, where there is room for its request, and takes at most `turns` turns, until it
+/// is accepted.
 pub(crate) fn submit_over<L: Link, C: Clock>(
     alloc: Global,
     core: &mut SessionCore,
@@ -36,7 +38,8 @@ pub(crate) fn submit_over<L: Link, C: Clock>(
     clock: &mut C,
 ) -> Result<Accept, CallError>
     ensures answers { AnswersOp core.old.state op.now result }
-    ensures goes_on { GoesOn core.old.state core.new.state result }
+    ensures goes_on { GoesOn core.old.state core.new.state op.now result }
+    ensures none_open { OnOk result (HasNoneOpen core.old.state → HasNoneOpen core.new.state) }
     ensures over { TakesTurns (address_in base core.old.state) core.old.state op.now turns
         (L.answers link.old) (C.values clock.old) result
         (side (L.trace link.old) 0 (L.loss_count link.old))

@@ -4,7 +4,8 @@ ghost use Rattle.std.specs.Prelude.{◌≡◌, IfOk, false, Err};
 ghost use Rattle.outside.specs.Causes.{CountsFor};
 ghost use Rattle.client_quorum.specs.Opens.{accepted_in};
 ghost use Rattle.udp_node.specs.Sends.{side};
-ghost use Rattle.client_call.specs.Calls.{GivesAccepted, Answers, EndsObserved, address_of, caller_core, error_of};
+ghost use Rattle.client_call.specs.Calls.{GivesAccepted, Answers, EndsObserved, address_of};
+ghost use Rattle.client_call.specs.Calls.{caller_core, error_of};
 ghost use Rattle.client_call.specs.declared.errors.CallError.TheVariants as errors;
 
 use crate::{CallError, Service};
@@ -50,7 +51,8 @@ pub(crate) fn address(service: &Service, number: u32) -> Address
     }
 }
 
-/// Why there is no result. The client's lines are kept in memory, so that a write fails only where memory runs out.
+/// Why there is no result. The client's lines are kept in memory, so that a write fails only where
+/// memory runs out.
 pub(crate) fn error_of(e: ServeError) -> CallError
     ensures { result ≡ error_of e }
 {

@@ -6,7 +6,8 @@ use nop_types::Actor;
 use std::random::RandomSource;
 use std::{fs, io};
 
-/// What tells this process from others under the number of its actor: a number that it draws. None where none is to be had.
+/// What tells this process from others under the number of its actor: a number that it draws. None
+/// where none is to be had.
 pub fn own_of(rt: &HostRuntime, list: &HostList, actor: Actor) -> Option<Own> {
     let mut drawn = [0u8; 8];
     rt.fill_bytes(&mut drawn).ok()?;

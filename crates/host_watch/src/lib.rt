@@ -1,10 +1,13 @@
-//! A watch at the place of an observer of a list of hosts, for programs: `watch_hosts`, and `status` of the tools in words.
+//! A watch at the place of an observer of a list of hosts, for programs: `watch_hosts`, and
+//! `status` of the tools in words.
 //!
-//! `watch_at` makes the watch of `watching::watch_cluster` over the sockets, the clock and the standard output of the system. It asks
-//! each second every node of the list but clients and itself whether its own number is free (`roll_call`), which claims no number.
+//! `watch_at` makes the watch of `watching::watch_cluster` over the sockets, the clock and the
+//! standard output of the system. It asks each second every node of the list but clients and itself
+//! whether its own number is free (`roll_call`), which claims no number.
 //!
-//! Proved is what `watch_cluster` promises of the watch, since it is called as it is, and that the calls are safe and end. That sockets
-//! are what they should be is tested only, by `checks/watch.sh` and `checks/tool.sh`.
+//! Proved is what `watch_cluster` promises of the watch, since it is called as it is, and that the
+//! calls are safe and end. That sockets are what they should be is tested only, by
+//! `checks/watch.sh` and `checks/tool.sh`.
 //!
 //! Call: `watch_at`. It is all in this file.
 #![tactic(auto)]
@@ -43,7 +46,8 @@ fn roll_of(alloc: Global, list: &HostList, places: &[Place], own: Actor) -> Resu
     Roll::new(alloc, list.digest(), number, &nodes)
 }
 
-/// Watches at the place of an observer, which is one of the list, and writes to standard output. Says whether a state was shown.
+/// Watches at the place of an observer, which is one of the list, and writes to standard output.
+/// Says whether a state was shown.
 pub fn watch_at(
     rt: &HostRuntime,
     list: &HostList,

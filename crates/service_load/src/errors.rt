@@ -1,5 +1,6 @@
 ghost use Rattle.service_load.specs.declared.errors.LoadError.TheVariants as errors;
 ghost use Rattle.std.specs.Prelude.{◌≡◌};
+ghost use Rattle.service_load.specs.Errors.{link_fault, port_fault};
 
 use nop_types::NoMemory as OutOfMemory;
 use outside::DeviceError;
@@ -23,7 +24,9 @@ impl From<OutOfMemory> for LoadError {
 }
 
 /// Why no link was attached.
-pub(crate) fn port_fault(e: DeviceError) -> LoadError {
+pub(crate) fn port_fault(e: DeviceError) -> LoadError
+    ensures { result ≡ port_fault e }
+{
     match e {
         DeviceError::Failed => LoadError::PortFault,
         DeviceError::NoMemory => LoadError::NoMemory,
@@ -31,7 +34,9 @@ pub(crate) fn port_fault(e: DeviceError) -> LoadError {
 }
 
 /// Why a poll gave nothing.
-pub(crate) fn link_fault(e: DeviceError) -> LoadError {
+pub(crate) fn link_fault(e: DeviceError) -> LoadError
+    ensures { result ≡ link_fault e }
+{
     match e {
         DeviceError::Failed => LoadError::LinkFault,
         DeviceError::NoMemory => LoadError::NoMemory,

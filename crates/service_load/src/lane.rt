@@ -4,7 +4,8 @@ use nop_types::{Bytes, Dest, NoMemory, Out};
 use outside::{Link, LinkError};
 use udp_node::{Address, poll_link, send_to};
 
-/// Its link, where it is, how many datagrams could not be sent, how many of its requests are open, and when they are sent again.
+/// Its link, where it is, how many datagrams could not be sent, how many of its requests are open,
+/// and when they are sent again.
 pub(crate) struct Lane<L> {
     pub(crate) link: L,
     pub(crate) at: Address,
@@ -22,7 +23,8 @@ impl<L: Link> Lane<L> {
         send_to(&self.at, dest, bytes, &mut self.link, &mut self.lost)
     }
 
-    /// Carries out what its core gave. Its requests are sent again from `due` on, unless one is submitted or answered before.
+    /// Carries out what its core gave. Its requests are sent again from `due` on, unless one is
+    /// submitted or answered before.
     pub(crate) fn carry_out(&mut self, out: &Out, due: u64) -> Result<(), NoMemory> {
         match out {
             Out::Send(dest, bytes) => self.send(*dest, bytes.as_slice()),

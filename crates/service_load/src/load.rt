@@ -1,6 +1,6 @@
 //! A load without its devices.
 
-ghost use Rattle.std.specs.Prelude.{◌≡◌, ◌≤◌, ◌<◌, ◌+◌, ◌^◌, IfOk, IsTrue};
+ghost use Rattle.std.specs.Prelude.{◌≡◌, ◌≤◌, ◌<◌, ◌+◌, ◌^◌, length, IfOk, IsTrue};
 ghost use Rattle.service_load.specs.Loads.{IsLoad, Keeps, Plan, Reports};
 
 use crate::pattern::Pattern;
@@ -36,7 +36,8 @@ impl Drop for Load {
 }
 
 impl Load {
-    /// So many ops of a pattern, through so many client numbers from the first one on. None of these was used before.
+    /// So many ops of a pattern, through so many client numbers from the first one on. None of
+    /// these was used before.
     #[tactic(auto, using(crate::proofs::LoadLemmas::opens))]
     pub(crate) fn new(
         alloc: Global,
@@ -71,7 +72,9 @@ impl Load {
     }
 
     /// How many were answered.
-    pub(crate) fn answered(&self) -> u64 {
+    pub(crate) fn answered(&self) -> u64
+        ensures { result ≡ length self.now.tally.times.items }
+    {
         self.tally.times.len() as u64
     }
 
@@ -101,7 +104,8 @@ impl Load {
         }
     }
 
-    /// An input comes to the core at a place; what the cores gave then. After an error the load is over.
+    /// An input comes to the core at a place; what the cores gave then. After an error the load is
+    /// over.
     #[tactic(auto, using(crate::proofs::LoadLemmas::came))]
     pub(crate) fn comes(
         &mut self,

@@ -1,7 +1,11 @@
 //! A load over its links.
 
 ghost use Rattle.std.specs.Prelude.{◌≡◌, ◌≤◌, ◌<◌, ◌+◌, ◌^◌, ◌++◌, ◌∷◌, [], length, map, IfOk};
-ghost use Rattle.service_load.specs.Loads.{HasRoom, IsLoad, Keeps, Plan, Reports};
+ghost use Rattle.std.specs.Prelude.{OnErr, OnOk};
+ghost use Rattle.outside.specs.Causes.{CountsFor};
+ghost use Rattle.outside.specs.declared.errors.DeviceError.TheVariants as devices;
+ghost use Rattle.service_load.specs.Loads.{HasRoom, Holds, IsLoad, Keeps, Plan, Reports};
+ghost use Rattle.service_load.specs.declared.errors.LoadError.TheVariants as errors;
 
 use crate::errors::{LoadError, link_fault, port_fault};
 use crate::lane::Lane;
@@ -11,7 +15,7 @@ use crate::report::Report;
 use client_call::Service;
 use desk::Labelled;
 use nop_types::{Actor, Bytes, Input, NoMemory, Tick};
-use outside::{Clock, Link, Ports};
+use outside::{AttachError, Clock, Link, Ports};
 use std::alloc::{AllocFailed, Global};
 use udp_node::Address;
 
@@ -28,7 +32,7 @@ pub struct Loading<L> {
     alloc: Global,
     load: Load,
     lanes: Vec<Lane<L>>,
-    now: u64,
+    time: u64,
 }
 
 /// Gives a link back.
@@ -36,6 +40,7 @@ fn detach_one<P: Ports>(ports: &mut P, lane: Lane<P::L>)
     requires { length (P.detached ports.old) < P.attached ports.old }
     ensures detached { P.detached ports.new ≡ P.detached ports.old ++ lane.link ∷ [] }
     ensures attached { P.attached ports.new ≡ P.attached ports.old }
+    ensures faults { P.fault_count ports.new ≡ P.fault_count ports.old }
 {
     let Lane {
         link,
@@ -53,9 +58,14 @@ fn attach_one<P: Ports>(
     at: Address,
     ports: &mut P,
     lanes: &mut Vec<Lane<P::L>>,
-) -> Result<(), LoadError>
+) -> Result<(), AttachError>
     requires { HasRoom (P.attached ports.old) (P.detached ports.old) lanes.old.items }
-    ensures { HasRoom (P.attached ports.new) (P.detached ports.new) lanes.new.items }
+    ensures room { HasRoom (P.attached ports.new) (P.detached ports.new) lanes.new.items }
+    ensures lanes { OnOk result (length lanes.new.items ≡ length lanes.old.items + 1) }
+    ensures holds { P.attached ports.new + length (P.detached ports.old) + length lanes.old.items
+        ≡ P.attached ports.old + length (P.detached ports.new) + length lanes.new.items }
+    ensures count { CountsFor (P.fault_count ports.old) (P.fault_count ports.new)
+        devices.Failed result }
 {
     match ports.attach(at.port_of(at.own)) {
         Ok(link) => {
@@ -71,11 +81,11 @@ fn attach_one<P: Ports>(
                 Err(failed) => {
                     let AllocFailed { value } = failed;
                     detach_one(ports, value);
-                    Err(LoadError::NoMemory)
+                    Err(AttachError::NoMemory)
                 }
             }
         }
-        Err(e) => Err(port_fault(e)),
+        Err(e) => Err(e),
     }
 }
 
@@ -95,10 +105,15 @@ fn attach_all<P: Ports>(
     clients: u32,
     ports: &mut P,
     lanes: &mut Vec<Lane<P::L>>,
-) -> Result<(), LoadError>
+) -> Result<(), AttachError>
     requires numbers { first + clients ≤ 2 ^ 32 }
-    requires room { HasRoom (P.attached ports.old) (P.detached ports.old) lanes.old.items }
-    ensures { HasRoom (P.attached ports.new) (P.detached ports.new) lanes.new.items }
+    requires none { lanes.old.items ≡ [] }
+    ensures lanes { OnOk result (length lanes.new.items ≡ clients) }
+    ensures holds { Holds (P.attached ports.old) (P.detached ports.old) (P.attached ports.new)
+        (P.detached ports.new) lanes.new.items }
+    ensures room { HasRoom (P.attached ports.new) (P.detached ports.new) lanes.new.items }
+    ensures count { CountsFor (P.fault_count ports.old) (P.fault_count ports.new)
+        devices.Failed result }
 {
     for i in 0..clients {
         if let Err(e) = attach_one(address(service, first + i), ports, lanes) {
@@ -114,6 +129,7 @@ fn detach_all<P: Ports>(ports: &mut P, lanes: Vec<Lane<P::L>>)
     ensures detached { P.detached ports.new
         ≡ P.detached ports.old ++ map (λ x. x.link) lanes.items }
     ensures attached { P.attached ports.new ≡ P.attached ports.old }
+    ensures faults { P.fault_count ports.new ≡ P.fault_count ports.old }
 {
     let mut rest = lanes.into_iter();
     while let Some(lane) = rest.next() {
@@ -122,8 +138,9 @@ fn detach_all<P: Ports>(ports: &mut P, lanes: Vec<Lane<P::L>>)
     rest.destroy_empty();
 }
 
-/// Opens a load of so many ops of a pattern on a service, through so many clients, the first of which has the number `first`. None of
-/// these numbers was used before. It is given back by `close_load`.
+/// Opens a load of so many ops of a pattern on a service, through so many clients, the first of
+/// which has the number `first`. None of these numbers was used before. It is given back by
+/// `close_load`.
 pub fn open_load<P: Ports>(
     alloc: Global,
     service: &Service,
@@ -141,8 +158,17 @@ pub fn open_load<P: Ports>(
       ops = pattern;
       count = count;
     }) l.load) }
+    ensures clients { IfOk result (λ l. length l.lanes.items ≡ clients) }
     ensures room { IfOk result (λ l. HasRoom (P.attached ports.new) (P.detached ports.new)
         l.lanes.items) }
+
+    // A link is held for each client; after an error all are given back.
+    ensures holds { IfOk result (λ l. Holds (P.attached ports.old) (P.detached ports.old)
+        (P.attached ports.new) (P.detached ports.new) l.lanes.items) }
+    ensures back { OnErr result (P.attached ports.new + length (P.detached ports.old)
+        ≡ P.attached ports.old + length (P.detached ports.new)) }
+    ensures attaches { CountsFor (P.fault_count ports.old) (P.fault_count ports.new)
+        errors.PortFault result }
 {
     let load = Load::new(
         alloc,
@@ -158,11 +184,11 @@ pub fn open_load<P: Ports>(
             alloc,
             load,
             lanes,
-            now: 0,
+            time: 0,
         }),
         Err(e) => {
             detach_all(ports, lanes);
-            Err(e)
+            Err(port_fault(e))
         }
     }
 }
@@ -180,7 +206,7 @@ pub fn close_load<P: Ports>(loading: Loading<P::L>, ports: &mut P) -> Result<Rep
         alloc: _alloc,
         load,
         lanes,
-        now: _now,
+        time: _time,
     } = loading;
     let lost = lost_of(&lanes);
     detach_all(ports, lanes);
@@ -198,7 +224,9 @@ fn lost_of<L>(lanes: &[Lane<L>]) -> u64 {
 
 impl<L: Link> Loading<L> {
     /// How many ops were answered.
-    pub fn answered(&self) -> u64 {
+    pub fn answered(&self) -> u64
+        ensures { result ≡ length self.now.load.tally.times.items }
+    {
         self.load.answered()
     }
 
@@ -212,7 +240,7 @@ impl<L: Link> Loading<L> {
         ensures load { self.new.load ≡ self.old.load }
         ensures lanes { length self.new.lanes.items ≡ length self.old.lanes.items }
     {
-        let due = self.now.saturating_add(RETRY_MICROS);
+        let due = self.time.saturating_add(RETRY_MICROS);
         if told.core >= self.lanes.len() {
             return Ok(());
         }
@@ -240,7 +268,7 @@ impl<L: Link> Loading<L> {
         ensures keeps { Keeps self.old.load self.new.load result }
         ensures lanes { length self.new.lanes.items ≡ length self.old.lanes.items }
     {
-        let told = self.load.take_next(self.now)?;
+        let told = self.load.take_next(self.time)?;
         self.carry_out_all(&told)?;
         Ok(())
     }
@@ -251,7 +279,7 @@ impl<L: Link> Loading<L> {
         ensures keeps { Keeps self.old.load self.new.load result }
         ensures lanes { length self.new.lanes.items ≡ length self.old.lanes.items }
     {
-        let told = self.load.comes(core, input, self.now)?;
+        let told = self.load.comes(core, input, self.time)?;
         self.carry_out_all(&told)?;
         Ok(())
     }
@@ -281,7 +309,7 @@ impl<L: Link> Loading<L> {
         if core >= self.lanes.len() {
             return false;
         }
-        let now = self.now;
+        let now = self.time;
         let lane = &mut self.lanes[core];
         if lane.open_ == 0 || now < lane.due {
             return false;
@@ -366,15 +394,15 @@ impl<L: Link> Loading<L> {
         ensures keeps { Keeps self.old.load self.new.load result }
         ensures lanes { length self.new.lanes.items ≡ length self.old.lanes.items }
     {
-        self.now = self.now.max(now);
+        self.time = self.time.max(now);
         if let Err(e) = self.take_ops() {
             return Err(e);
         }
         self.serve_all()
     }
 
-    /// Takes turns until each op is answered or so many microseconds are over, and at most so many turns. Whether each op is answered.
-    /// After an error the load is over.
+    /// Takes turns until each op is answered or so many microseconds are over, and at most so many
+    /// turns. Whether each op is answered. After an error the load is over.
     #[tactic(auto, using(crate::proofs::LoadLemmas::keeps_all))]
     pub fn take_turns<C: Clock>(
         &mut self,

@@ -1,8 +1,8 @@
 ghost use Rattle.std.specs.Prelude.{◌≡◌};
 ghost use Rattle.service_load.specs.Ranks.{ranked};
 
-/// What a load came to: how many ops were submitted and how many answered, how many datagrams could not be sent, and how long each answered
-/// op took, in microseconds, the shortest time first.
+/// What a load came to: how many ops were submitted and how many answered, how many datagrams could
+/// not be sent, and how long each answered op took, in microseconds, the shortest time first.
 #[derive(Debug, Drop)]
 pub struct Report {
     pub submitted: u64,

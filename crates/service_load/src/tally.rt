@@ -5,7 +5,8 @@ use desk::Labelled;
 use nop_types::{NoMemory, Out};
 use std::alloc::Global;
 
-/// When the request of each ticket was submitted, and how long each answered one took, in microseconds.
+/// When the request of each ticket was submitted, and how long each answered one took, in
+/// microseconds.
 #[derive(Drop)]
 pub(crate) struct Tally {
     pub(crate) begun: Vec<u64>,
@@ -22,7 +23,8 @@ impl Tally {
         }
     }
 
-    /// How long the request of a ticket took, which is answered now. Tickets are submitted in their order.
+    /// How long the request of a ticket took, which is answered now. Tickets are submitted in their
+    /// order.
     fn time_of(&self, ticket: u64, now: u64) -> u64 {
         match self.begun.get(ticket as usize) {
             Some(begun) => now.saturating_sub(*begun),

@@ -1,16 +1,15 @@
 -- What a call leaves of its session, and writes.
-use Rattle.std.proofs.Common.{◌≡◌, ◌∙◌, ℕ, List, Option, None, true, refl, sym, ap, subst}
+use Rattle.std.proofs.Common.{◌≡◌, ◌∙◌, ℕ, List, Option, None, sym, ap, subst}
 use Rattle.std.specs.Prelude.{Result, Ok, Err}
 use Rattle.nop_types.specs.declared.output.Accept.{Accept}
 use Rattle.client_call.specs.Sessions as sessions
 use Rattle.client_call.specs.Sessions.{SessionState, ended_after, ended_by}
 use Rattle.client_call.specs.declared.errors.CallError.{CallError}
 use Rattle.client_call.specs.declared.errors.CallError.TheVariants as errors
-use Rattle.service_tool.specs.Calls.{Concludes, GoesOn, GoesOnAfter, GoesOnBy}
+use Rattle.service_tool.specs.Calls.{Concludes, GoesOnBy}
 use Rattle.service_tool.specs.Outputs.{Outputs}
 use Rattle.service_tool.specs.Statuses.{IsOfCall}
 use Rattle.service_tool.specs.declared.status.Status.{Status}
-use Rattle.service_tool.specs.Repl as repl
 use Rattle.service_tool.specs.Repl.{worse}
 use Rattle.service_tool.specs.declared.status.Status.TheVariants.{Done, Usage, ReadFault, WriteFault}
 use Rattle.service_tool.specs.declared.status.Status.TheVariants.{LinkFault, NoMemory, Unanswered}
@@ -19,37 +18,15 @@ none_after : (was : Option CallError) (r : Result Accept CallError) → was ≡ 
 none_after was r none = ap (λ (w : Option CallError). ended_after w r) none
 
 -- after the answer to an op, or where there is none yet
-pub goes_on : (s t : SessionState) (was ended : Option CallError) (r : Result Accept CallError)
-    → (was ≡ None → sessions.GoesOn s t r) → ended ≡ ended_after was r → was ≡ None → GoesOnBy s t ended r
-goes_on s t was ended (Ok accept) later ends none =
-    let l = later none in
-    record { config = l.config; number = l.number; has_not_ended = ends ∙ none_after was (Ok accept) none }
-goes_on s t was ended (Err errors.Unanswered) later ends none =
-    let l = later none in
-    record { config = l.config; number = l.number; has_not_ended = ends ∙ none_after was (Err errors.Unanswered) none }
-goes_on s t was ended (Err errors.PortFault) later ends none = tt
-goes_on s t was ended (Err errors.LinkFault) later ends none = tt
-goes_on s t was ended (Err errors.NoMemory) later ends none = tt
-
--- said by the status
-pub goes_on_after : (s t : SessionState) (ended : Option CallError) (program : List ℕ) (r : Result (List ℕ) CallError) (o : Outputs) (status : Status)
-    → GoesOnBy s t ended r → Concludes program r o status → GoesOnAfter s t ended status
-goes_on_after s t ended program (Ok lines) o status h c = subst (λ (x : Status). GoesOnAfter s t ended x) (sym c.0) h
-goes_on_after s t ended program (Err errors.Unanswered) o status h c = subst (λ (x : Status). GoesOnAfter s t ended x) (sym c.0) h
-goes_on_after s t ended program (Err errors.PortFault) o status h c = subst (λ (x : Status). GoesOnAfter s t ended x) (sym c.0) tt
-goes_on_after s t ended program (Err errors.LinkFault) o status h c = subst (λ (x : Status). GoesOnAfter s t ended x) (sym c.0) tt
-goes_on_after s t ended program (Err errors.NoMemory) o status h c = subst (λ (x : Status). GoesOnAfter s t ended x) (sym c.0) tt
-
-goes_on_by : (s t : SessionState) (ended : Option CallError) (status : Status) → repl.goes_on status ≡ true
-    → GoesOnAfter s t ended status
-    → GoesOn s t ended
-goes_on_by s t ended Done more h = h
-goes_on_by s t ended Usage more h = h
-goes_on_by s t ended Unanswered more h = h
-goes_on_by s t ended ReadFault more h = cc
-goes_on_by s t ended WriteFault more h = cc
-goes_on_by s t ended LinkFault more h = cc
-goes_on_by s t ended NoMemory more h = cc
+pub goes_on : (s t : SessionState) (op : List ℕ) (was ended : Option CallError) (r : Result Accept CallError)
+    → (was ≡ None → sessions.GoesOn s t op r) → ended ≡ ended_after was r → was ≡ None → GoesOnBy s t op ended r
+goes_on s t op was ended (Ok accept) later ends none =
+    record { submits = later none; has_not_ended = ends ∙ none_after was (Ok accept) none }
+goes_on s t op was ended (Err errors.Unanswered) later ends none =
+    record { submits = later none; has_not_ended = ends ∙ none_after was (Err errors.Unanswered) none }
+goes_on s t op was ended (Err errors.PortFault) later ends none = tt
+goes_on s t op was ended (Err errors.LinkFault) later ends none = tt
+goes_on s t op was ended (Err errors.NoMemory) later ends none = tt
 
 pub of_call : (program : List ℕ) (r : Result (List ℕ) CallError) (o : Outputs) (status : Status)
     → Concludes program r o status → IsOfCall status
@@ -60,16 +37,6 @@ of_call program (Err errors.LinkFault) o status c = subst IsOfCall (sym c.0) tt
 of_call program (Err errors.NoMemory) o status c = subst IsOfCall (sym c.0) tt
 
 -- ---- one call after another
-
-pub goes_on_here : (s : SessionState) (ended : Option CallError) → ended ≡ None → GoesOn s s ended
-goes_on_here s ended none = record { config = refl; number = refl; has_not_ended = none }
-
-pub goes_on_more : (s t u : SessionState) (was ended : Option CallError) (status : Status) → repl.goes_on status ≡ true
-    → GoesOn s t was
-    → GoesOnAfter t u ended status → GoesOn s u ended
-goes_on_more s t u was ended status more first second =
-    let next = goes_on_by t u ended status more second in
-    record { config = next.config ∙ first.config; number = next.number ∙ first.number; has_not_ended = next.has_not_ended }
 
 pub of_call_worse : (before now : Status) → IsOfCall before → IsOfCall now → IsOfCall (worse before now)
 of_call_worse Done now b n = n

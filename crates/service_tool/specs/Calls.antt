@@ -1,7 +1,7 @@
 -- The lines of a result, and what a call of a service writes.
-use Rattle.std.specs.Prelude.{◌≡◌, ℕ, ◌+◌, List, [], ◌∷◌, ◌++◌, Bool, true, false, codes, decimal, Option, None, Result, Ok, Err, ⊤}
+use Rattle.std.specs.Prelude.{◌≡◌, ℕ, ◌+◌, List, [], ◌∷◌, ◌++◌, Bool, true, false, codes, cond, decimal, Option, None, Result, Ok, Err, ⊤}
 use Rattle.nop_types.specs.declared.output.Accept.{Accept}
-use Rattle.client_call.specs.Sessions.{SessionState, IsAnswered, last_id}
+use Rattle.client_call.specs.Sessions.{SessionState, IsAnswered, Submits, can_submit, last_id}
 use Rattle.client_call.specs.declared.errors.CallError.{CallError}
 use Rattle.client_call.specs.declared.errors.CallError.TheVariants as errors
 use Rattle.op_text.specs.Words.{text_of}
@@ -9,7 +9,7 @@ use Rattle.service_tool.specs.Outputs.{Outputs, WroteErr, WroteOut}
 use Rattle.service_tool.specs.Statuses.{call_text, status_of}
 use Rattle.service_tool.specs.Telling.{told_line}
 use Rattle.service_tool.specs.declared.status.Status.{Status}
-use Rattle.service_tool.specs.declared.status.Status.TheVariants.{Done, Usage, Unanswered}
+use Rattle.service_tool.specs.declared.status.Status.TheVariants.{Done}
 
 -- words, and the line's end
 abbrev pub line_of : List (List ℕ) → List ℕ
@@ -39,29 +39,23 @@ abbrev pub Concludes : List ℕ → Result (List ℕ) CallError → Outputs → 
 Concludes program (Ok lines) o status = (status ≡ Done) × WroteOut lines o
 Concludes program (Err e) o status = (status ≡ status_of e) × WroteErr (told_line program (call_text e)) o
 
--- an op was called, and how that ended is written
-pub record Calls (result_words : List ℕ → List (List ℕ)) (program : List ℕ) (s : SessionState) (op : List ℕ) (with_slot : Bool) (o : Outputs)
-    (status : Status) : Type 0 where
-  pub result : Result (List ℕ) CallError
-  pub answers : Answers result_words s op with_slot result
-  pub concludes : Concludes program result o status
-
 -- ---- the session behind a call
 
--- it is the same client, and has not ended
-pub record GoesOn (s t : SessionState) (ended : Option CallError) : Type 0 where
-  pub config : t.config ≡ s.config
-  pub number : t.number ≡ s.number
+-- it submitted these ops, and has not ended
+pub record GoesOn (s t : SessionState) (ops : List (List ℕ)) (ended : Option CallError) : Type 0 where
+  pub submits : Submits s t ops
   pub has_not_ended : ended ≡ None
 
--- so it is after an answer, and where there is none yet
-abbrev pub GoesOnBy : {A : Type 0} → SessionState → SessionState → Option CallError → Result A CallError → Type 0
-GoesOnBy s t ended (Ok x) = GoesOn s t ended
-GoesOnBy s t ended (Err errors.Unanswered) = GoesOn s t ended
-GoesOnBy s t ended (Err e) = ⊤
+-- the op was submitted where it is answered, and where it is not, if there was room for its request
+abbrev pub GoesOnBy : {A : Type 0} → SessionState → SessionState → List ℕ → Option CallError → Result A CallError → Type 0
+GoesOnBy s t op ended (Ok x) = GoesOn s t (op ∷ []) ended
+GoesOnBy s t op ended (Err errors.Unanswered) = GoesOn s t (cond (can_submit s) (op ∷ []) []) ended
+GoesOnBy s t op ended (Err e) = ⊤
 
-abbrev pub GoesOnAfter : SessionState → SessionState → Option CallError → Status → Type 0
-GoesOnAfter s t ended Done = GoesOn s t ended
-GoesOnAfter s t ended Usage = GoesOn s t ended
-GoesOnAfter s t ended Unanswered = GoesOn s t ended
-GoesOnAfter s t ended status = ⊤
+-- An op was called in a session in this state, which had ended by `was`, and how that ended is written.
+pub record Calls (result_words : List ℕ → List (List ℕ)) (program : List ℕ) (s t : SessionState) (was ended : Option CallError) (op : List ℕ)
+    (with_slot : Bool) (o : Outputs) (status : Status) : Type 0 where
+  pub result : Result (List ℕ) CallError
+  pub answers : Answers result_words s op with_slot result
+  pub goes_on : was ≡ None → GoesOnBy s t op ended result
+  pub concludes : Concludes program result o status

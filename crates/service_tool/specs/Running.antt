@@ -1,9 +1,10 @@
 -- What is told where no op is asked for, and what is done where one is.
-use Rattle.std.specs.Prelude.{◌≡◌, ℕ, List, Bool, Option, Result, Ok, Err}
+use Rattle.std.specs.Prelude.{◌≡◌, ◌⊎◌, ℕ, List, Bool, Option, None, Result, Ok, Err}
 use Rattle.client_call.specs.Sessions.{SessionState}
-use Rattle.service_tool.specs.Calls.{Calls}
+use Rattle.client_call.specs.declared.errors.CallError.{CallError}
+use Rattle.service_tool.specs.Calls.{Calls, Concludes}
 use Rattle.service_tool.specs.Outputs.{Outputs, WroteErr, WroteNothing, WroteOut}
-use Rattle.service_tool.specs.Repl.{WroteAnswers}
+use Rattle.service_tool.specs.Repl.{TakesLines}
 use Rattle.service_tool.specs.Telling.{fault_text, help_text, version_text}
 use Rattle.service_tool.specs.declared.asked.Asked.{Asked}
 use Rattle.service_tool.specs.declared.asked.Command.{Command}
@@ -31,8 +32,23 @@ Tells tool words (Err f) o (Ok goes) = ⊥
 
 -- ---- what is asked for is done in a session
 
-abbrev pub DoesIn : (List (List ℕ) → Option (List ℕ)) → (List ℕ → List (List ℕ)) → List ℕ → SessionState → Command → (with_slot : Bool)
-    → Outputs → Status → Type 0
-DoesIn op_of result_words program s (Execute op) with_slot o status = Calls result_words program s op with_slot o status
-DoesIn op_of result_words program s Repl with_slot o status = WroteAnswers op_of result_words s.config s.number with_slot o.out o.now_out
-DoesIn op_of result_words program s command with_slot o status = o.now_out ≡ o.out
+-- in one that has not ended; the input has these bytes left, and then those
+abbrev pub DoesIn : (List (List ℕ) → Option (List ℕ)) → (List ℕ → List (List ℕ)) → Tool → (before left : Option (List ℕ)) → SessionState
+    → Command → (with_slot : Bool) → Outputs → Status → Type 0
+DoesIn op_of result_words tool before left s (Execute op) with_slot o status =
+    (t : SessionState) × (ended : Option CallError) × Calls result_words tool.program.now s t None ended op with_slot o status
+DoesIn op_of result_words tool before left s Repl with_slot o status =
+    TakesLines op_of result_words tool with_slot before left s o status
+DoesIn op_of result_words tool before left s command with_slot o status = o.now_out ≡ o.out
+
+-- no link was attached, and why is told
+pub record NotOpened (tool : Tool) (o : Outputs) (attached now_attached : ℕ) (status : Status) : Type 0 where
+  pub error : CallError
+  pub told : Concludes tool.program.now (Err error) o status
+  pub none : now_attached ≡ attached
+
+-- in a session that is opened for it
+abbrev pub Does : (List (List ℕ) → Option (List ℕ)) → (List ℕ → List (List ℕ)) → Tool → (before left : Option (List ℕ)) → SessionState
+    → Command → (with_slot : Bool) → Outputs → (attached now_attached : ℕ) → Status → Type 0
+Does op_of result_words tool before left s command with_slot o attached now_attached status =
+    NotOpened tool o attached now_attached status ⊎ DoesIn op_of result_words tool before left s command with_slot o status

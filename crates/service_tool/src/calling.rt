@@ -4,7 +4,7 @@ ghost use Rattle.std.specs.Prelude.{◌≡◌, ◌++◌, ◌∷◌, [], codes, d
 ghost use Rattle.std.specs.Io.KnownBytes.{Appends};
 ghost use Rattle.outside.specs.Causes.{CountsFor};
 ghost use Rattle.outside.specs.declared.errors.DeviceError.TheVariants as devices;
-ghost use Rattle.service_tool.specs.Calls.{Answers, Calls, Concludes, GoesOnAfter, GoesOnBy};
+ghost use Rattle.service_tool.specs.Calls.{Answers, Calls, Concludes, GoesOnBy};
 ghost use Rattle.service_tool.specs.Calls.{line_of, lines_of, slot_line};
 ghost use Rattle.service_tool.specs.Outputs.{FaultsFor, faults, outputs};
 ghost use Rattle.service_tool.specs.Statuses.{IsOfCall};
@@ -78,7 +78,7 @@ fn execute<T: OpText, L: Link, C: Clock>(
     // which has this op.
     ensures answers { Answers T.result_words session.old.core.state op.now manner.slot result }
     ensures goes_on { session.old.ended ≡ None
-        → GoesOnBy session.old.core.state session.new.core.state session.new.ended result }
+        → GoesOnBy session.old.core.state session.new.core.state op.now session.new.ended result }
 {
     let accept = session.submit(op, manner.turns, clock)?;
     Ok(lines_of::<T>(alloc, manner.slot, &accept)?)
@@ -137,11 +137,10 @@ pub(crate) fn call<T: OpText, L: Link, C: Clock, K: Sink, E: Sink>(
     out: &mut K,
     err: &mut E,
 ) -> Result<Status, WriteError>
-    ensures calls { IfOk result (Calls T.result_words tool.now.program.now session.old.core.state
+    ensures calls { IfOk result (Calls T.result_words tool.now.program.now
+        session.old.core.state session.new.core.state session.old.ended session.new.ended
         op.now manner.slot
         (outputs (K.held out.old) (K.held out.new) (E.held err.old) (E.held err.new))) }
-    ensures goes_on { session.old.ended ≡ None → IfOk result
-        (GoesOnAfter session.old.core.state session.new.core.state session.new.ended) }
     ensures status { IfOk result IsOfCall }
     ensures faults { FaultsFor (faults (K.fault_count out.old) (K.fault_count out.new)
         (E.fault_count err.old) (E.fault_count err.new)) result }

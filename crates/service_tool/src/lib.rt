@@ -13,12 +13,14 @@
 //! `specs/Asked`), so that the op which is submitted is the one that the words name, by the
 //! definitions of its `OpText`; what is told of it (`told`, exactly `specs/Telling`). Of
 //! `run_command`: for an op that the lines of the answer of f + 1 replicas to the request with this
-//! op are written, or why there are none is told, with which status; for `repl` that such lines are
-//! written, one answer behind another, and nothing else; that the client's port is given back; that
-//! an error comes exactly where a write failed, and ReadFault only where a read did. Of `tell_watch`:
-//! what is told of a watch that ended, with which status, exactly (`specs/Watched`). That `repl` takes
-//! all lines of its input, in order, is tested only (`checks/tool.sh`); what `status` shows is said
-//! at the head of `watching`, what `load` does at that of `service_load`.
+//! op are written, or why there are none is told, with which status; for `repl` that all lines of
+//! the input are taken in order, none left out (`TakesLines`): the session submitted the op of each,
+//! its answer's lines are what is written for it, or why it has none is told, up to the end of the
+//! input or to what stopped that, with the status of that; that the client's port is given back;
+//! that an error comes exactly where a write failed, and ReadFault only where a read did. Of
+//! `tell_watch`: what is told of a watch that ended, with which status, exactly (`specs/Watched`).
+//! What `status` shows is said at the head of `watching`, what `load` does at that of
+//! `service_load`.
 //!
 //! Calls, for `tool_program`: `told`, `run_command` and `tell_watch`, with `Tool` and `Row`. Files:
 //! `options`, `asked`, `reason` (the words), `telling` (texts), `status`, `calling` and `repl` (ops),

@@ -59,7 +59,7 @@ impl Reason {
             Reason::BadOps => "want 1 to 1000000000 ops",
             Reason::BadOp => "no op of this service, and no command: see --help",
             Reason::ExtraWord => "want no further word",
-            Reason::LongInput => "want at most 4294967295 lines of at most 4096 bytes",
+            Reason::LongInput => "want at most 4294967294 lines of at most 4096 bytes",
         }
     }
 }

@@ -1,11 +1,9 @@
 //! Ops from the lines of an input, one after another, as one client.
 
 ghost use Rattle.std.specs.Prelude.{◌≡◌, IfOk, None};
-ghost use Rattle.line_fields.specs.Fields.{fields};
 ghost use Rattle.outside.specs.Causes.{Rose};
-ghost use Rattle.service_tool.specs.Calls.{GoesOnAfter};
 ghost use Rattle.service_tool.specs.Outputs.{FaultsFor, WroteErr, faults, outputs};
-ghost use Rattle.service_tool.specs.Repl.{TakesOp, WroteAnswers, goes_on, is_too_much, worse};
+ghost use Rattle.service_tool.specs.Repl.{TakesLine, TakesLines, TakesOp, goes_on, worse};
 ghost use Rattle.service_tool.specs.Statuses.{IsOfCall};
 ghost use Rattle.service_tool.specs.Telling.{fault_text};
 ghost use Rattle.service_tool.specs.declared.status.Status.TheVariants as statuses;
@@ -15,26 +13,12 @@ use crate::reason::{Fault, Reason};
 use crate::status::{Status, read_text};
 use crate::telling::{Tool, fault};
 use client_call::Session;
-use line_fields::{cut, next_field};
 use line_reader::LineReader;
-use nop_types::{Bytes, MAX_LINE_BYTES, NoMemory};
-use op_text::{OpText, Words};
+use nop_types::Bytes;
+use op_text::OpText;
 use outside::{Clock, Link, Sink, Source, WriteError, write_all};
+use service_words::{MAX_TEXT_LINES, fields_of, is_too_much};
 use std::alloc::Global;
-
-/// The words of a line.
-fn words_of(alloc: Global, line: &[u8]) -> Result<Words, NoMemory>
-    ensures { IfOk result (λ words. words ≡ fields line.now) }
-{
-    let mut words = Words::new(alloc);
-    let (word, mut rest) = cut(line);
-    words.put(word)?;
-    while let Some((word, others)) = next_field(rest) {
-        words.put(word)?;
-        rest = others;
-    }
-    Ok(words)
-}
 
 /// Tells what is wrong with the first of words; the input goes on, if it can.
 #[tactic(auto, using(crate::proofs::FaultLemmas::err_fault))]
@@ -69,11 +53,10 @@ fn take_words<T: OpText, L: Link, C: Clock, K: Sink, E: Sink>(
     err: &mut E,
 ) -> Result<Status, WriteError>
     // What is written is the result of the op that the words name.
-    ensures takes { IfOk result (TakesOp T.result_words tool.now session.old.core.state words.now
-        (T.op_of words.now) manner.slot
+    ensures takes { IfOk result (TakesOp T.result_words tool.now
+        session.old.core.state session.new.core.state session.old.ended session.new.ended
+        words.now (T.op_of words.now) manner.slot
         (outputs (K.held out.old) (K.held out.new) (E.held err.old) (E.held err.new))) }
-    ensures goes_on { session.old.ended ≡ None → IfOk result
-        (GoesOnAfter session.old.core.state session.new.core.state session.new.ended) }
     ensures status { IfOk result IsOfCall }
     ensures faults { FaultsFor (faults (K.fault_count out.old) (K.fault_count out.new)
         (E.fault_count err.old) (E.fault_count err.new)) result }
@@ -95,11 +78,10 @@ fn take_line<T: OpText, L: Link, C: Clock, K: Sink, E: Sink>(
     out: &mut K,
     err: &mut E,
 ) -> Result<Status, WriteError>
-    ensures writes { IfOk result (λ _. WroteAnswers T.op_of T.result_words
-        session.old.core.state.config session.old.core.state.number manner.slot
-        (K.held out.old) (K.held out.new)) }
-    ensures goes_on { session.old.ended ≡ None → IfOk result
-        (GoesOnAfter session.old.core.state session.new.core.state session.new.ended) }
+    ensures takes { session.old.ended ≡ None → IfOk result (TakesLine T.op_of T.result_words
+        tool.now manner.slot line.now
+        session.old.core.state session.new.core.state session.new.ended
+        (outputs (K.held out.old) (K.held out.new) (E.held err.old) (E.held err.new))) }
     ensures status { IfOk result IsOfCall }
     ensures faults { FaultsFor (faults (K.fault_count out.old) (K.fault_count out.new)
         (E.fault_count err.old) (E.fault_count err.new)) result }
@@ -107,7 +89,7 @@ fn take_line<T: OpText, L: Link, C: Clock, K: Sink, E: Sink>(
     if line.is_empty() {
         return Ok(Status::Done);
     }
-    let words = words_of(alloc, line)?;
+    let words = fields_of(alloc, line)?;
     take_words::<T, L, C, K, E>(
         alloc,
         tool,
@@ -134,13 +116,6 @@ fn goes_on(status: Status) -> bool
     status == Status::Done || status == Status::Usage || status == Status::Unanswered
 }
 
-/// Whether a line behind so many is one too many, or too long.
-fn is_too_much(before: u32, len: usize) -> bool
-    ensures { result ≡ is_too_much before len }
-{
-    before == u32::MAX || len > MAX_LINE_BYTES
-}
-
 /// Has the op of each line executed, as its answer comes, and says how that ended: with the first
 /// status that is not Done. A line that is too long is the last one.
 pub(crate) fn take_lines<T: OpText, L: Link, C: Clock, S: Source, K: Sink, E: Sink>(
@@ -154,15 +129,16 @@ pub(crate) fn take_lines<T: OpText, L: Link, C: Clock, S: Source, K: Sink, E: Si
     err: &mut E,
 ) -> Result<Status, WriteError>
     requires { session.old.ended ≡ None }
-    ensures writes { IfOk result (λ _. WroteAnswers T.op_of T.result_words
-        session.old.core.state.config session.old.core.state.number manner.slot
-        (K.held out.old) (K.held out.new)) }
+    // Each line of the input was taken, in order: its op submitted and its result written.
+    ensures takes { IfOk result (TakesLines T.op_of T.result_words tool.now manner.slot
+        (S.left source.old) (S.left source.new) session.old.core.state
+        (outputs (K.held out.old) (K.held out.new) (E.held err.old) (E.held err.new))) }
     ensures reads { IfOk result (λ status. status ≡ statuses.ReadFault
         → Rose (S.fault_count source.old) (S.fault_count source.new)) }
     ensures faults { FaultsFor (faults (K.fault_count out.old) (K.fault_count out.new)
         (E.fault_count err.old) (E.fault_count err.new)) result }
 {
-    let mut lines = LineReader::new(alloc, u32::MAX);
+    let mut lines = LineReader::new(alloc, MAX_TEXT_LINES);
     let mut status = Status::Done;
     loop {
         let first = match lines.next_line(source) {

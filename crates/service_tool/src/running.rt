@@ -5,7 +5,7 @@ ghost use Rattle.client_call.specs.Sessions.{opening};
 ghost use Rattle.outside.specs.Causes.{Rose};
 ghost use Rattle.service_tool.specs.Asked.{asked_of};
 ghost use Rattle.service_tool.specs.Outputs.{FaultsFor, faults, outputs};
-ghost use Rattle.service_tool.specs.Running.{DoesIn, Tells};
+ghost use Rattle.service_tool.specs.Running.{Does, DoesIn, Tells};
 ghost use Rattle.service_tool.specs.declared.status.Status.TheVariants as statuses;
 
 use crate::asked::{Asked, Command, asked_of};
@@ -66,7 +66,8 @@ fn run_session<T: OpText, L: Link, C: Clock, S: Source, K: Sink, E: Sink>(
     err: &mut E,
 ) -> Result<Status, WriteError>
     requires { session.old.ended ≡ None }
-    ensures does { IfOk result (DoesIn T.op_of T.result_words tool.now.program.now
+    ensures does { IfOk result (DoesIn T.op_of T.result_words tool.now
+        (S.left source.old) (S.left source.new)
         session.old.core.state asked.now.command asked.now.options.slot
         (outputs (K.held out.old) (K.held out.new) (E.held err.old) (E.held err.new))) }
     ensures reads { IfOk result (λ status. status ≡ statuses.ReadFault
@@ -103,10 +104,13 @@ pub fn run_command<T: OpText, P: Ports, C: Clock, S: Source, K: Sink, E: Sink>(
     out: &mut K,
     err: &mut E,
 ) -> Result<Status, WriteError>
-    // What is written is the result of the op that is asked for, or of the ops of the lines.
-    ensures does { IfOk result (DoesIn T.op_of T.result_words tool.now.program.now
+    // What is written is the result of the op that is asked for, or of the op of each line; where no
+    // session could be opened, why is told.
+    ensures does { IfOk result (Does T.op_of T.result_words tool.now
+        (S.left source.old) (S.left source.new)
         (opening service.now.config number) asked.now.command asked.now.options.slot
-        (outputs (K.held out.old) (K.held out.new) (E.held err.old) (E.held err.new))) }
+        (outputs (K.held out.old) (K.held out.new) (E.held err.old) (E.held err.new))
+        (P.attached ports.old) (P.attached ports.new)) }
 
     // The client's port is given back.
     ensures back { P.attached ports.new + length (P.detached ports.old)

@@ -1,4 +1,4 @@
-mod Behinds
+pub mod Behinds
 mod LineLemmas
-mod Readings
+pub mod Readings
 mod Written

@@ -37,7 +37,7 @@ both_cases : (b : Bool) {P : Type 0} → (b ≡ false → P) → (b ≡ true →
 both_cases true f g = g refl
 both_cases false f g = f refl
 
-went_on : (before middle left : Option (List ℕ)) (all : List ℕ) (old new : Reading) → Went before middle all old.ended
+pub went_on : (before middle left : Option (List ℕ)) (all : List ℕ) (old new : Reading) → Went before middle all old.ended
     → (takes : TakesFrom old new middle left) → Went before left (all ++ takes.taken) new.ended
 went_on before middle left all old new went takes = record {
   source = Consumes-trans before middle left all takes.taken went.source takes.source;

@@ -9,7 +9,7 @@ use op_text::Words;
 use std::alloc::Global;
 
 /// The fields of a line.
-pub(crate) fn fields_of(alloc: Global, line: &[u8]) -> Result<Words, NoMemory>
+pub fn fields_of(alloc: Global, line: &[u8]) -> Result<Words, NoMemory>
     ensures { IfOk result (λ words. words ≡ fields line.now) }
 {
     let mut words = Words::new(alloc);

@@ -38,7 +38,7 @@ fn next<S: Source>(lines: &mut LineReader, source: &mut S) -> Result<Option<Firs
 }
 
 /// Whether a line behind so many is one too many, or too long.
-fn is_too_much(before: u32, len: usize) -> bool
+pub fn is_too_much(before: u32, len: usize) -> bool
     ensures { MatchBool result
         ((MAX_TEXT_LINES ≤ before) ⊎ (MAX_LINE_BYTES < len))
         ((before < MAX_TEXT_LINES) × (len ≤ MAX_LINE_BYTES)) }

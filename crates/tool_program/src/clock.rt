@@ -3,7 +3,8 @@
 use outside::Clock;
 use std::time::Duration;
 
-/// The clock of the operating system, in microseconds from a start of its own. Where it cannot be read, the last value.
+/// The clock of the operating system, in microseconds from a start of its own. Where it cannot be
+/// read, the last value.
 #[derive(Drop)]
 pub(crate) struct MicroClock<'a, R: std::time::Clock> {
     system: &'a R,

@@ -1,6 +1,6 @@
 //! A load that a tool puts on a service, over the system's clock.
 
-ghost use Rattle.std.specs.Prelude.{◌≡◌, length};
+ghost use Rattle.std.specs.Prelude.{◌≡◌, ◌+◌, ◌≤◌, ◌^◌, length, IsTrue};
 
 use crate::clock::MicroClock;
 use crate::saying::tell;
@@ -18,13 +18,23 @@ const PROGRESS_MICROS: u64 = 1_000_000;
 
 const _: () = prove!(PROGRESS_MICROS == 1_000_000);
 
-/// What is asked for: so many ops, through so many clients from this number on, and the most milliseconds without an answer.
+/// What is asked for: so many ops, through so many clients from this number on, and the most
+/// milliseconds without an answer.
 #[derive(Clone, Copy)]
 pub(crate) struct Asked {
     pub(crate) first: u32,
     pub(crate) clients: u32,
     pub(crate) ops: u64,
     pub(crate) patience: u64,
+}
+
+impl Asked {
+    /// Whether there are so many numbers from the first one on.
+    pub(crate) fn has_numbers(self) -> bool
+        ensures { IsTrue result → self.first + self.clients ≤ 2 ^ 32 }
+    {
+        u64::from(self.first) + u64::from(self.clients) <= 4_294_967_296
+    }
 }
 
 /// The op of words.
@@ -132,15 +142,9 @@ pub(crate) fn load_over<T: OpText>(
     service: &Service,
     asked: Asked,
     ports: &mut UdpPorts<'_, HostRuntime>,
-) -> Status {
-    if u64::from(asked.first) + u64::from(asked.clients) > 4_294_967_296 {
-        return tell(
-            rt,
-            tool,
-            "want client numbers up to 4294967295",
-            Status::Usage,
-        );
-    }
+) -> Status
+    requires { asked.first + asked.clients ≤ 2 ^ 32 }
+{
     let pattern = match pattern_of::<T>(rt, load) {
         Ok(Some(pattern)) => pattern,
         Ok(None) => return Status::Usage,

@@ -1,12 +1,14 @@
 //! The program of a tool: its words, and its devices.
 
+ghost use Rattle.std.specs.Prelude.{◌+◌, ◌≤◌, ◌^◌};
+
 use crate::load;
 use crate::load::load_over;
 use crate::rows::all_rows;
 use crate::saying::{status_of, tell};
 use client_call::Service;
 use host_list::HostList;
-use host_places::{address_in, own_of, places_of};
+use host_places::{address_in, has_clients, homes_of, own_of, places_of};
 use host_watch::watch_at;
 use nop_types::{Actor, Bytes, Config, MAX_CONTROLLERS, MAX_OBSERVERS, NoMemory};
 use op_text::{OpText, Words};
@@ -106,7 +108,9 @@ fn load_here<T: OpText>(
     load: &[&[&str]],
     options: Options,
     asked: load::Asked,
-) -> Status {
+) -> Status
+    requires { asked.first + asked.clients ≤ 2 ^ 32 }
+{
     let config = Config::new(options.replicas, options.sequencers, 1, MAX_CONTROLLERS, 0);
     let (Some(base), Some(config)) = (BasePort::new(options.base), config) else {
         return Status::Usage;
@@ -114,6 +118,66 @@ fn load_here<T: OpText>(
     let service = Service { base, config };
     let mut ports = UdpPorts::new(rt, rt.alloc());
     load_over::<T>(rt, tool, load, &service, asked, &mut ports)
+}
+
+/// Puts a load on a service of a list of hosts, each client at its place.
+fn load_in<T: OpText>(
+    rt: &HostRuntime,
+    tool: &Tool<'_>,
+    load: &[&[&str]],
+    list: &HostList,
+    asked: load::Asked,
+) -> Status
+    requires { asked.first + asked.clients ≤ 2 ^ 32 }
+{
+    if !has_clients(list, asked.first, asked.clients) {
+        return tell(
+            rt,
+            tool,
+            "the list of hosts has no place for one of these client numbers",
+            Status::Usage,
+        );
+    }
+    let first = Actor::Client(asked.first);
+    let (Some(at), Some(own)) = (address_in(list, first), own_of(rt, list, first)) else {
+        return Status::LinkFault;
+    };
+    let Ok(places) = places_of(rt.alloc(), list, &at) else {
+        return Status::NoMemory;
+    };
+    let homes = homes_of(rt.alloc(), &places, &at, own, asked.first, asked.clients);
+    let Ok(homes) = homes else {
+        return Status::NoMemory;
+    };
+    let service = Service {
+        base: at.base,
+        config: at.config,
+    };
+    let mut ports = UdpPorts::at_hosts(rt, rt.alloc(), &homes);
+    load_over::<T>(rt, tool, load, &service, asked, &mut ports)
+}
+
+/// Puts a load on a service, on this machine or of a list of hosts.
+fn run_load<T: OpText>(
+    rt: &HostRuntime,
+    tool: &Tool<'_>,
+    load: &[&[&str]],
+    list: Option<&HostList>,
+    options: Options,
+    asked: load::Asked,
+) -> Status {
+    if !asked.has_numbers() {
+        return tell(
+            rt,
+            tool,
+            "want client numbers up to 4294967295",
+            Status::Usage,
+        );
+    }
+    match list {
+        None => load_here::<T>(rt, tool, load, options, asked),
+        Some(list) => load_in::<T>(rt, tool, load, list, asked),
+    }
 }
 
 /// One state, in the turns of the options.
@@ -238,36 +302,29 @@ fn turn<T: OpText>(
     }
 }
 
-/// Does what is asked for at the ports of this machine.
-fn run_here<T: OpText>(
+/// Does what is asked for, at the places of a list of hosts, or at the ports of this machine.
+fn run_at<T: OpText>(
     rt: &HostRuntime,
     tool: &Tool<'_>,
     load: &[&[&str]],
+    list: Option<&HostList>,
     asked: &Asked,
 ) -> Status {
-    match (&asked.command, asked.options.id) {
-        (Command::Load(clients, ops), Some(first)) => {
+    match (&asked.command, asked.options.id, list) {
+        (Command::Load(clients, ops), Some(first), list) => {
             let loading = load::Asked {
                 first,
                 clients: *clients,
                 ops: *ops,
                 patience: asked.options.turns,
             };
-            load_here::<T>(rt, tool, load, asked.options, loading)
+            run_load::<T>(rt, tool, load, list, asked.options, loading)
         }
-        (Command::Status, _) => show_here(rt, tool, asked.options),
-        (_, Some(number)) => call_here::<T>(rt, tool, asked, number),
-        (_, None) => Status::Usage,
-    }
-}
-
-/// Does what is asked for at the places of a list of hosts.
-fn run_in<T: OpText>(rt: &HostRuntime, tool: &Tool<'_>, list: &HostList, asked: &Asked) -> Status {
-    match (&asked.command, asked.options.id) {
-        (Command::Load(..), _) => tell(rt, tool, "load takes no --hosts", Status::Usage),
-        (Command::Status, _) => show_in(rt, tool, list, asked.options),
-        (_, Some(number)) => call_in::<T>(rt, tool, list, asked, number),
-        (_, None) => Status::Usage,
+        (Command::Status, _, None) => show_here(rt, tool, asked.options),
+        (Command::Status, _, Some(list)) => show_in(rt, tool, list, asked.options),
+        (_, Some(number), None) => call_here::<T>(rt, tool, asked, number),
+        (_, Some(number), Some(list)) => call_in::<T>(rt, tool, list, asked, number),
+        (_, None, _) => Status::Usage,
     }
 }
 
@@ -284,9 +341,9 @@ fn run_asked<T: OpText>(
         return status_of(turn::<T>(rt, tool, turned));
     }
     match asked.options.hosts {
-        None => run_here::<T>(rt, tool, load, asked),
+        None => run_at::<T>(rt, tool, load, None, asked),
         Some(at) => match list_at(rt, tool, words, at) {
-            Ok(list) => run_in::<T>(rt, tool, &list, asked),
+            Ok(list) => run_at::<T>(rt, tool, load, Some(&list), asked),
             Err(status) => status,
         },
     }

@@ -1,6 +1,7 @@
 use Rattle.std.proofs.Common.{Some}
 use Rattle.udp_node.specs.Sends.{side}
 use Rattle.client_call.specs.Sessions.{address_in}
+use Rattle.client_call.proofs.LoneRequests.{none_open}
 use Rattle.client_call.proofs.Sessions.{answers_op, goes_on}
 use Rattle.client_call.proofs.SessionEnds.{turns_before, turns_failed, turns_served}
 use Rattle.client_call.proofs.submitting.submit_over.Goals as goal
@@ -23,7 +24,14 @@ returns-in-Ok-clause-goes_on g c =
     goes_on (address_in c.args.base c.args.core.now.state) c.args.core.now.state c.serve.new.core.state c.args.op.now
     (Some c.new-sink.result.held) (Some c.serve.new.sink.held) (c.has_failed.ensures.run c.if-has_failed.false)
     (rw (c.address_in-at.ensures, c.first_of-first.ensures, c.await_next.ensures) at c.in-Ok.ensures.took)
-    c.accepted.result
+    c.accepted.result c.accepted.ensures
+
+pub returns-in-Ok-clause-none_open : goal.returns-in-Ok-clause-none_open
+returns-in-Ok-clause-none_open g c =
+    none_open (address_in c.args.base c.args.core.now.state) c.args.core.now.state c.serve.new.core.state c.args.op.now
+    (Some c.new-sink.result.held) (Some c.serve.new.sink.held) (c.has_failed.ensures.run c.if-has_failed.false)
+    (rw (c.address_in-at.ensures, c.first_of-first.ensures, c.await_next.ensures) at c.in-Ok.ensures.took)
+    c.accepted.result c.accepted.ensures
 
 pub returns-in-Ok-clause-over : goal.returns-in-Ok-clause-over
 returns-in-Ok-clause-over g c =

@@ -9,6 +9,7 @@ invariant-loop-lane g l = record {
       ≡ g.P.Ports.detached l.fn.ports ++ map (λ x. x.link) l.fn.lanes.items;
   attached : g.P.Ports.attached l.ports ≡ g.P.Ports.attached l.fn.ports;
   room : HasRoom (g.P.Ports.attached l.ports) (g.P.Ports.detached l.ports) (into_iter_items l.rest);
+  faults : g.P.Ports.fault_count l.ports ≡ g.P.Ports.fault_count l.fn.ports;
 }
 
 abbrev pub decreases-loop-lane : goal.decreases-loop-lane
