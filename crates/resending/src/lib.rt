@@ -17,8 +17,8 @@
 //! `flight`; `Receipts::new`, `record` and `take`; `Ack::read` and `to_bytes`; `Repeats::new`, `note`, `is_due`, `request` and `ports`;
 //! `name_of`, `lane_of`, `is_request`.
 //!
-//! Files, in reading order: `names`, `acks`, `lanes`, `round_trip`, `topics`, `backlog`, `flight`, `flow`, `receipts`, `repeats`, `laws`,
-//! `tests`; definitions beside them in `specs/`.
+//! Files, in reading order: `names`, `acks`, `lanes`, `round_trip`, `topics`, `backlog`, `flight`, `flow`, `receipts`, `repeats`, `laws`;
+//! definitions beside them in `specs/`. Tests of its public calls are in `socket_tests`.
 #![tactic(auto)]
 
 mod acks;
@@ -31,8 +31,6 @@ mod names;
 mod receipts;
 mod repeats;
 mod round_trip;
-#[cfg(test)]
-mod tests;
 mod topics;
 
 pub use acks::{ACK_BYTES, Ack, NAMED};

@@ -1,3 +1,5 @@
+use crate::checking::check;
+use crate::sockets::is_idle;
 use nop_types::{Datagram, Op, Request};
 use oum_codec::{encode, put_fragment};
 use outside::{Link, Ports};
@@ -6,16 +8,47 @@ use std::net::{Ipv4Addr, Net, UdpSocket};
 use std::ops::Range;
 use std::process::Abort;
 use std::time::{Clock, Duration};
-use udp_ports::{UdpPorts, is_part};
+use udp_ports::{UdpLink, UdpPorts, is_part};
 
 // The first port of these tests.
 const PORTS: u16 = 43300;
 
 /// A socket of another program, whose receives wait for at most a second.
-fn new_peer<R: Net>(rt: &R, port: u16) -> Option<UdpSocket> {
-    let peer = UdpSocket::bind(rt, (Ipv4Addr::LOCALHOST, port)).ok()?;
-    peer.set_read_timeout(Some(Duration::from_secs(1))).ok()?;
-    Some(peer)
+fn new_peer<R: Net + Abort>(rt: &R, port: u16) -> UdpSocket {
+    let peer = UdpSocket::bind(rt, (Ipv4Addr::LOCALHOST, port)).expect(rt, "a socket");
+    peer.set_read_timeout(Some(Duration::from_secs(1)))
+        .expect(rt, "a time-out");
+    peer
+}
+
+/// A link at this port.
+fn attached<'a, R: Net + Clock + Abort>(rt: &'a R, alloc: Global, port: u16) -> UdpLink<'a, R> {
+    let mut ports = UdpPorts::new(rt, alloc);
+    ports.attach(port).expect(rt, "a link")
+}
+
+/// Links at these two ports, of which the first waits when it is polled.
+fn both_attached<'a, R: Net + Clock + Abort>(
+    rt: &'a R,
+    alloc: Global,
+    first: u16,
+    second: u16,
+) -> (UdpLink<'a, R>, UdpLink<'a, R>) {
+    let mut ports = UdpPorts::new(rt, alloc);
+    let from = ports.attach(first).expect(rt, "a link");
+    let to = ports.attach(second).expect(rt, "a link");
+    (from, to)
+}
+
+/// Sends a datagram to a port of the loopback address.
+fn send(rt: &impl Abort, peer: &UdpSocket, bytes: &[u8], port: u16) {
+    peer.send_to(bytes, (Ipv4Addr::LOCALHOST, port))
+        .expect(rt, "a send");
+}
+
+/// The clock in microseconds.
+fn micros<R: Clock + Abort>(rt: &R) -> u128 {
+    rt.monotonic().expect(rt, "a clock").as_micros()
 }
 
 /// How many datagrams a socket has.
@@ -32,6 +65,11 @@ fn drained(peer: &UdpSocket) -> usize {
     count
 }
 
+/// A socket has so many datagrams.
+fn check_drained(rt: &impl Abort, peer: &UdpSocket, count: usize) {
+    check(rt, drained(peer) == count, "datagrams that came");
+}
+
 /// Whether a link takes the fragment with this count and this payload for a part.
 fn is_expected(rt: &impl Abort, alloc: Global, count: u16, payload: &[u8]) -> bool {
     let mut bytes = Vec::new(alloc);
@@ -44,19 +82,48 @@ fn is_expected(rt: &impl Abort, alloc: Global, count: u16, payload: &[u8]) -> bo
 fn fragments_of_several_are_parts(rt: HostRuntime) {
     let alloc = rt.alloc();
     for count in [2, 3, 255, 256, 257, 4096u16] {
-        assert!(rt;
-            is_expected(&rt, alloc, count, b"x") && is_expected(&rt, alloc, count, &[0; 1400])
-        );
+        check(&rt, is_expected(&rt, alloc, count, b"x"), "a short one");
+        let is_long = is_expected(&rt, alloc, count, &[0; 1400]);
+        check(&rt, is_long, "a long one");
     }
-    assert!(rt; !is_expected(&rt, alloc, 1, b"x") && !is_expected(&rt, alloc, 1, &[2; 1400]));
+    check(&rt, !is_expected(&rt, alloc, 1, b"x"), "one of one");
+    let is_long = is_expected(&rt, alloc, 1, &[2; 1400]);
+    check(&rt, !is_long, "a long one of one");
+}
+
+/// A request with the longest op is no part.
+#[test]
+fn requests_are_no_parts(rt: HostRuntime) {
     let request = Request {
         client: 0,
         id: 1,
-        op: Op::new(alloc, &[8; 640]).expect(&rt, "memory"),
+        op: Op::new(rt.alloc(), &[8; 640]).expect(&rt, "memory"),
     };
-    let mut bytes = Vec::new(alloc);
-    encode(alloc, &Datagram::Request(request), &mut bytes).expect(&rt, "memory");
-    assert!(rt; bytes.len() == 658 && !is_part(&bytes));
+    let mut bytes = Vec::new(rt.alloc());
+    encode(rt.alloc(), &Datagram::Request(request), &mut bytes).expect(&rt, "memory");
+    check(&rt, bytes.len() == 658, "its length");
+    check(&rt, !is_part(&bytes), "no part");
+}
+
+/// A fragment whose count has these two bytes: whether so many of its bytes are a part.
+fn check_told(rt: &impl Abort, high: u8, low: u8, lengths: &[(usize, bool)]) {
+    let mut fragment = [8u8; 1417];
+    fragment[15] = high;
+    fragment[16] = low;
+    for (len, expected) in lengths {
+        let told = is_part(&fragment[..(*len).min(1417)]);
+        check(rt, told == *expected, "a part or none");
+    }
+}
+
+/// Parts have a payload, and a count that is not one; datagrams of another kind are none.
+#[test]
+fn parts_are_told_by_kind_and_count(rt: HostRuntime) {
+    check_told(&rt, 0, 2, &[(1417, true), (18, true), (17, false)]);
+    check_told(&rt, 1, 1, &[(1417, true)]);
+    check_told(&rt, 0, 1, &[(1417, false), (18, false)]);
+    check(&rt, !is_part(&[7u8; 1417]), "another kind");
+    check(&rt, !is_part(b""), "no bytes");
 }
 
 /// A part of a message, with this index.
@@ -81,208 +148,290 @@ fn ack(window: u8, indexes: [u8; 8]) -> [u8; 27] {
     bytes
 }
 
+/// Sends so many parts of that message to a port.
+fn send_parts<L: Link>(rt: &impl Abort, link: &mut L, port: u16, count: u16) {
+    for i in 0..count {
+        link.send(port, &part(i)).expect(rt, "a send");
+    }
+}
+
 /// Polls a link until a socket has datagrams, and says how many, and after how many microseconds. None after five seconds.
-fn awaited<L: Link, C: Clock>(link: &mut L, peer: &UdpSocket, clock: &C) -> Option<(usize, u128)> {
-    let start = clock.monotonic().ok()?.as_micros();
+fn awaited<L: Link, R: Clock + Abort>(
+    rt: &R,
+    link: &mut L,
+    peer: &UdpSocket,
+) -> Option<(usize, u128)> {
+    let start = micros(rt);
     for _ in 0..100_000usize {
         let _none = link.poll();
         let count = drained(peer);
-        let now = clock.monotonic().ok()?.as_micros();
+        let waited = micros(rt).saturating_sub(start);
         if count > 0 {
-            return Some((count, now.saturating_sub(start)));
+            return Some((count, waited));
         }
-        if now.saturating_sub(start) >= 5_000_000 {
+        if waited >= 5_000_000 {
             return None;
         }
     }
     None
 }
 
+/// A socket has one datagram after so many microseconds, and not before.
+fn check_awaited<L: Link, R: Clock + Abort>(rt: &R, link: &mut L, peer: &UdpSocket, least: u128) {
+    let (count, waited) = awaited(rt, link, peer).expect(rt, "a datagram");
+    check(rt, count == 1, "one datagram");
+    check(rt, waited >= least, "not before");
+}
+
+fn check_wait<L: Link, R: Net + Clock + Abort>(rt: &R, link: &mut L) {
+    let peer = new_peer(rt, PORTS + 9);
+    send_parts(rt, link, PORTS + 9, 8);
+    check_drained(rt, &peer, 6);
+    check_awaited(rt, link, &peer, 90_000);
+}
+
 /// A port that acknowledges nothing gets six parts at once, and of these the first one again after a tenth of a second, not before.
 #[test]
 fn a_silent_port_has_to_wait(rt: HostRuntime) {
-    let mut ports = UdpPorts::new(&rt, rt.alloc());
-    let mut link = ports.attach(PORTS + 8).expect(&rt, "a link");
-    let peer = new_peer(&rt, PORTS + 9).expect(&rt, "a socket");
-    for i in 0..8u16 {
-        link.send(PORTS + 9, &part(i)).expect(&rt, "a send");
-    }
-    assert!(rt; drained(&peer) == 6);
-    let (count, micros) = awaited(&mut link, &peer, &rt).expect(&rt, "a part");
-    assert!(rt; count == 1 && micros >= 90_000);
+    let mut link = attached(&rt, rt.alloc(), PORTS + 8);
+    check_wait(&rt, &mut link);
 }
 
-/// Of three parts the last one is acknowledged: the others are sent again, and no more when they are acknowledged too.
-#[test]
-fn lost_parts_are_sent_again(rt: HostRuntime) {
-    let mut ports = UdpPorts::new(&rt, rt.alloc());
-    let mut link = ports.attach(PORTS + 12).expect(&rt, "a link");
-    let peer = new_peer(&rt, PORTS + 13).expect(&rt, "a socket");
-    for i in 0..3u16 {
-        link.send(PORTS + 13, &part(i)).expect(&rt, "a send");
-    }
-    assert!(rt; drained(&peer) == 3);
-    let to = (Ipv4Addr::LOCALHOST, link.port());
-    peer.send_to(&ack(36, [2; 8]), to).expect(&rt, "a send");
-    let (first, micros) = awaited(&mut link, &peer, &rt).expect(&rt, "a part");
-    // The second one was sent a little later than the first one, and so may be its turn.
+/// Two parts are sent again after a tenth of a second, not before: at once or one after the other, since the second one was sent a
+/// little later than the first one, and so may be its turn.
+fn check_two_again<L: Link, R: Clock + Abort>(rt: &R, link: &mut L, peer: &UdpSocket) {
+    let (first, waited) = awaited(rt, link, peer).expect(rt, "a part");
     let count = if first < 2 {
-        let (second, _) = awaited(&mut link, &peer, &rt).expect(&rt, "a part");
+        let (second, _) = awaited(rt, link, peer).expect(rt, "a part");
         first.saturating_add(second)
     } else {
         first
     };
-    assert!(rt; count == 2 && micros >= 90_000);
-    peer.send_to(&ack(36, [1, 0, 0, 0, 0, 0, 0, 0]), to)
-        .expect(&rt, "a send");
-    let start = rt.monotonic().expect(&rt, "a clock").as_micros();
+    check(rt, count == 2, "two parts");
+    check(rt, waited >= 90_000, "not before");
+}
+
+/// Nothing is sent and nothing received for this many microseconds.
+fn check_silence<L: Link, R: Clock + Abort>(rt: &R, link: &mut L, peer: &UdpSocket, time: u128) {
+    let start = micros(rt);
     for _ in 0..100_000usize {
-        assert!(rt; link.poll().expect(&rt, "a poll").is_none() && drained(&peer) == 0);
-        let now = rt.monotonic().expect(&rt, "a clock").as_micros();
-        if now.saturating_sub(start) >= 700_000 {
+        check(rt, is_idle(rt, link), "nothing comes");
+        check_drained(rt, peer, 0);
+        if micros(rt).saturating_sub(start) >= time {
             return;
         }
     }
 }
 
+fn check_sent_again<L: Link, R: Net + Clock + Abort>(rt: &R, link: &mut L) {
+    let peer = new_peer(rt, PORTS + 13);
+    send_parts(rt, link, PORTS + 13, 3);
+    check_drained(rt, &peer, 3);
+    send(rt, &peer, &ack(36, [2; 8]), link.port());
+    check_two_again(rt, link, &peer);
+    send(rt, &peer, &ack(36, [1, 0, 0, 0, 0, 0, 0, 0]), link.port());
+    check_silence(rt, link, &peer, 700_000);
+}
+
+/// Of three parts the last one is acknowledged: the others are sent again, and no more when they are acknowledged too.
+#[test]
+fn lost_parts_are_sent_again(rt: HostRuntime) {
+    let mut link = attached(&rt, rt.alloc(), PORTS + 12);
+    check_sent_again(&rt, &mut link);
+}
+
+fn check_repeated<L: Link, R: Net + Clock + Abort>(rt: &R, alloc: Global, link: &mut L) {
+    let peer = new_peer(rt, PORTS + 15);
+    let mut request = Vec::new(alloc);
+    put_fragment(&mut request, 2, 0x0101, 0, 1, &[20; 14]).expect(rt, "memory");
+    link.send(PORTS + 15, &request).expect(rt, "a send");
+    check_drained(rt, &peer, 1);
+    check_awaited(rt, link, &peer, 490_000);
+}
+
 /// A request for a view change is sent again after half a second.
 #[test]
 fn requests_are_repeated(rt: HostRuntime) {
-    let mut ports = UdpPorts::new(&rt, rt.alloc());
-    let mut link = ports.attach(PORTS + 14).expect(&rt, "a link");
-    let peer = new_peer(&rt, PORTS + 15).expect(&rt, "a socket");
-    let mut request = Vec::new(rt.alloc());
-    put_fragment(&mut request, 2, 0x0101, 0, 1, &[20; 14]).expect(&rt, "memory");
-    link.send(PORTS + 15, &request).expect(&rt, "a send");
-    assert!(rt; drained(&peer) == 1);
-    let (count, micros) = awaited(&mut link, &peer, &rt).expect(&rt, "a request");
-    assert!(rt; count == 1 && micros >= 490_000);
+    let mut link = attached(&rt, rt.alloc(), PORTS + 14);
+    check_repeated(&rt, rt.alloc(), &mut link);
+}
+
+/// Of so many parts that are sent to a port six go at once.
+fn check_six<L: Link>(rt: &impl Abort, link: &mut L, peer: &UdpSocket, port: u16, count: u16) {
+    send_parts(rt, link, port, count);
+    check_drained(rt, peer, 6);
+}
+
+fn check_others<L: Link, R: Net + Abort>(rt: &R, link: &mut L) {
+    let silent = new_peer(rt, PORTS + 43);
+    check_six(rt, link, &silent, PORTS + 43, 8);
+    for port in [PORTS + 11, PORTS + 27] {
+        let peer = new_peer(rt, port);
+        check_six(rt, link, &peer, port, 6);
+    }
+    check(rt, link.losses() == 0, "nothing is lost");
 }
 
 /// A port that acknowledges nothing holds up no other, also none that is 16 or 32 below it.
 #[test]
 fn a_silent_port_holds_up_no_other(rt: HostRuntime) {
-    let mut ports = UdpPorts::new(&rt, rt.alloc());
-    let mut link = ports.attach(PORTS + 10).expect(&rt, "a link");
-    let silent = new_peer(&rt, PORTS + 43).expect(&rt, "a socket");
-    for i in 0..8u16 {
-        link.send(PORTS + 43, &part(i)).expect(&rt, "a send");
-    }
-    assert!(rt; drained(&silent) == 6);
-    for port in [PORTS + 11, PORTS + 27] {
-        let peer = new_peer(&rt, port).expect(&rt, "a socket");
-        for i in 0..6u16 {
-            link.send(port, &part(i)).expect(&rt, "a send");
-        }
-        assert!(rt; drained(&peer) == 6);
-    }
-    assert!(rt; link.losses() == 0);
+    let mut link = attached(&rt, rt.alloc(), PORTS + 10);
+    check_others(&rt, &mut link);
 }
 
-/// A link acknowledges each fourth part with those before it, and those that are left when nothing comes any more.
-#[test]
-fn parts_are_acknowledged(rt: HostRuntime) {
-    let mut ports = UdpPorts::new(&rt, rt.alloc());
-    let mut link = ports.attach(PORTS).expect(&rt, "a link");
-    let peer = new_peer(&rt, 0).expect(&rt, "a socket");
-    for i in 0..9u16 {
-        peer.send_to(&part(i), (Ipv4Addr::LOCALHOST, link.port()))
-            .expect(&rt, "a send");
-    }
-    for i in 0..10usize {
-        let came = link.poll().expect(&rt, "a poll").is_some();
-        assert!(rt; came == (i < 9));
-    }
+/// The next datagram of a socket acknowledges these parts, and comes from this port.
+fn check_ack(rt: &impl Abort, peer: &UdpSocket, port: u16, indexes: [u8; 8]) {
     let mut bytes = [0u8; 32];
+    let (count, from) = peer.recv_from(&mut bytes).expect(rt, "a datagram");
+    check(rt, count == 27 && from.port() == port, "its port");
+    let expected = ack(36, indexes);
+    check(rt, &bytes[..27] == expected.as_slice(), "its parts");
+}
+
+/// Polls of a link answer so many datagrams, and then none.
+fn check_polls<L: Link>(rt: &impl Abort, link: &mut L, count: usize) {
+    for _ in 0..count {
+        check(rt, !is_idle(rt, link), "a datagram");
+    }
+    check(rt, is_idle(rt, link), "no datagram");
+}
+
+fn check_acknowledged<L: Link, R: Net + Abort>(rt: &R, link: &mut L) {
+    let peer = new_peer(rt, 0);
+    for i in 0..9u16 {
+        send(rt, &peer, &part(i), link.port());
+    }
+    check_polls(rt, link, 9);
     for indexes in [
         [3, 2, 1, 0, 0, 0, 0, 0],
         [7, 6, 5, 4, 3, 2, 1, 0],
         [8, 7, 6, 5, 4, 3, 2, 1],
     ] {
-        let (count, from) = peer.recv_from(&mut bytes).expect(&rt, "a datagram");
-        assert!(rt; count == 27 && from.port() == link.port());
-        assert!(rt; &bytes[..27] == ack(36, indexes).as_slice());
+        check_ack(rt, &peer, link.port(), indexes);
     }
+}
+
+/// A link acknowledges each fourth part with those before it, and those that are left when nothing comes any more.
+#[test]
+fn parts_are_acknowledged(rt: HostRuntime) {
+    let mut link = attached(&rt, rt.alloc(), PORTS);
+    check_acknowledged(&rt, &mut link);
+}
+
+fn check_room<L: Link, R: Net + Abort>(rt: &R, link: &mut L) {
+    let small = new_peer(rt, PORTS + 2);
+    let large = new_peer(rt, PORTS + 3);
+    send_parts(rt, link, PORTS + 2, 20);
+    send_parts(rt, link, PORTS + 3, 20);
+    for (peer, window) in [(&small, 3), (&large, 36)] {
+        check_drained(rt, peer, 6);
+        let named = ack(window, [5, 4, 3, 2, 1, 0, 0, 0]);
+        send(rt, peer, &named, link.port());
+    }
+    for _ in 0..2usize {
+        check(rt, is_idle(rt, link), "nothing comes");
+    }
+    check_drained(rt, &small, 3);
+    check_drained(rt, &large, 6);
+    check(rt, link.losses() == 0, "nothing is lost");
 }
 
 /// What a port acknowledges makes room for as much as it says, and for no other port; in a turn six go to each at most.
 #[test]
 fn acknowledgements_make_room(rt: HostRuntime) {
-    let mut ports = UdpPorts::new(&rt, rt.alloc());
-    let mut link = ports.attach(PORTS + 1).expect(&rt, "a link");
-    let peers = [
-        new_peer(&rt, PORTS + 2).expect(&rt, "a socket"),
-        new_peer(&rt, PORTS + 3).expect(&rt, "a socket"),
-    ];
-    for port in [PORTS + 2, PORTS + 3] {
-        for i in 0..20u16 {
-            link.send(port, &part(i)).expect(&rt, "a send");
-        }
-    }
-    for (peer, window) in peers.iter().zip([3, 36]) {
-        assert!(rt; drained(peer) == 6);
-        peer.send_to(
-            &ack(window, [5, 4, 3, 2, 1, 0, 0, 0]),
-            (Ipv4Addr::LOCALHOST, link.port()),
-        )
-        .expect(&rt, "a send");
-    }
-    for _ in 0..2usize {
-        assert!(rt; link.poll().expect(&rt, "a poll").is_none());
-    }
-    assert!(rt; drained(&peers[0]) == 3 && drained(&peers[1]) == 6);
-    assert!(rt; link.losses() == 0);
+    let mut link = attached(&rt, rt.alloc(), PORTS + 1);
+    check_room(&rt, &mut link);
 }
 
-/// Notes the part that a datagram is: it is whole.
-fn note_part(rt: &impl Abort, bytes: &[u8], came: &mut [bool; 300]) {
+/// The index of the part that a datagram is: it is whole.
+fn index_of(rt: &impl Abort, bytes: &[u8]) -> usize {
     assert!(rt; bytes.len() == 1417);
     let index = u16::from_be_bytes([bytes[13], bytes[14]]);
-    assert!(rt; index < 300 && bytes == part(index).as_slice());
-    came[usize::from(index) % 300] = true;
+    check(rt, bytes == part(index).as_slice(), "a whole part");
+    usize::from(index)
+}
+
+/// Which of 300 parts came, and how many of them before a small datagram.
+#[derive(Drop)]
+struct Came {
+    parts: Vec<bool>,
+    before_small: Option<usize>,
+}
+
+impl Came {
+    fn new(rt: &impl Abort, alloc: Global) -> Came {
+        let mut parts = Vec::new(alloc);
+        parts.resize(300, false).expect(rt, "memory");
+        Came {
+            parts,
+            before_small: None,
+        }
+    }
+
+    /// How many parts came.
+    fn count(&self) -> usize {
+        self.parts.iter().filter(|came| **came).count()
+    }
+
+    fn note(&mut self, rt: &impl Abort, bytes: &[u8]) {
+        if bytes == b"small".as_slice() {
+            self.before_small = Some(self.count());
+            return;
+        }
+        let came = self.parts.get_mut(index_of(rt, bytes));
+        *came.expect(rt, "one of 300") = true;
+    }
+
+    /// Notes what a link has, 32 datagrams at most.
+    fn note_all<L: Link>(&mut self, rt: &impl Abort, link: &mut L) {
+        for _ in 0..32usize {
+            match link.poll().expect(rt, "a poll") {
+                Some(datagram) => self.note(rt, datagram.as_slice()),
+                None => return,
+            }
+        }
+    }
+}
+
+/// Polls a link for this many microseconds.
+fn poll_for<L: Link, R: Clock + Abort>(rt: &R, link: &mut L, time: u128) {
+    let start = micros(rt);
+    for _ in 0..100usize {
+        link.poll().expect(rt, "a poll");
+        if micros(rt).saturating_sub(start) >= time {
+            break;
+        }
+    }
+}
+
+/// Polls both links until all parts came at the second one.
+fn join_burst<L: Link>(rt: &impl Abort, from: &mut L, to: &mut L, came: &mut Came) {
+    for _ in 0..10_000usize {
+        if came.count() == 300 {
+            break;
+        }
+        from.poll().expect(rt, "a poll");
+        came.note_all(rt, to);
+    }
+}
+
+fn check_burst<L: Link, R: Clock + Abort>(rt: &R, alloc: Global, from: &mut L, to: &mut L) {
+    send_parts(rt, from, to.port(), 300);
+    from.send(to.port(), b"small").expect(rt, "a send");
+    poll_for(rt, from, 50_000);
+    let mut came = Came::new(rt, alloc);
+    join_burst(rt, from, to, &mut came);
+    check(rt, came.count() == 300, "all parts came");
+    check(rt, came.before_small == Some(6), "it passes by");
+    check(rt, from.losses() == 0, "nothing is lost");
 }
 
 /// 300 parts, more than a receive buffer holds, arrive whole, though the receiver is not polled for a while, which is half of the time
 /// after which the first part is sent again, and then both are. Another datagram passes by all but those that were sent at once.
 #[test]
 fn bursts_arrive_whole(rt: HostRuntime) {
-    let mut ports = UdpPorts::new(&rt, rt.alloc());
-    let mut from = ports.attach(PORTS + 4).expect(&rt, "a link");
-    let mut to = ports.attach(PORTS + 5).expect(&rt, "a link");
-    for i in 0..300u16 {
-        from.send(to.port(), &part(i)).expect(&rt, "a send");
-    }
-    from.send(to.port(), b"small").expect(&rt, "a send");
-    let start = rt.monotonic().expect(&rt, "a clock").as_micros();
-    for _ in 0..100usize {
-        from.poll().expect(&rt, "a poll");
-        let now = rt.monotonic().expect(&rt, "a clock").as_micros();
-        if now.saturating_sub(start) >= 50_000 {
-            break;
-        }
-    }
-    let mut came = [false; 300];
-    let mut before_small = None;
-    for _ in 0..10_000usize {
-        if came.iter().all(|c| *c) {
-            break;
-        }
-        from.poll().expect(&rt, "a poll");
-        for _ in 0..32usize {
-            let Some(datagram) = to.poll().expect(&rt, "a poll") else {
-                break;
-            };
-            let bytes = datagram.as_slice();
-            if bytes == b"small".as_slice() {
-                before_small = Some(came.iter().filter(|c| **c).count());
-            } else {
-                note_part(&rt, bytes, &mut came);
-            }
-        }
-    }
-    assert!(rt; came.iter().all(|c| *c));
-    assert!(rt; before_small == Some(6));
-    assert!(rt; from.losses() == 0);
+    let (mut from, mut to) = both_attached(&rt, rt.alloc(), PORTS + 4, PORTS + 5);
+    check_burst(&rt, rt.alloc(), &mut from, &mut to);
 }
 
 /// Passes on what a socket has, from each of two ports to the other. Each tenth datagram is lost.
@@ -304,50 +453,77 @@ fn pass_on(relay: &UdpSocket, ends: [u16; 2], passed: &mut usize) {
     }
 }
 
+/// Polls both links, and passes on what they send, until all parts came, within 20 seconds. How many datagrams came to the relay.
+fn join_through_loss<L: Link, R: Clock + Abort>(
+    rt: &R,
+    from: &mut L,
+    to: &mut L,
+    relay: &UdpSocket,
+    came: &mut Came,
+) -> usize {
+    let _refused = relay.set_nonblocking(true);
+    let ends = [from.port(), to.port()];
+    let mut passed = 0usize;
+    let start = micros(rt);
+    for _ in 0..1_000_000usize {
+        if came.count() == 300 || micros(rt).saturating_sub(start) >= 20_000_000 {
+            break;
+        }
+        check(rt, is_idle(rt, from), "nothing comes");
+        pass_on(relay, ends, &mut passed);
+        if let Some(datagram) = to.poll().expect(rt, "a poll") {
+            came.note(rt, datagram.as_slice());
+        }
+    }
+    passed
+}
+
+fn check_loss<L: Link, R: Net + Clock + Abort>(rt: &R, alloc: Global, from: &mut L, to: &mut L) {
+    let relay = new_peer(rt, PORTS + 18);
+    send_parts(rt, from, PORTS + 18, 300);
+    let mut came = Came::new(rt, alloc);
+    let passed = join_through_loss(rt, from, to, &relay, &mut came);
+    check(rt, came.count() == 300, "all parts came");
+    check(rt, passed >= 375, "those that are lost go again");
+    check(rt, from.losses() == 0, "nothing is refused");
+}
+
 /// 300 parts arrive whole, though each tenth datagram between the links is lost, parts and acknowledgements alike.
 #[test]
 fn messages_arrive_through_loss(rt: HostRuntime) {
-    let mut ports = UdpPorts::new(&rt, rt.alloc());
-    let mut from = ports.attach(PORTS + 16).expect(&rt, "a link");
-    let mut to = ports.attach(PORTS + 17).expect(&rt, "a link");
-    let relay = new_peer(&rt, PORTS + 18).expect(&rt, "a socket");
-    let _refused = relay.set_nonblocking(true);
-    let ends = [from.port(), to.port()];
-    for i in 0..300u16 {
-        from.send(PORTS + 18, &part(i)).expect(&rt, "a send");
-    }
-    let mut came = [false; 300];
-    let mut passed = 0usize;
-    let start = rt.monotonic().expect(&rt, "a clock").as_micros();
-    for _ in 0..1_000_000usize {
-        let now = rt.monotonic().expect(&rt, "a clock").as_micros();
-        if came.iter().all(|c| *c) || now.saturating_sub(start) >= 20_000_000 {
-            break;
-        }
-        assert!(rt; from.poll().expect(&rt, "a poll").is_none());
-        pass_on(&relay, ends, &mut passed);
-        if let Some(datagram) = to.poll().expect(&rt, "a poll") {
-            note_part(&rt, datagram.as_slice(), &mut came);
-        }
-    }
-    assert!(rt; came.iter().all(|c| *c));
-    assert!(rt; passed >= 375 && from.losses() == 0);
+    let (mut from, mut to) = both_attached(&rt, rt.alloc(), PORTS + 16, PORTS + 17);
+    check_loss(&rt, rt.alloc(), &mut from, &mut to);
+}
+
+/// A part that ends with this number.
+fn numbered(number: u8) -> [u8; 1417] {
+    let mut bytes = [8u8; 1417];
+    bytes[1416] = number;
+    bytes
 }
 
 /// The datagrams with these numbers come next, whole and in order, and then none.
 fn check_received<L: Link>(rt: &impl Abort, link: &mut L, numbers: Range<u8>) {
     let mut number = numbers.start;
-    let mut bytes = [8u8; 1417];
     for _ in 0..1000usize {
         if let Some(datagram) = link.poll().expect(rt, "a poll") {
-            bytes[1416] = number;
-            assert!(rt; datagram.as_slice() == bytes.as_slice(), "{number}");
+            let is_next = datagram.as_slice() == numbered(number).as_slice();
+            check(rt, is_next, "the next datagram");
             number = number.wrapping_add(1);
         } else if number >= numbers.end {
             break;
         }
     }
-    assert!(rt; number == numbers.end);
+    check(rt, number == numbers.end, "the last datagram");
+}
+
+/// Of twenty parts six are sent at once.
+fn check_first_six<L: Link>(rt: &impl Abort, from: &mut L, to: &mut L) {
+    for number in 0..20u8 {
+        from.send(to.port(), &numbered(number)).expect(rt, "a send");
+    }
+    check_received(rt, to, 0..6);
+    check(rt, from.losses() == 0, "nothing is lost");
 }
 
 /// A link that is given back sends what still waits: of twenty parts six are sent at once, and the others then.
@@ -356,13 +532,7 @@ fn a_link_given_back_sends_the_rest(rt: HostRuntime) {
     let mut ports = UdpPorts::new(&rt, rt.alloc());
     let mut to = ports.attach(PORTS + 6).expect(&rt, "a link");
     let mut from = ports.attach(PORTS + 7).expect(&rt, "a link");
-    let mut bytes = [8u8; 1417];
-    for number in 0..20u8 {
-        bytes[1416] = number;
-        from.send(to.port(), &bytes).expect(&rt, "a send");
-    }
-    check_received(&rt, &mut to, 0..6);
-    assert!(rt; from.losses() == 0);
+    check_first_six(&rt, &mut from, &mut to);
     ports.detach(from);
     check_received(&rt, &mut to, 6..20);
 }

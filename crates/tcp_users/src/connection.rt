@@ -154,12 +154,6 @@ impl Connection {
         read(&self.stream, space)
     }
 
-    /// Whether so many bytes have come, and nobody has read them, as fit into the space.
-    #[cfg(test)]
-    pub(crate) fn is_filling(&self, space: &mut [u8]) -> bool {
-        matches!(self.stream.peek(space), Ok(count) if count == space.len())
-    }
-
     pub(crate) fn give_up(&mut self) {
         self.is_broken = true;
     }

@@ -131,15 +131,6 @@ impl Connections {
         }
     }
 
-    /// Whether so many bytes of a user have come, and nobody has read them, as fit into the space.
-    #[cfg(test)]
-    pub(crate) fn is_filling(&self, user: u64, space: &mut [u8]) -> bool {
-        match self.table.get(&user) {
-            Some(connection) => connection.is_filling(space),
-            None => false,
-        }
-    }
-
     /// Sends bytes to a user.
     pub(crate) fn send(&mut self, user: u64, bytes: &[u8]) -> Result<(), NoMemory>
         ensures { self.new.opened ≡ self.old.opened }

@@ -13,15 +13,14 @@
 //!
 //! Calls: `TcpUsers::listen`, `address`, and the methods of the trait. `registry` and `OTHERS`, for other sockets at which a wait ends.
 //!
-//! Files, in reading order: `limits`, `unsent`, `connection`, `connections`, `tcp_users`; `tests`. Definitions: `specs/Receiving`, `Turns`.
+//! Files, in reading order: `limits`, `unsent`, `connection`, `connections`, `tcp_users`. Definitions: `specs/Receiving`, `Turns`. Tests are in
+//! `socket_tests`.
 #![tactic(auto)]
 
 mod connection;
 mod connections;
 mod limits;
 mod tcp_users;
-#[cfg(test)]
-mod tests;
 mod unsent;
 
 pub use limits::{MAX_CONNECTIONS, MAX_UNSENT_BYTES};

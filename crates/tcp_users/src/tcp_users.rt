@@ -105,12 +105,6 @@ impl TcpUsers {
         self.poll.registry().try_clone()
     }
 
-    /// Whether so many bytes of a user have come, and no event gave them yet, as fit into the space.
-    #[cfg(test)]
-    pub(crate) fn is_filling(&self, user: u64, space: &mut [u8]) -> bool {
-        self.connections.is_filling(user, space)
-    }
-
     /// Waits until a socket is ready.
     fn wait(&mut self, patience: u32) -> Result<(), DeviceError>
         ensures opened { self.new.connections.opened ≡ self.old.connections.opened }

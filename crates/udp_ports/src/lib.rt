@@ -28,8 +28,8 @@
 //!
 //! For others: `UdpPorts::new`, or `UdpPorts::at_hosts` with `Home` and `Place`; `UdpPorts::without_claims`; `UdpPorts::without_waits`,
 //! and the descriptors of links, for who waits for several devices at once; `SystemClock::new`, `is_part`, and the methods of the traits. Files, in reading
-//! order: `system_clock`; `places`; `socket`; `parts`; `flows`, the parts to all ports; `guard`, `laws`; `link`; `ports`; `tests`,
-//! `place_tests`. Definitions: `specs/Turns`, `Places`, `Guards`.
+//! order: `system_clock`; `places`; `socket`; `parts`; `flows`, the parts to all ports; `guard`, `laws`; `link`; `ports`; `tests`.
+//! Definitions: `specs/Turns`, `Places`, `Guards`. Tests of its public calls are in `socket_tests`.
 #![tactic(auto)]
 
 mod flows;
@@ -37,8 +37,6 @@ mod guard;
 mod laws;
 mod link;
 mod parts;
-#[cfg(test)]
-mod place_tests;
 mod places;
 mod ports;
 mod socket;

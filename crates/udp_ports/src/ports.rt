@@ -119,7 +119,8 @@ impl<'a, R: Net + Clock> UdpPorts<'a, R> {
 
     /// A socket at a port; at that of a home, where the process may have its number, or links only listen.
     fn open(&self, port: u16) -> Result<(Socket<'a, R>, Option<Guard>), AttachError>
-        ensures { IfOk result (λ opened. MayAttach (option_copied self.now.homes) self.now.claims port opened.1) }
+        ensures { IfOk result (λ opened. MayAttach (option_copied self.now.homes) self.now.claims
+            port opened.1) }
     {
         let Some(homes) = self.homes else {
             return Ok((self.socket_at(None, port)?, None));

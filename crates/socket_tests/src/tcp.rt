@@ -1,0 +1,147 @@
+//! Users at a TCP socket: what they send and are replied, and that they have turns.
+
+use crate::checking::check;
+use std::alloc::Global;
+use std::io::{Read, Write};
+use std::net::{Ipv4Addr, Net, SocketAddr, TcpStream};
+use std::process::Abort;
+use std::thread;
+use std::time::Duration;
+use tcp_users::TcpUsers;
+use users::{UserEvent, Users};
+
+fn listen<R: Net + Abort>(rt: &R, alloc: Global) -> TcpUsers {
+    let any = SocketAddr::from((Ipv4Addr::LOCALHOST, 0));
+    TcpUsers::listen(rt, alloc, any).expect(rt, "a listener")
+}
+
+fn connect<R: Net + Abort>(rt: &R, users: &TcpUsers) -> R::Stream {
+    let address = users.address().expect(rt, "an address");
+    TcpStream::connect(rt, address).expect(rt, "a connection")
+}
+
+/// The next event within some seconds.
+fn event(users: &mut TcpUsers) -> Option<UserEvent> {
+    for _ in 0..100usize {
+        match users.next(100) {
+            Ok(Some(event)) => return Some(event),
+            Ok(None) => {}
+            Err(_) => return None,
+        }
+    }
+    None
+}
+
+/// A user comes next, and has this number.
+fn check_opened(rt: &impl Abort, users: &mut TcpUsers, number: u64) {
+    let is_next = match event(users) {
+        Some(UserEvent::Opened { user }) => user == number,
+        _ => false,
+    };
+    check(rt, is_next, "the next user");
+}
+
+/// Who sent something next, and how many bytes.
+fn sent(rt: &impl Abort, users: &mut TcpUsers) -> (u64, usize) {
+    match event(users) {
+        Some(UserEvent::Sent { user, bytes }) => (user, bytes.as_slice().len()),
+        _ => panic!(rt; "nothing was sent"),
+    }
+}
+
+/// The user with this number leaves next.
+fn check_left(rt: &impl Abort, users: &mut TcpUsers, number: u64) {
+    let is_next = match event(users) {
+        Some(UserEvent::Left { user }) => user == number,
+        _ => false,
+    };
+    check(rt, is_next, "who leaves");
+}
+
+fn reply(rt: &impl Abort, users: &mut TcpUsers, user: u64, bytes: &[u8]) {
+    check(rt, users.reply(user, bytes).is_ok(), "a reply");
+}
+
+/// Two replies have come, and behind them the end.
+fn check_replies(rt: &impl Abort, stream: &mut TcpStream) {
+    let mut buf = [0u8; 7];
+    let mut count = stream.read(&mut buf).expect(rt, "bytes").min(6);
+    let more = stream.read(&mut buf[count..]).expect(rt, "bytes");
+    count = count.saturating_add(more);
+    check(rt, buf == *b"answer\0" && count == 6, "both replies");
+    let end = stream.read(&mut buf).expect(rt, "the end");
+    check(rt, end == 0, "no more bytes");
+}
+
+/// What is replied arrives, and behind it the end of a connection that is closed. A number is nobody else's, and replies to who left are
+/// nobody's.
+#[test]
+fn users_are_answered(rt: HostRuntime) {
+    let mut users = listen(&rt, rt.alloc());
+    let mut one = connect(&rt, &users);
+    check_opened(&rt, &mut users, 0);
+    one.write_all(b"ask").expect(&rt, "a send");
+    check(&rt, sent(&rt, &mut users) == (0, 3), "three bytes");
+    reply(&rt, &mut users, 0, b"ans");
+    reply(&rt, &mut users, 0, b"wer");
+    check(&rt, users.close(0).is_ok(), "it is closed");
+    check_replies(&rt, &mut one);
+    let two = connect(&rt, &users);
+    check_opened(&rt, &mut users, 1);
+    drop(two);
+    check_left(&rt, &mut users, 1);
+    reply(&rt, &mut users, 1, b"late");
+    check(&rt, users.faults() == 0, "no faults");
+}
+
+/// Takes all that two users sent. Whether a turn of the first is followed by one of the second, and then by another of the first.
+fn take_turns(rt: &impl Abort, users: &mut TcpUsers, bytes: usize) -> bool {
+    let mut turns = [(0, 0); 3];
+    let mut taken = 0usize;
+    for i in 0..100usize {
+        let turn = sent(rt, users);
+        if i < 3 {
+            turns[i] = turn;
+        }
+        taken = taken.saturating_add(turn.1);
+        if taken >= bytes {
+            break;
+        }
+    }
+    check(rt, taken == bytes, "all that was sent");
+    turns == [(0, 16_384), (1, 5), (0, 16_384)]
+}
+
+/// Who sends much has a turn as others have. Where the bytes of the second come late, both send again.
+#[test]
+fn turns_are_fair(rt: HostRuntime) {
+    let mut users = listen(&rt, rt.alloc());
+    let mut one = connect(&rt, &users);
+    let mut two = connect(&rt, &users);
+    check_opened(&rt, &mut users, 0);
+    check_opened(&rt, &mut users, 1);
+    check(&rt, matches!(users.next(0), Ok(None)), "no event");
+    let mut are_fair = false;
+    for _ in 0..20usize {
+        one.write_all(&[1; 50_000]).expect(&rt, "a send");
+        two.write_all(b"short").expect(&rt, "a send");
+        thread::sleep(&rt, Duration::from_millis(20));
+        are_fair = take_turns(&rt, &mut users, 50_005);
+        if are_fair {
+            break;
+        }
+    }
+    check(&rt, are_fair, "turns");
+}
+
+/// Who never reads is left, once too much waits.
+#[test]
+fn nobody_keeps_all_memory(rt: HostRuntime) {
+    let mut users = listen(&rt, rt.alloc());
+    let _one = connect(&rt, &users);
+    check_opened(&rt, &mut users, 0);
+    for _ in 0..2000usize {
+        reply(&rt, &mut users, 0, &[1; 10_000]);
+    }
+    check_left(&rt, &mut users, 0);
+}
