@@ -5,7 +5,8 @@
 #     speed      puts and gets a second, with 1, 50 and 500 connections, of 1 and 16 requests at a time (bench/gate/load.rs, rustc), beside a
 #                redis-server with one replica, each put confirmed by it (WAIT 1)
 #     benchmark  the same by redis-benchmark, where its puts are not confirmed by a replica
-#     reads      reads of two observers a second (GETAT, by a gateway with 16 numbers), beside gets of the same redis-server
+#     reads      reads of two observers a second (GETAT, by a gateway with 16 numbers, and by one with 2 that is an observer itself), beside gets
+#                of the same redis-server
 #     memory     OPS (1000000) puts by 50 connections; memory before and after
 #     idle       processor time of a gateway that nobody uses
 #     loss       puts a second of 8 connections, without and with 1 % of all datagrams lost (bench/gate/loss.c, gcc)
@@ -50,9 +51,9 @@ cluster() {
     first=0
 }
 
-# gateway NAME PORT COUNT [OBSERVERS]: a gateway with the next numbers.
+# gateway NAME PORT COUNT [OBSERVERS [AT]]: a gateway with the next numbers.
 gateway() {
-    "$gate" "127.0.0.1:$2" "$base" 3 2 ${4:+--observers "$4"} "$first" "$3" > "$folder/$1" 2>&1 &
+    "$gate" "127.0.0.1:$2" "$base" 3 2 ${4:+--observers "$4"} ${5:+--at "$5"} "$first" "$3" > "$folder/$1" 2>&1 &
     pids[$1]=$!
     first=$((first + $3))
     awaits listens "$2" || differs "no gateway"
@@ -109,19 +110,22 @@ benchmark() {
 }
 
 reads() {
-    cluster 2
-    gateway gate "$base" 16 2
-    peer
-    "$folder/load" "$base" set 50 16 1 > /dev/null
-    "$folder/load" $((base + 1)) set 50 16 1 > /dev/null
-    local connections pipeline
-    for connections in 1 50 500; do
-        for pipeline in 1 16; do
-            echo "gateway $("$folder/load" "$base" getat $connections $pipeline "$seconds")"
-            echo "redis   $("$folder/load" $((base + 1)) get $connections $pipeline "$seconds")"
+    local at connections pipeline
+    for at in '' 0; do
+        cluster 2
+        [ -z "$at" ] || kills "o$at"
+        gateway gate "$base" "$([ -z "$at" ] && echo 16 || echo 2)" 2 "$at"
+        peer
+        "$folder/load" "$base" set 50 16 1 > /dev/null
+        "$folder/load" $((base + 1)) set 50 16 1 > /dev/null
+        for connections in 1 50 500; do
+            for pipeline in 1 16; do
+                echo "gateway${at:+ at $at} $("$folder/load" "$base" getat $connections $pipeline "$seconds")"
+                echo "redis   $("$folder/load" $((base + 1)) get $connections $pipeline "$seconds")"
+            done
         done
+        stop
     done
-    stop
 }
 
 memory_part() {

@@ -2,8 +2,9 @@
 # Runs `kv_gate` on clusters of real processes, with a client of its own that speaks the protocol of Redis: each request of docs/GATEWAY.md;
 # requests sent at once, byte by byte, half, and not as the protocol has them; a user who never reads. Then the leader and the sequencer in
 # use are killed, and the same connection is answered. With one replica of three a user waits, and connections stay open. Reads of observers
-# see what their connection wrote, also where an observer is killed. By a list of hosts a gateway is answered, and another one with its
-# numbers is refused. It takes some fifteen seconds, leaves nothing behind, and ends with status 1 at any difference.
+# see what their connection wrote, also where an observer is killed, and where the gateway has an observer's place of its own. INFO says what is seen at the gateway's own place, and nothing where it
+# has none. By a list of hosts a gateway is answered, and another one with its numbers is refused. It takes some twenty seconds, leaves
+# nothing behind, and ends with status 1 at any difference.
 #
 #   checks/gate.sh               the programs are those of crates/*/out/, or the files that NOPAXOS, HOSTS and GATE name
 . "$(dirname "$0")/common.bash" || exit 2
@@ -17,7 +18,7 @@ finds_ports
 nodes_of "$nopaxos" --replicas 3 --sequencers 2 --base "$base"
 
 cat > "$folder/user.py" << 'END'
-import os, select, signal, socket, sys, time
+import os, re, select, signal, socket, sys, time
 def spelled(*words):
     words = [word.encode('latin1') for word in words]
     return b'*%d\r\n' % len(words) + b''.join(b'$%d\r\n%s\r\n' % (len(word), word) for word in words)
@@ -90,8 +91,34 @@ def odd():
     for half in halves: half.socket.sendall(spelled('ECHO', 'abc')[-4:])
     same('halves at last', [half.reply() for half in halves], ['abc'] * 50)
 
+# what INFO says, and how many of its lines are like this, once one is
+def told(user, wanted):
+    began = time.time()
+    while True:
+        lines = user.ask('INFO').splitlines()
+        found = [line for line in map(re.compile(wanted).fullmatch, lines) if line]
+        if found or time.time() - began > 10: return lines, found
+        time.sleep(0.1)
+# the length that INFO says is synchronised, once it is at least this one
+def synced(user, least):
+    began = time.time()
+    while True:
+        lines, found = told(user, r'view (\d+) \d+ leader (r\d) controller ctl\d* synced (\d+) rate \d+ age \d+')
+        same('INFO', [lines[:1], len(found)], [['redis_mode:standalone'], 1])
+        view, leader, length = found[0].groups()
+        same('the leader', leader, f'r{int(view) % 3}')
+        if int(length) >= least or time.time() - began > 10: return int(length)
+        time.sleep(0.1)
+
+def info():
+    user = User()
+    before = synced(user, 1)
+    for i in range(50): user.ask('SET', 'i', str(i))
+    same('what is synchronised', synced(user, before + 1) > before, True)
+
 def alone():
     user = User()
+    same('INFO of one without a place', user.ask('INFO'), 'redis_mode:standalone\r\n')
     for words in ('GETAT k', 'GETAT k k', 'GETAT ' + 'k' * 65, 'GET k'): same(words, user.ask(*words.split()), None if words == 'GET k' else '-ERR')
 
 def reads(observer):
@@ -118,6 +145,16 @@ def reads(observer):
     took = time.time() - began
     same(f'an observer killed: {took} s, at most 10', took <= 10, True)
 
+def near():
+    user, other = User(), User()
+    for i in range(1, 6): same('its own put', [user.ask('SET', 'at', str(i)), user.ask('GETAT', 'at')], ['+OK', str(i)])
+    for words in (('GETAT', ''), ('GETAT',), ('GETAT', 'k' * 65)): same(words, user.ask(*words), '-ERR')
+    same('no key, and one of no bytes', [user.ask('GETAT', 'none'), user.ask('SET', 'at', ''), user.ask('GETAT', 'at')], [None, '+OK', ''])
+    same('after a get', [other.ask('GET', 'at'), other.ask('GETAT', 'at')], ['', ''])
+    many = [User() for _ in range(50)]
+    for i, one in enumerate(many): one.socket.sendall(spelled('SET', 'at' + str(i), str(i)) + spelled('GETAT', 'at' + str(i)) * 3)
+    same('50 at once', [[one.reply() for _ in range(4)] for one in many], [['+OK'] + [str(i)] * 3 for i in range(50)])
+
 def fails(leader, sequencer, replica, most):
     user, other = User(), User()
     same('before', user.ask('SET', 'f', '0'), '+OK')
@@ -127,6 +164,9 @@ def fails(leader, sequencer, replica, most):
         same(name + ' killed', user.ask('SET', 'f', str(count + 1), 'GET'), str(count))
         took = time.time() - began
         same(f'{name} killed: {took} s, at most {most}', took <= float(most), True)
+        if name == 'leader':
+            lines, found = told(user, r'view \d+ \d+ leader r[12] controller ctl\d* changed \d+')
+            same('the change of the view', len(found), 1)
     os.kill(int(replica), signal.SIGKILL)
     user.socket.sendall(spelled('GET', 'f'))
     same('with one replica a user waits', select.select([user.socket], [], [], 1.5)[0], [])
@@ -173,12 +213,14 @@ ends() {
 }
 
 # ---- what is not taken
-usage='usage: kv_gate LISTEN (PORT REPLICAS SEQUENCERS [--observers M] | LIST [--marks FOLDER]) FIRST COUNT'
+usage='usage: kv_gate LISTEN (PORT REPLICAS SEQUENCERS [--observers M [--at K]] | LIST [--marks FOLDER]) FIRST COUNT'
 listen=127.0.0.1:$tcp
 for words in '' "$listen" "$listen $base 3 2 0" "$listen $base 3 2 0 0" "$listen $base 3 2 0 17" "$listen $base 3 2 4294967295 2" \
     "$listen $base 2 2 0 1" "$listen $base 3 0 0 1" "$listen 1023 3 2 0 1" "127.0.0.1 $base 3 2 0 1" "localhost:$base $base 3 2 0 1" \
     "$listen $base 3 2 -1 1" "$listen $folder/none 0" "$listen $folder/none --marks 0 1" "$listen $base 3 2 --observers 5 0 1" \
-    "$listen $base 3 2 --observers x 0 1" "$listen $base 3 2 --observer 1 0 1" "$listen $base 3 2 --observers 0 1"; do
+    "$listen $base 3 2 --observers x 0 1" "$listen $base 3 2 --observer 1 0 1" "$listen $base 3 2 --observers 0 1" \
+    "$listen $base 3 2 --observers 2 --at 2 0 1" "$listen $base 3 2 --observers 2 --at x 0 1" "$listen $base 3 2 --at 0 0 1" \
+    "$listen $base 3 2 --observers 0 --at 0 0 1" "$listen $base 3 2 --observers 2 --on 1 0 1" "$listen $base 3 2 --observers 2 --at 1"; do
     # shellcheck disable=SC2086
     ends 2 "$usage" $words
 done
@@ -188,20 +230,28 @@ ends 2 'error line 1 rule 4' "$listen" "$folder/bad" 0 1
 
 # ---- a cluster of this machine
 for i in 0 1; do start "s$i" sequencer --id $i; done
-for i in 0 1 2; do start "r$i" node --id $i --observers 2; done
-for i in 0 1; do start "o$i" observer --id $i; done
+for i in 0 1 2; do start "r$i" node --id $i --observers 3; done
+for i in 0 1 2; do start "o$i" observer --id $i; done
 for i in 0 1; do start "ctl$i" controller --id $i; done
-are_up s0 s1 r0 r1 r2 o0 o1 ctl0 ctl1
+are_up s0 s1 r0 r1 r2 o0 o1 o2 ctl0 ctl1
 gate alone "$base" 3 2 4 1
 users alone
 kills alone
-gate gate "$base" 3 2 --observers 2 0 2
+gate far "$base" 3 2 --observers 3 6 2
+users reads "${pids[o1]}" 2> /dev/null
+kills far
+kills o0 o2
+gate near "$base" 3 2 --observers 1 --at 0 8 1
+users near
+kills near
+gate gate "$base" 3 2 --observers 3 --at 0 0 2
 ends 5 '' "$listen" "$base" 3 2 2 1
 ends 5 '' "[::1]:$tcp" "$base" 3 2 0 1
 users table
 users order
 users odd
-users reads "${pids[o0]}" 2> /dev/null
+users info
+users near
 made=$((made + 1))
 memory=$(sed -n 's/^VmHWM:[^0-9]*\([0-9]*\) kB/\1/p' "/proc/${pids[gate]}/status")
 [ "${memory:-99999}" -lt 32768 ] || differs "the gateway had $memory kB of memory"

@@ -1,5 +1,5 @@
 -- What single calls on the devices do.
-use Rattle.std.proofs.Common.{◌≡◌, ℕ, zero, suc, Bool, List, [], ◌∷◌, map, Option, Some, None, refl, sym, ap, subst, ◌∙◌}
+use Rattle.std.proofs.Common.{◌≡◌, ◌==◌, ℕ, zero, suc, Bool, true, false, List, [], ◌∷◌, map, Option, Some, None, refl, sym, ap, subst, ◌∙◌}
 use Rattle.std.specs.Prelude.{Result, Ok, Err, OnOk, OnErr, slice_get, slice_set}
 use Rattle.nop_types.specs.declared.output.Dest.{Dest}
 use Rattle.outside.specs.Causes.{CountsFor, count_after, next_count}
@@ -14,14 +14,15 @@ use Rattle.users.specs.declared.event.UserCall.TheVariants as calls
 use Rattle.users.specs.declared.event.UserEvent.{UserEvent}
 use Rattle.gate_core.specs.declared.act.Act.{Act}
 use Rattle.gate_core.specs.declared.act.Act.TheVariants as acts
+use Rattle.gate_core.specs.declared.act.Event.TheVariants as events
 use Rattle.gate_core.specs.declared.gate_state.GateState.{GateState}
 use Rattle.gate.specs.declared.errors.GateError.{GateError}
 use Rattle.gate.specs.declared.errors.GateError.TheVariants.{LinkFault, UsersFault, NoMemory}
 use Rattle.gate.specs.declared.lines.Line.{Line}
-use Rattle.gate.specs.Carrying.{Asks, Makes, MakesAll, MakesFirst, Takes, TakesAll, Untaken, call_of, came, datagram_of, event_of, received}
+use Rattle.gate.specs.Carrying.{Asks, Faultless, Makes, MakesAll, MakesFirst, Takes, TakesAll, Took, Untaken, call_of, came, datagram_of, event_of, event_with, received}
 use Rattle.gate.specs.Faults.{link_fault, users_fault}
-use Rattle.gate.specs.Sides.{LinkSeen, Side, UsersSeen, line_seen, lines_seen, link_faults, seen}
-use Rattle.gate.proofs.Taking.{all_same, all_set_none, all_set_one, event_takes, grows_none, grows_one, grows_same, map_set, poll_takes}
+use Rattle.gate.specs.Sides.{LinkSeen, LinksSeen, Side, UsersSeen, line_seen, lines_seen, link_faults, seen}
+use Rattle.gate.proofs.Taking.{all_quiet, all_same, all_set_none, all_set_one, event_takes, grows_none, grows_one, grows_same, map_set, poll_takes}
 use Rattle.gate.proofs.Taking.{takes_none, takes_same}
 use Rattle.gate.proofs.Running.{makes_all, makes_nothing}
 
@@ -37,42 +38,49 @@ set_same {A} (y ∷ ys) (suc i) x found = ap (λ (zs : List A). y ∷ zs) (set_s
 
 -- ---- the line of a core
 
-module _ {L : Type 0} (l : link_trait.Ghosts L) (ys : List (Line L)) (i : ℕ) (x z : Line L) (found : slice_get ys i ≡ Some x) where
-  abbrev old_links : List LinkSeen
-  old_links = lines_seen l ys
+module _ {L : Type 0} (l : link_trait.Ghosts L) (n : ℕ) (ys : List (Line L)) (i : ℕ) (x z : Line L) (found : slice_get ys i ≡ Some x) where
+  abbrev with_links : List LinkSeen → LinksSeen
+  with_links ks = record { cores = n; links = ks }
 
-  abbrev new_links : List LinkSeen
-  new_links = lines_seen l (slice_set ys i z)
+  abbrev old_list : List LinkSeen
+  old_list = lines_seen l ys
 
-  abbrev set_links : List LinkSeen
-  set_links = slice_set old_links i (line_seen l z)
+  abbrev set_list : List LinkSeen
+  set_list = slice_set old_list i (line_seen l z)
 
-  are_set : new_links ≡ set_links
+  abbrev old_links : LinksSeen
+  old_links = with_links old_list
+
+  abbrev new_links : LinksSeen
+  new_links = with_links (lines_seen l (slice_set ys i z))
+
+  are_set : lines_seen l (slice_set ys i z) ≡ set_list
   are_set = map_set (line_seen l) ys i z
 
-  seen_at : slice_get old_links i ≡ Some (line_seen l x)
+  seen_at : slice_get old_list i ≡ Some (line_seen l x)
   seen_at = get_map (line_seen l) ys i x found
 
   faults_are : link_faults new_links ≡ slice_set (link_faults old_links) i (l.fault_count z.link)
-  faults_are = ap link_faults are_set ∙ map_set (λ (k : LinkSeen). k.faults) old_links i (line_seen l z)
+  faults_are =
+      ap (λ (ks : List LinkSeen). link_faults (with_links ks)) are_set ∙ map_set (λ (k : LinkSeen). k.faults) old_list i (line_seen l z)
 
   faults_at : slice_get (link_faults old_links) i ≡ Some (l.fault_count x.link)
-  faults_at = get_map (λ (k : LinkSeen). k.faults) old_links i (line_seen l x) seen_at
+  faults_at = get_map (λ (k : LinkSeen). k.faults) old_list i (line_seen l x) seen_at
 
   same_faults : l.fault_count z.link ≡ l.fault_count x.link → link_faults new_links ≡ link_faults old_links
   same_faults same =
-      faults_are ∙ ap (λ (n : ℕ). slice_set (link_faults old_links) i n) same
+      faults_are ∙ ap (λ (m : ℕ). slice_set (link_faults old_links) i m) same
       ∙ set_same (link_faults old_links) i (l.fault_count x.link) faults_at
 
   -- its link was not called
   pub line_kept : line_seen l z ≡ line_seen l x → new_links ≡ old_links
   line_kept same =
-      are_set ∙ ap (λ (k : LinkSeen). slice_set old_links i k) same ∙ set_same old_links i (line_seen l x) seen_at
+      ap with_links (are_set ∙ ap (λ (k : LinkSeen). slice_set old_list i k) same ∙ set_same old_list i (line_seen l x) seen_at)
 
   takes_nothing : Takes received [] (l.answers x.link) (l.answers z.link) → TakesAll [] old_links new_links
   takes_nothing h =
-      subst (λ (ks : List LinkSeen). TakesAll [] old_links ks) (sym are_set)
-      (all_set_none old_links i (line_seen l x) (line_seen l z) seen_at h)
+      subst (λ (ks : List LinkSeen). TakesAll [] old_links (with_links ks)) (sym are_set)
+      (all_set_none n old_list i (line_seen l x) (line_seen l z) seen_at h)
 
   pub line_sent : Stays (l.answers x.link) (l.answers z.link) → l.fault_count z.link ≡ l.fault_count x.link → Untaken old_links new_links
   line_sent stays same = record {
@@ -81,7 +89,7 @@ module _ {L : Type 0} (l : link_trait.Ghosts L) (ys : List (Line L)) (i : ℕ) (
   }
 
   -- its link was polled
-  module _ (state : GateState) (users : UsersSeen) where
+  module _ (state : GateState) (users : UsersSeen) (now : ℕ) where
     abbrev from : Side
     from = seen state users old_links
 
@@ -90,7 +98,7 @@ module _ {L : Type 0} (l : link_trait.Ghosts L) (ys : List (Line L)) (i : ℕ) (
 
     pub polled_none : Polls (l.answers x.link) (l.answers z.link) (Ok None)
         → CountsFor {T = Option (List ℕ)} (l.fault_count x.link) (l.fault_count z.link) devices.Failed (Ok None)
-        → Asks (datagram_of i) (Ok None) from to
+        → Asks (datagram_of n now i) (Ok None) from to
     polled_none polls counts = record {
       state = refl;
       carried = record {
@@ -101,30 +109,38 @@ module _ {L : Type 0} (l : link_trait.Ghosts L) (ys : List (Line L)) (i : ℕ) (
       faults = record { users = refl; links = same_faults (counts.others (λ f. cc)) };
     }
 
+    took_event : (b : Bool) (bytes : List ℕ) → TakesAll (event_with b now i bytes ∷ []) old_links new_links → Faultless from to
+        → Took (event_with b now i bytes ∷ []) from to
+    took_event true bytes taken faults = record {
+      state = refl;
+      carried = record { calls = grows_same users.trace; users = takes_same came users.to_come; links = taken };
+      faults = faults;
+    }
+    took_event false bytes taken faults = record {
+      state = refl;
+      carried = record { calls = grows_same users.trace; users = takes_same came users.to_come; links = taken };
+      faults = faults;
+    }
+
     pub polled_some : (bytes : List ℕ) → Polls (l.answers x.link) (l.answers z.link) (Ok (Some bytes))
         → CountsFor {T = Option (List ℕ)} (l.fault_count x.link) (l.fault_count z.link) devices.Failed (Ok (Some bytes))
-        → Asks (datagram_of i) (Ok (Some bytes)) from to
-    polled_some bytes polls counts = record {
-      state = refl;
-      carried = record {
-        calls = grows_same users.trace;
-        users = takes_same came users.to_come;
-        links = subst (λ (ks : List LinkSeen). TakesAll (datagram_of i (Some bytes)) old_links ks) (sym are_set)
-            (all_set_one old_links i (line_seen l x) (line_seen l z) seen_at bytes
-            (poll_takes (l.answers x.link) (l.answers z.link) (Ok (Some bytes)) polls));
-      };
-      faults = record { users = refl; links = same_faults (counts.others (λ f. cc)) };
-    }
+        → Asks (datagram_of n now i) (Ok (Some bytes)) from to
+    polled_some bytes polls counts =
+        took_event (i == n) bytes
+        (subst (λ (ks : List LinkSeen). TakesAll (event_with (i == n) now i bytes ∷ []) old_links (with_links ks)) (sym are_set)
+        (all_set_one n old_list i (line_seen l x) (line_seen l z) seen_at now bytes
+        (poll_takes (l.answers x.link) (l.answers z.link) (Ok (Some bytes)) polls)))
+        (record { users = refl; links = same_faults (counts.others (λ f. cc)) })
 
     pub polled_ok : (datagram : Option (List ℕ)) → Polls (l.answers x.link) (l.answers z.link) (Ok datagram)
         → CountsFor {T = Option (List ℕ)} (l.fault_count x.link) (l.fault_count z.link) devices.Failed (Ok datagram)
-        → Asks (datagram_of i) (Ok datagram) from to
+        → Asks (datagram_of n now i) (Ok datagram) from to
     polled_ok None polls counts = polled_none polls counts
     polled_ok (Some bytes) polls counts = polled_some bytes polls counts
 
     poll_failed : Polls (l.answers x.link) (l.answers z.link) (Err devices.Failed)
         → CountsFor {T = Option (List ℕ)} (l.fault_count x.link) (l.fault_count z.link) devices.Failed (Err devices.Failed)
-        → Asks (datagram_of i) (Err LinkFault) from to
+        → Asks (datagram_of n now i) (Err LinkFault) from to
     poll_failed polls counts = record {
       carried = record {
         calls = grows_same users.trace;
@@ -144,7 +160,7 @@ module _ {L : Type 0} (l : link_trait.Ghosts L) (ys : List (Line L)) (i : ℕ) (
 
     poll_without_memory : Polls (l.answers x.link) (l.answers z.link) (Err devices.NoMemory)
         → CountsFor {T = Option (List ℕ)} (l.fault_count x.link) (l.fault_count z.link) devices.Failed (Err devices.NoMemory)
-        → Asks (datagram_of i) (Err NoMemory) from to
+        → Asks (datagram_of n now i) (Err NoMemory) from to
     poll_without_memory polls counts = record {
       carried = record {
         calls = grows_same users.trace;
@@ -156,15 +172,15 @@ module _ {L : Type 0} (l : link_trait.Ghosts L) (ys : List (Line L)) (i : ℕ) (
 
     pub poll_stopped : (e : DeviceError) (fault : GateError) → fault ≡ link_fault e → Polls (l.answers x.link) (l.answers z.link) (Err e)
         → CountsFor {T = Option (List ℕ)} (l.fault_count x.link) (l.fault_count z.link) devices.Failed (Err e)
-        → Asks (datagram_of i) (Err fault) from to
+        → Asks (datagram_of n now i) (Err fault) from to
     poll_stopped devices.Failed fault is polls counts =
-        subst (λ (f : GateError). Asks (datagram_of i) (Err f) from to) (sym is) (poll_failed polls counts)
+        subst (λ (f : GateError). Asks (datagram_of n now i) (Err f) from to) (sym is) (poll_failed polls counts)
     poll_stopped devices.NoMemory fault is polls counts =
-        subst (λ (f : GateError). Asks (datagram_of i) (Err f) from to) (sym is) (poll_without_memory polls counts)
+        subst (λ (f : GateError). Asks (datagram_of n now i) (Err f) from to) (sym is) (poll_without_memory polls counts)
 
 -- ---- a call of users
 
-module _ (state : GateState) (links : List LinkSeen) (a b : UsersSeen) where
+module _ (state : GateState) (links : LinksSeen) (a b : UsersSeen) where
   pub event_came : (r : Option UserEvent) → Gives a.to_come b.to_come (Ok r) → Traces a.trace b.trace (Ok r)
       → b.faults ≡ count_after {T = Option UserEvent} (Ok r) a.faults → Asks event_of (Ok r) (seen state a links) (seen state b links)
   event_came None gives traces counts = record {
@@ -181,7 +197,7 @@ module _ (state : GateState) (links : List LinkSeen) (a b : UsersSeen) where
     carried = record {
       calls = grows_one a.trace b.trace (calls.Came event) traces;
       users = event_takes a.to_come b.to_come (Ok (Some event)) gives;
-      links = all_same links;
+      links = all_quiet (events.User event ∷ []) links (λ place. refl);
     };
     faults = record { users = counts; links = refl };
   }
@@ -249,7 +265,7 @@ module _ (state : GateState) (links : List LinkSeen) (a b : UsersSeen) where
 
 -- ---- no call of users
 
-module _ (state : GateState) (users : UsersSeen) (xs ys : List LinkSeen) where
+module _ (state : GateState) (users : UsersSeen) (xs ys : LinksSeen) where
   pub made_by_links : {T E : Type 0} (r : Result T E) → Untaken xs ys → MakesAll [] r (seen state users xs) (seen state users ys)
   made_by_links r h =
       makes_all [] r (seen state users xs) (seen state users ys)
@@ -300,7 +316,7 @@ module _ {T E : Type 0} (act : Act) (r : Result T E) (a b : Side) where
   closed_act user is h = subst (λ (x : Act). MakesAll (call_of x) r a b) (sym is) h
 
 -- a read waits: nothing is done for users
-module _ {T E : Type 0} (act : Act) (r : Result T E) (g h : GateState) (users : UsersSeen) (xs ys : List LinkSeen) where
+module _ {T E : Type 0} (act : Act) (r : Result T E) (g h : GateState) (users : UsersSeen) (xs ys : LinksSeen) where
   pub waits_act : (user : ℕ) (again : Bool) → act ≡ acts.Waits user again → h ≡ g → ys ≡ xs
       → MakesAll (call_of act) r (seen g users xs) (seen h users ys)
   waits_act user again is state same =

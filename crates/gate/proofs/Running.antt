@@ -1,12 +1,14 @@
 -- What a gateway does, one thing after the other.
 use Rattle.std.proofs.Common.{◌≡◌, ℕ, List, [], ◌∷◌, ◌++◌, refl, sym, ap, subst, ◌∙◌}
 use Rattle.std.proofs.Common.{append-nil, append_assoc, length}
-use Rattle.std.specs.Prelude.{Result, Ok, Err}
+use Rattle.std.specs.Prelude.{Result, Ok, Err, Some, None}
 use Rattle.std.specs.List.{flat_map}
 use Rattle.std.proofs.lemmas.Grind.{flat_map-append}
 use Rattle.nop_types.specs.Lists.{IsPrefixOf}
 use Rattle.outside.specs.Causes.{next_count}
+use Rattle.udp_node.specs.Sends.{Grows}
 use Rattle.users.specs.declared.event.UserCall.{UserCall}
+use Rattle.users.specs.declared.event.UserEvent.{UserEvent}
 use Rattle.gate_core.specs.Gates.{next}
 use Rattle.gate_core.specs.Runs.{after}
 use Rattle.gate_core.specs.declared.act.Act.{Act}
@@ -16,9 +18,9 @@ use Rattle.gate_core.specs.declared.gate_state.GateState.{GateState}
 use Rattle.gate.specs.declared.errors.GateError.{GateError}
 use Rattle.gate.specs.declared.errors.GateError.TheVariants.{PortFault, LinkFault, UsersFault, NoMemory}
 use Rattle.gate.specs.Carrying.{Carried, Ended, Faultless, IsCause, IsInside, Makes, MakesAll, MakesFirst, OneFailed, Ran, Runs, Steps}
-use Rattle.gate.specs.Carrying.{Takes, Took, TookNone, TakesStep, TakesStepPartly, call_of, calls_of, came, came_in, packets_to, run_calls, user_event_in}
-use Rattle.gate.specs.Sides.{LinkSeen, Side, UsersSeen, link_faults, seen}
-use Rattle.gate.proofs.Taking.{all_same, all_then, grows_same, grows_then, same_count, takes_same, takes_then}
+use Rattle.gate.specs.Carrying.{Takes, Took, TookNone, TakesStep, TakesStepPartly, call_of, calls_of, came, came_in, packets_at, run_calls, user_event_in}
+use Rattle.gate.specs.Sides.{LinksSeen, Side, UsersSeen, link_faults, seen}
+use Rattle.gate.proofs.Taking.{all_quiet, all_same, all_then, grows_same, grows_then, same_count, takes_same, takes_then}
 
 -- ---- calls and events
 
@@ -128,35 +130,29 @@ ended_step e a b c h step = let k : MakesFirst (calls_of (next b.state e).1) b c
   cause = faultless_then a b c h.faults k.makes.faults;
 }
 
--- an event that comes from no device
+-- an event that no device gave
+took_quiet : (e : Event) (a : Side) → came_in e ≡ [] → user_event_in e ≡ [] → ((place : ℕ) → packets_at a.links.cores place (e ∷ []) ≡ [])
+    → Took (e ∷ []) a a
+took_quiet e a calls users none = record {
+  state = refl;
+  carried = record {
+    calls = subst (λ (cs : List UserCall). Grows a.users.trace a.users.trace (cs ++ [])) (sym calls) (grows_same a.users.trace);
+    users = subst (λ (es : List UserEvent). Takes came (es ++ []) a.users.to_come a.users.to_come) (sym users) (takes_same came a.users.to_come);
+    links = all_quiet (e ∷ []) a.links none;
+  };
+  faults = faultless_same a;
+}
+
 pub took_inside : (e : Event) (a : Side) → IsInside e → Took (e ∷ []) a a
-took_inside (events.Retry core) a h = record {
-  state = refl;
-  carried = record { calls = grows_same a.users.trace; users = takes_same came a.users.to_come; links = all_same a.links };
-  faults = faultless_same a;
-}
-took_inside (events.Read user) a h = record {
-  state = refl;
-  carried = record { calls = grows_same a.users.trace; users = takes_same came a.users.to_come; links = all_same a.links };
-  faults = faultless_same a;
-}
-took_inside (events.Ask core observer user) a h = record {
-  state = refl;
-  carried = record { calls = grows_same a.users.trace; users = takes_same came a.users.to_come; links = all_same a.links };
-  faults = faultless_same a;
-}
-took_inside (events.Reassign core) a h = record {
-  state = refl;
-  carried = record { calls = grows_same a.users.trace; users = takes_same came a.users.to_come; links = all_same a.links };
-  faults = faultless_same a;
-}
-took_inside events.Idle a h = record {
-  state = refl;
-  carried = record { calls = grows_same a.users.trace; users = takes_same came a.users.to_come; links = all_same a.links };
-  faults = faultless_same a;
-}
+took_inside (events.Retry core) a h = took_quiet (events.Retry core) a refl refl (λ place. refl)
+took_inside (events.Read user) a h = took_quiet (events.Read user) a refl refl (λ place. refl)
+took_inside (events.Ask core observer user) a h = took_quiet (events.Ask core observer user) a refl refl (λ place. refl)
+took_inside (events.Reassign core) a h = took_quiet (events.Reassign core) a refl refl (λ place. refl)
+took_inside (events.Watch now None) a h = took_quiet (events.Watch now None) a refl refl (λ place. refl)
+took_inside events.Idle a h = took_quiet events.Idle a refl refl (λ place. refl)
 took_inside (events.Datagram core bytes) a h = absurd h
 took_inside (events.User event) a h = absurd h
+took_inside (events.Watch now (Some bytes)) a h = absurd h
 
 -- where nothing was to be taken
 pub ran_none : (a b : Side) → Took [] a b → Ran a b
@@ -244,23 +240,23 @@ made_whole acts a b h =
 -- ---- a core whose state changes
 
 -- what is seen of the core does not matter
-pub makes_between : (cs : List UserCall) (g h : GateState) (users : UsersSeen) (links : List LinkSeen) (b : Side) → Makes cs (seen h users links) b
+pub makes_between : (cs : List UserCall) (g h : GateState) (users : UsersSeen) (links : LinksSeen) (b : Side) → Makes cs (seen h users links) b
     → Makes cs (seen g users links) b
 makes_between cs g h users links b m = record {
   carried = record { calls = m.carried.calls; users = m.carried.users; links = m.carried.links };
   faults = record { users = m.faults.users; links = m.faults.links };
 }
 
-pub made_ready : (cs : List UserCall) (g h : GateState) (a b : UsersSeen) (xs ys : List LinkSeen) → Makes cs (seen g a xs) (seen g b xs) → ys ≡ xs
+pub made_ready : (cs : List UserCall) (g h : GateState) (a b : UsersSeen) (xs ys : LinksSeen) → Makes cs (seen g a xs) (seen g b xs) → ys ≡ xs
     → Makes cs (seen g a xs) (seen h b ys)
 made_ready cs g h a b xs ys m same =
-    subst (λ (ks : List LinkSeen). Makes cs (seen g a xs) (seen h b ks)) (sym same)
+    subst (λ (ks : LinksSeen). Makes cs (seen g a xs) (seen h b ks)) (sym same)
     (record {
       carried = record { calls = m.carried.calls; users = m.carried.users; links = m.carried.links };
       faults = record { users = m.faults.users; links = m.faults.links };
     })
 
-module _ (e : Event) (g h : GateState) (users : UsersSeen) (links : List LinkSeen) where
+module _ (e : Event) (g h : GateState) (users : UsersSeen) (links : LinksSeen) where
   -- memory ran out in the step
   pub nothing_done : TakesStepPartly e (seen g users links) (seen h users links)
   nothing_done = record {
@@ -284,18 +280,26 @@ module _ (e : Event) (g h : GateState) (users : UsersSeen) (links : List LinkSee
 pub took_is : (es fs : List Event) (a b : Side) → es ≡ fs → Took es a b → Took fs a b
 took_is es fs a b is t = subst (λ (xs : List Event). Took xs a b) is t
 
-pub took_on : (es : List Event) (before : Side) (g h : GateState) (users : UsersSeen) (xs ys : List LinkSeen) → h ≡ g → ys ≡ xs
+pub took_on : (es : List Event) (before : Side) (g h : GateState) (users : UsersSeen) (xs ys : LinksSeen) → h ≡ g → ys ≡ xs
     → Took es before (seen g users xs) → Took es before (seen h users ys)
 took_on es before g h users xs ys state same t =
     subst (λ (s : GateState). Took es before (seen s users ys)) (sym state)
-    (subst (λ (ks : List LinkSeen). Took es before (seen g users ks)) (sym same) t)
+    (subst (λ (ks : LinksSeen). Took es before (seen g users ks)) (sym same) t)
 
-pub runs_from : {T : Type 0} (r : Result T GateError) (g h : GateState) (users : UsersSeen) (xs ys : List LinkSeen) (c : Side) → h ≡ g → ys ≡ xs
+pub runs_from : {T : Type 0} (r : Result T GateError) (g h : GateState) (users : UsersSeen) (xs ys : LinksSeen) (c : Side) → h ≡ g → ys ≡ xs
     → Runs r (seen h users ys) c → Runs r (seen g users xs) c
 runs_from r g h users xs ys c state same k =
-    subst (λ (s : GateState). Runs r (seen s users xs) c) state (subst (λ (ks : List LinkSeen). Runs r (seen h users ks) c) same k)
+    subst (λ (s : GateState). Runs r (seen s users xs) c) state (subst (λ (ks : LinksSeen). Runs r (seen h users ks) c) same k)
 
--- as many links as before
-pub runs_count : {T : Type 0} (r : Result T GateError) (a b : Side) → Runs r a b → length b.links ≡ length a.links
-runs_count (Ok t) a b k = same_count (λ core. packets_to core k.events) a.links b.links k.carried.links
-runs_count (Err e) a b k = same_count (λ core. packets_to core k.events) a.links b.links k.carried.links
+module _ {T : Type 0} where
+  -- of as many cores as before
+  pub runs_cores : (r : Result T GateError) (a b : Side) → Runs r a b → b.links.cores ≡ a.links.cores
+  runs_cores (Ok t) a b k = k.carried.links.cores
+  runs_cores (Err e) a b k = k.carried.links.cores
+
+  -- as many links as before
+  pub runs_count : (r : Result T GateError) (a b : Side) → Runs r a b → length b.links.links ≡ length a.links.links
+  runs_count (Ok t) a b k =
+      same_count (λ place. packets_at a.links.cores place k.events) a.links.links b.links.links k.carried.links.each
+  runs_count (Err e) a b k =
+      same_count (λ place. packets_at a.links.cores place k.events) a.links.links b.links.links k.carried.links.each

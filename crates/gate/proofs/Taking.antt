@@ -1,9 +1,10 @@
 -- Answers that are taken one after the other, and the calls on one link of several.
 use Rattle.std.proofs.Common.{◌≡◌, ℕ, zero, suc, List, [], ◌∷◌, ◌++◌, length, map, Option, Some, None, refl, sym, ap, subst, ◌∙◌}
-use Rattle.std.proofs.Common.{append-nil, append_assoc, Bool, inl, inr}
+use Rattle.std.proofs.Common.{append-nil, append_assoc, Bool, true, false, ◌==◌, inl, inr}
 use Rattle.std.specs.Prelude.{Result, Ok, Err, slice_get, slice_set, drop}
 use Rattle.std.specs.List.{flat_map}
 use Rattle.std.proofs.lemmas.Grind.{flat_map-append}
+use Rattle.std.proofs.lemmas.Bool.{eq-eqb, eqb-true, ne_eqb}
 use Rattle.std.proofs.lemmas.Bool.Decides.{eqb_tells}
 use Rattle.std.proofs.lemmas.Option.{slice_get_within}
 use Rattle.lemmas.proofs.Places.{slice_get-set_here, slice_get-set_other}
@@ -19,9 +20,8 @@ use Rattle.users.specs.declared.event.UserAnswer.{UserAnswer}
 use Rattle.users.specs.declared.event.UserAnswer.TheVariants as answers
 use Rattle.users.specs.declared.event.UserEvent.{UserEvent}
 use Rattle.gate_core.specs.declared.act.Event.{Event}
-use Rattle.gate_core.specs.declared.act.Event.TheVariants as events
-use Rattle.gate.specs.Carrying.{TakesFirst, Takes, TakesAt, TakesAll, came, packet_if, packets_to, received}
-use Rattle.gate.specs.Sides.{LinkSeen}
+use Rattle.gate.specs.Carrying.{TakesFirst, Takes, TakesAt, TakesAll, came, event_with, packet_if, packet_in, packets_at, received}
+use Rattle.gate.specs.Sides.{LinkSeen, LinksSeen}
 
 -- ---- what is observable grows
 
@@ -141,16 +141,49 @@ at_then (Some a) None c xs ys h k = absurd h
 at_then (Some a) (Some b) None xs ys h k = absurd k
 at_then (Some a) (Some b) (Some c) xs ys h k = takes_then received a.answers b.answers c.answers xs ys h k
 
-pub all_same : (a : List LinkSeen) → TakesAll [] a a
-all_same a core = at_same (slice_get a core)
+pub all_same : (a : LinksSeen) → TakesAll [] a a
+all_same a = record { cores = refl; each = λ place. at_same (slice_get a.links place) }
 
-pub all_then : (a b c : List LinkSeen) (es fs : List Event) → TakesAll es a b → TakesAll fs b c → TakesAll (es ++ fs) a c
-all_then a b c es fs h k core =
-    subst (λ (xs : List (List ℕ)). TakesAt xs (slice_get a core) (slice_get c core)) (sym (flat_map-append _ es fs))
-    (at_then (slice_get a core) (slice_get b core) (slice_get c core) (packets_to core es) (packets_to core fs) (h core) (k core))
+-- nothing came over them
+pub all_quiet : (es : List Event) (a : LinksSeen) → ((place : ℕ) → packets_at a.cores place es ≡ []) → TakesAll es a a
+all_quiet es a none = record {
+  cores = refl;
+  each = λ place.
+      subst (λ (ps : List (List ℕ)). TakesAt ps (slice_get a.links place) (slice_get a.links place)) (sym (none place))
+      (at_same (slice_get a.links place));
+}
+
+pub all_then : (a b c : LinksSeen) (es fs : List Event) → TakesAll es a b → TakesAll fs b c → TakesAll (es ++ fs) a c
+all_then a b c es fs h k = record {
+  cores = k.cores ∙ h.cores;
+  each = λ place.
+      let later : TakesAt (packets_at a.cores place fs) (slice_get b.links place) (slice_get c.links place) =
+      subst (λ (n : ℕ). TakesAt (packets_at n place fs) (slice_get b.links place) (slice_get c.links place)) h.cores (k.each place) in
+      subst (λ (xs : List (List ℕ)). TakesAt xs (slice_get a.links place) (slice_get c.links place)) (sym (flat_map-append _ es fs))
+      (at_then (slice_get a.links place) (slice_get b.links place) (slice_get c.links place)
+      (packets_at a.cores place es) (packets_at a.cores place fs) (h.each place) later);
+}
+
+-- a datagram that came over the link at a place, and over no other
+own_packet : (b : Bool) (now i : ℕ) (bytes : List ℕ) → packet_in b i (event_with b now i bytes) ≡ bytes ∷ []
+own_packet true now i bytes = refl
+own_packet false now i bytes = ap (λ (v : Bool). packet_if v bytes) (eq-eqb i i refl)
+
+others_packet : (n now i j : ℕ) (bytes : List ℕ) → (j ≡ i → ⊥) → (b c : Bool) → (i == n) ≡ b → (j == n) ≡ c
+    → packet_in c j (event_with b now i bytes) ≡ []
+others_packet n now i j bytes away true true e f = absurd (away (eqb-true j n f ∙ sym (eqb-true i n e)))
+others_packet n now i j bytes away true false e f = refl
+others_packet n now i j bytes away false true e f = refl
+others_packet n now i j bytes away false false e f = ap (λ (v : Bool). packet_if v bytes) (ne_eqb i j (λ same. away (sym same)))
 
 -- one of the links was called, and some datagrams came over it
-module _ (xs : List LinkSeen) (i : ℕ) (x y : LinkSeen) (found : slice_get xs i ≡ Some x) where
+module _ (n : ℕ) (xs : List LinkSeen) (i : ℕ) (x y : LinkSeen) (found : slice_get xs i ≡ Some x) where
+  abbrev before : LinksSeen
+  before = record { cores = n; links = xs }
+
+  abbrev then : LinksSeen
+  then = record { cores = n; links = slice_set xs i y }
+
   here : (packets : List (List ℕ)) → Takes received packets x.answers y.answers → TakesAt packets (slice_get xs i) (slice_get (slice_set xs i y) i)
   here packets h =
       let there : slice_get (slice_set xs i y) i ≡ Some y = slice_get-set_here xs i y (slice_get_within xs i x found) in
@@ -161,22 +194,40 @@ module _ (xs : List LinkSeen) (i : ℕ) (x y : LinkSeen) (found : slice_get xs i
   other j away =
       subst (λ (o : Option LinkSeen). TakesAt [] (slice_get xs j) o) (sym (slice_get-set_other xs i j y away)) (at_same (slice_get xs j))
 
-  pub all_set_none : Takes received [] x.answers y.answers → TakesAll [] xs (slice_set xs i y)
-  all_set_none h j = elim (eqb_tells i j) [
+  none_at : Takes received [] x.answers y.answers → (j : ℕ) → TakesAt [] (slice_get xs j) (slice_get (slice_set xs i y) j)
+  none_at h j = elim (eqb_tells i j) [
     | inl e ↦ subst (λ (k : ℕ). TakesAt [] (slice_get xs k) (slice_get (slice_set xs i y) k)) e.1 (here [] h)
     | inr e ↦ other j (λ s. e.1 (sym s))
   ]
 
-  pub all_set_one : (bytes : List ℕ) → Takes received (bytes ∷ []) x.answers y.answers
-      → TakesAll (events.Datagram i bytes ∷ []) xs (slice_set xs i y)
-  all_set_one bytes h j = elim (eqb_tells i j) [
-    | inl e ↦
-        subst (λ (v : Bool). TakesAt (packet_if v bytes ++ []) (slice_get xs j) (slice_get (slice_set xs i y) j)) (sym e.0)
-        (subst (λ (k : ℕ). TakesAt (bytes ∷ []) (slice_get xs k) (slice_get (slice_set xs i y) k)) e.1 (here (bytes ∷ []) h))
-    | inr e ↦
-        subst (λ (v : Bool). TakesAt (packet_if v bytes ++ []) (slice_get xs j) (slice_get (slice_set xs i y) j)) (sym e.0)
-        (other j (λ s. e.1 (sym s)))
-  ]
+  pub all_set_none : Takes received [] x.answers y.answers → TakesAll [] before then
+  all_set_none h = record { cores = refl; each = none_at h }
+
+  module _ (now : ℕ) (bytes : List ℕ) where
+    abbrev came_there : List Event
+    came_there = event_with (i == n) now i bytes ∷ []
+
+    abbrev At : ℕ → Type 0
+    At j = TakesAt (packets_at n j came_there) (slice_get xs j) (slice_get (slice_set xs i y) j)
+
+    one_here : Takes received (bytes ∷ []) x.answers y.answers → At i
+    one_here h =
+        subst (λ (ps : List (List ℕ)). TakesAt (ps ++ []) (slice_get xs i) (slice_get (slice_set xs i y) i))
+        (sym (own_packet (i == n) now i bytes)) (here (bytes ∷ []) h)
+
+    none_there : (j : ℕ) → (j ≡ i → ⊥) → At j
+    none_there j away =
+        subst (λ (ps : List (List ℕ)). TakesAt (ps ++ []) (slice_get xs j) (slice_get (slice_set xs i y) j))
+        (sym (others_packet n now i j bytes away (i == n) (j == n) refl refl)) (other j away)
+
+    one_at : Takes received (bytes ∷ []) x.answers y.answers → (j : ℕ) → At j
+    one_at h j = elim (eqb_tells i j) [
+      | inl e ↦ subst At e.1 (one_here h)
+      | inr e ↦ none_there j (λ s. e.1 (sym s))
+    ]
+
+    pub all_set_one : Takes received (bytes ∷ []) x.answers y.answers → TakesAll came_there before then
+    all_set_one h = record { cores = refl; each = one_at h }
 
 -- the links, where one of the lines is written
 pub map_set : {A B : Type 0} (f : A → B) (ys : List A) (i : ℕ) (z : A) → map f (slice_set ys i z) ≡ slice_set (map f ys) i (f z)

@@ -27,6 +27,11 @@ abbrev pub AreFirst : ℕ → Option (List (List PollAnswer)) → List LinkSeen 
 AreFirst count None links = ⊤
 AreFirst count (Some polls) links = links ≡ first_links count polls
 
+-- how many links are attached: one for each of so many cores, and one for the watch at the place of an observer, if there is one
+abbrev pub seat_count : Option ℕ → (count : ℕ) → ℕ
+seat_count None count = count
+seat_count (Some observer) count = count + 1
+
 -- no poll of them failed
 abbrev pub none_failed : ℕ → List ℕ
 none_failed zero = []

@@ -1,5 +1,5 @@
 -- What a gateway takes from its devices, and does on them.
-use Rattle.std.specs.Prelude.{◌≡◌, ℕ, ◌==◌, Bool, true, false, List, [], ◌∷◌, ◌++◌, Option, Some, None, Result, Ok, Err, slice_get, slice_set, ⊤}
+use Rattle.std.specs.Prelude.{◌≡◌, ℕ, ◌==◌, ◌&&◌, not, Bool, true, false, List, [], ◌∷◌, ◌++◌, Option, Some, None, Result, Ok, Err, slice_get, slice_set, ⊤}
 use Rattle.std.specs.List.{flat_map}
 use Rattle.nop_types.specs.Lists.{IsPrefixOf}
 use Rattle.outside.specs.Causes.{next_count}
@@ -20,7 +20,7 @@ use Rattle.gate_core.specs.declared.act.Event.TheVariants as events
 use Rattle.gate_core.specs.declared.gate_state.GateState.{GateState}
 use Rattle.gate.specs.declared.errors.GateError.{GateError}
 use Rattle.gate.specs.declared.errors.GateError.TheVariants.{PortFault, LinkFault, UsersFault, NoMemory}
-use Rattle.gate.specs.Sides.{LinkSeen, Side, link_faults}
+use Rattle.gate.specs.Sides.{LinkSeen, LinksSeen, Side, link_faults}
 
 -- ---- calls on users
 
@@ -53,17 +53,19 @@ abbrev pub packet_if : Bool → List ℕ → List (List ℕ)
 packet_if true bytes = bytes ∷ []
 packet_if false bytes = []
 
-abbrev pub packet_in : (core : ℕ) → Event → List (List ℕ)
-packet_in core (events.Datagram other bytes) = packet_if (other == core) bytes
-packet_in core _ = []
+-- an event gives what came over the link at a place: of the watch, or of a core
+abbrev pub packet_in : (of_watch : Bool) → (place : ℕ) → Event → List (List ℕ)
+packet_in of_watch place (events.Watch now (Some bytes)) = packet_if of_watch bytes
+packet_in of_watch place (events.Datagram core bytes) = packet_if (not of_watch && (core == place)) bytes
+packet_in of_watch place _ = []
 
 -- the events of users
 abbrev pub user_events : List Event → List UserEvent
 user_events es = flat_map user_event_in es
 
--- the datagrams that came to a core
-abbrev pub packets_to : (core : ℕ) → List Event → List (List ℕ)
-packets_to core es = flat_map (packet_in core) es
+-- the datagrams that came over the link at a place: that behind so many cores is the watch's
+abbrev pub packets_at : (cores place : ℕ) → List Event → List (List ℕ)
+packets_at cores place es = flat_map (packet_in (place == cores) place) es
 
 -- what an answer gave
 abbrev pub received : PollAnswer → List (List ℕ)
@@ -87,17 +89,18 @@ abbrev pub Takes : {A B : Type 0} → (A → List B) → List B → Option (List
 Takes gives xs None new = ⊤
 Takes gives xs (Some old) new = TakesFirst gives xs old new
 
--- the datagrams that came over the link of a core, if there is one
+-- the datagrams that came over a link, if there is one
 abbrev pub TakesAt : List (List ℕ) → Option LinkSeen → Option LinkSeen → Type 0
 TakesAt packets (Some a) (Some b) = Takes received packets a.answers b.answers
 TakesAt packets None None = packets ≡ []
 TakesAt packets _ _ = ⊥
 
-abbrev pub TakesAll : List Event → List LinkSeen → List LinkSeen → Type 0
-TakesAll es old new = (core : ℕ) → TakesAt (packets_to core es) (slice_get old core) (slice_get new core)
+pub record TakesAll (es : List Event) (old new : LinksSeen) : Type 0 where
+  pub cores : new.cores ≡ old.cores
+  pub each : (place : ℕ) → TakesAt (packets_at old.cores place es) (slice_get old.links place) (slice_get new.links place)
 
 -- no poll was made on the links
-pub record Untaken (old new : List LinkSeen) : Type 0 where
+pub record Untaken (old new : LinksSeen) : Type 0 where
   pub answers : TakesAll [] old new
   pub faults : link_faults new ≡ link_faults old
 
@@ -184,9 +187,14 @@ abbrev pub Asks : {T : Type 0} → (T → List Event) → Result T GateError →
 Asks of (Ok t) a b = Took (of t) a b
 Asks of (Err e) a b = TookNone e a b
 
-abbrev pub datagram_of : (core : ℕ) → Option (List ℕ) → List Event
-datagram_of core None = []
-datagram_of core (Some bytes) = events.Datagram core bytes ∷ []
+-- the event of a datagram, by whose link it came over
+abbrev pub event_with : (of_watch : Bool) → (now place : ℕ) → List ℕ → Event
+event_with true now place bytes = events.Watch now (Some bytes)
+event_with false now place bytes = events.Datagram place bytes
+
+abbrev pub datagram_of : (cores now place : ℕ) → Option (List ℕ) → List Event
+datagram_of cores now place None = []
+datagram_of cores now place (Some bytes) = event_with (place == cores) now place bytes ∷ []
 
 abbrev pub event_of : Option UserEvent → List Event
 event_of None = []
@@ -198,6 +206,7 @@ IsInside (events.Retry core) = ⊤
 IsInside (events.Read user) = ⊤
 IsInside (events.Ask core observer user) = ⊤
 IsInside (events.Reassign core) = ⊤
+IsInside (events.Watch now None) = ⊤
 IsInside events.Idle = ⊤
 IsInside _ = ⊥
 

@@ -7,6 +7,7 @@ use Rattle.users.specs.declared.event.UserCall.{UserCall}
 use Rattle.users.specs.declared.users.Users as users_trait
 use Rattle.gate_core.specs.declared.gate_state.GateState.{GateState}
 use Rattle.gate.specs.declared.lines.Line as code_line
+use Rattle.gate.specs.declared.lines.Lines as code_lines
 use Rattle.gate.specs.declared.site.Site as code_site
 
 -- of users: what the calls to come answer, what was done, and how many calls failed
@@ -20,13 +21,18 @@ pub record LinkSeen : Type 0 where
   pub answers : Option (List PollAnswer)
   pub faults : ℕ
 
--- of a gateway: its core, its users, and its links in the order of the client cores
+-- of links: those of so many client cores, in the order of these, and behind them that of the watch, if there is one
+pub record LinksSeen : Type 0 where
+  pub cores : ℕ
+  pub links : List LinkSeen
+
+-- of a gateway: its core, its users, and its links
 pub record Side : Type 0 where
   pub state : GateState
   pub users : UsersSeen
-  pub links : List LinkSeen
+  pub links : LinksSeen
 
-abbrev pub seen : GateState → UsersSeen → List LinkSeen → Side
+abbrev pub seen : GateState → UsersSeen → LinksSeen → Side
 seen state users links = record { state = state; users = users; links = links }
 
 abbrev pub users_seen : {U : Type 0} → users_trait.Ghosts U → U → UsersSeen
@@ -41,11 +47,14 @@ line_seen l line = link_seen l line.link
 abbrev pub lines_seen : {L : Type 0} → link_trait.Ghosts L → List (code_line.Line L) → List LinkSeen
 lines_seen l lines = map (line_seen l) lines
 
+abbrev pub links_seen : {L : Type 0} → link_trait.Ghosts L → code_lines.Lines L → LinksSeen
+links_seen l lines = record { cores = lines.cores; links = lines_seen l lines.lines.items }
+
 abbrev pub side_with : {L : Type 0} → link_trait.Ghosts L → code_site.Site L → UsersSeen → Side
-side_with l site users = seen site.state users (lines_seen l site.lines.lines.items)
+side_with l site users = seen site.state users (links_seen l site.lines)
 
 abbrev pub side : {L U : Type 0} → link_trait.Ghosts L → users_trait.Ghosts U → code_site.Site L → U → Side
 side l u site users = side_with l site (users_seen u users)
 
-abbrev pub link_faults : List LinkSeen → List ℕ
-link_faults links = map (λ l. l.faults) links
+abbrev pub link_faults : LinksSeen → List ℕ
+link_faults s = map (λ l. l.faults) s.links

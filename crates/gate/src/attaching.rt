@@ -3,7 +3,8 @@
 ghost use Rattle.std.specs.Prelude.{◌≡◌, ◌≤◌, ◌<◌, ◌+◌, ◌^◌, ◌++◌, ◌∷◌, [], length, map, OnOk};
 ghost use Rattle.outside.specs.Causes.{CountsFor};
 ghost use Rattle.outside.specs.declared.errors.DeviceError.TheVariants as devices;
-ghost use Rattle.gate.specs.Attaching.{AllAttached, Attaches, HasRoom, Holds, ports_side};
+ghost use Rattle.gate.specs.Attaching.{AllAttached, Attaches, HasRoom, Holds};
+ghost use Rattle.gate.specs.Attaching.{ports_side, seat_count};
 
 use crate::lines::Line;
 use crate::readers::ReadTimer;
@@ -14,11 +15,44 @@ use outside::{AttachError, Ports};
 use std::alloc::{AllocFailed, Global};
 use udp_node::Address;
 
-/// Where the client with a number is.
-fn address(service: &Service, number: u32) -> Address {
+/// Whose places a gateway has: those of the clients with the numbers from `first` to `first + count
+/// - 1`, and that of an observer, where it watches, or none.
+#[derive(Clone, Copy, Debug)]
+pub struct Seats {
+    pub first: u32,
+    pub count: usize,
+    pub observer: Option<u8>,
+}
+
+/// How many there are.
+fn seat_count(seats: Seats) -> usize
+    requires { seats.first + seats.count ≤ 2 ^ 32 }
+    ensures { result ≡ seat_count seats.observer seats.count }
+{
+    match seats.observer {
+        Some(_) => seats.count + 1,
+        None => seats.count,
+    }
+}
+
+/// Whose place is the one with this number: the clients come first.
+fn actor_at(seats: Seats, place: usize) -> Actor
+    requires { seats.first + seats.count ≤ 2 ^ 32 }
+{
+    if place < seats.count {
+        return Actor::Client(seats.first + place as u32);
+    }
+    match seats.observer {
+        Some(observer) => Actor::Observer(observer),
+        None => Actor::Client(seats.first),
+    }
+}
+
+/// Where that is.
+fn address(service: &Service, own: Actor) -> Address {
     Address {
         base: service.base,
-        own: Actor::Client(number),
+        own,
         config: service.config,
     }
 }
@@ -76,18 +110,17 @@ fn attach_one<P: Ports>(
     }
 }
 
-/// Attaches a link for each of so many clients, at its port.
+/// Attaches a link at each place, at its port.
 pub(crate) fn attach_all<P: Ports>(
     alloc: Global,
     service: &Service,
-    first: u32,
-    count: usize,
+    seats: Seats,
     ports: &mut P,
     lines: &mut Vec<Line<P::L>>,
 ) -> Result<(), AttachError>
-    requires numbers { first + count ≤ 2 ^ 32 }
+    requires numbers { seats.first + seats.count ≤ 2 ^ 32 }
     requires none { lines.old.items ≡ [] }
-    ensures attaches { OnOk result (AllAttached P.L.Link count
+    ensures attaches { OnOk result (AllAttached P.L.Link (seat_count seats.observer seats.count)
         (ports_side (P.to_come ports.old) (P.attached ports.old) (P.detached ports.old))
         (ports_side (P.to_come ports.new) (P.attached ports.new) (P.detached ports.new))
         lines.new.items) }
@@ -97,8 +130,8 @@ pub(crate) fn attach_all<P: Ports>(
     ensures count { CountsFor (P.fault_count ports.old) (P.fault_count ports.new)
         devices.Failed result }
 {
-    for i in 0..count {
-        let at = address(service, first + i as u32);
+    for i in 0..seat_count(seats) {
+        let at = address(service, actor_at(seats, i));
         if let Err(e) = attach_one(alloc, at, ports, lines) {
             return Err(e);
         }

@@ -8,16 +8,25 @@
 //!
 //! A request is sent again after the smoothed round trip and four times its deviation, as RFC 6298
 //! has it, but after 5 ms at least and 200 ms at most, and after twice as long each time without an
-//! answer (`retry`); so is a read of an observer. Each core asks one observer, those of all cores
-//! are spread over all. A read whose answer was from a state that is too old is asked for again
-//! after 10 ms; one that is not answered for a second goes to another core, where there are several
-//! observers (`readers`). Where nobody asked for anything for half a second, the gateway asks for a
-//! value itself: so a service whose leader failed finds it out while nobody asks.
+//! answer (`retry`); so is a read of an observer. It is sent again at once where as many requests
+//! were answered that were submitted later as are open, of all cores, and three at least: since the
+//! service goes on, it was lost. Each core asks one observer, those of all cores are spread over
+//! all. A read whose answer was from a state that is too old is asked for again after 10 ms; one
+//! that is not answered for a second goes to another core, where there are several observers
+//! (`readers`). Where the gateway has an observer's place of its own, it reads at a near observer
+//! there, and asks no other one. Where nobody asked for anything for half a second, the gateway
+//! asks for a value itself: so a service whose leader failed finds it out while nobody asks. In a
+//! turn the link of the watch and those of cores that wait for an answer are polled, and of the
+//! others one, each in its turn.
+//!
+//! A gateway with a place of an observer has a watch there, over one more link, behind those of the
+//! cores; each turn is one of the watch, and so is each datagram that comes over its link. The cores
+//! ask the other observers.
 //!
 //! Proved: over any devices what `serve` takes and does is a run of the core over some events, in
 //! order (`Runs` in `specs/Carrying`):
-//! - `serves`: among these events, those of users and the datagrams of each core are what the devices
-//!   gave, each in its order, where they are observable. The trace of users holds the events that
+//! - `serves`: among these events, those of users, the datagrams of each core and those of the watch
+//!   are what the devices gave, each in its order, where they are observable. The trace of users holds the events that
 //!   came, and the replies and closes that the core gives in its steps, in order and no others. So
 //!   the laws of `gate_core` hold: replies are those to the requests that a user sent.
 //! - The same clause: at an error it is a first part of that, with its cause: LinkFault where one poll
@@ -30,7 +39,7 @@
 //! No clause says which datagrams are sent, when a request is sent again, or how many turns were
 //! taken.
 //!
-//! Calls: `serve`.
+//! Calls: `serve`, at some `Seats`.
 //!
 //! Files: `serving`, `attaching`, `turn`, `site`, `lines`, `readers`, `retry`, `errors`.
 //! Definitions: `specs/Sides`, `Carrying`, `Attaching`, `Serving`, `Faults`.
@@ -45,6 +54,7 @@ mod serving;
 mod site;
 mod turn;
 
+pub use attaching::Seats;
 pub use errors::GateError;
 pub use retry::{RetryTimer, RoundTrip};
 pub use serving::serve;

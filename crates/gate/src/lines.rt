@@ -6,7 +6,7 @@ ghost use Rattle.outside.specs.Links.{Polls};
 ghost use Rattle.outside.specs.Observed.{Stays};
 ghost use Rattle.outside.specs.declared.errors.DeviceError.TheVariants as devices;
 ghost use Rattle.gate.specs.Carrying.{Untaken};
-ghost use Rattle.gate.specs.Sides.{lines_seen};
+ghost use Rattle.gate.specs.Sides.{links_seen};
 
 use crate::readers::ReadTimer;
 use crate::retry::RetryTimer;
@@ -24,9 +24,12 @@ pub(crate) struct Line<L> {
     pub(crate) lost: u64,
 }
 
-/// Those of all cores, in the order of their places.
+/// Those of so many cores, in the order of their places, and behind them that of the watch, if
+/// there is one; and how many requests were submitted.
 pub(crate) struct Lines<L> {
     pub(crate) lines: Vec<Line<L>>,
+    pub(crate) cores: usize,
+    pub(crate) submitted: u64,
 }
 
 /// Whether the open requests or the read of a core are to be sent again now.
@@ -56,8 +59,7 @@ impl<L: Link> Line<L> {
 impl<L: Link> Lines<L> {
     /// The core at a place sends a datagram.
     pub(crate) fn send(&mut self, core: usize, dest: Dest, bytes: &[u8]) -> Result<(), NoMemory>
-        ensures { Untaken (lines_seen L.Link self.old.lines.items)
-            (lines_seen L.Link self.new.lines.items) }
+        ensures { Untaken (links_seen L.Link self.old) (links_seen L.Link self.new) }
     {
         if core >= self.lines.len() {
             return Ok(());
@@ -68,31 +70,70 @@ impl<L: Link> Lines<L> {
 
     /// The core at a place submitted a request.
     pub(crate) fn submitted(&mut self, core: usize, id: u64, now: u64) -> Result<(), NoMemory>
-        ensures { lines_seen L.Link self.new.lines.items
-            ≡ lines_seen L.Link self.old.lines.items }
+        ensures { links_seen L.Link self.new ≡ links_seen L.Link self.old }
     {
         if core >= self.lines.len() {
             return Ok(());
         }
+        self.submitted = self.submitted.saturating_add(1);
+        let order = self.submitted;
         let line = &mut self.lines[core];
-        line.timer.submitted(id, now)
+        line.timer.submitted(id, order, now)
+    }
+
+    /// The core at a place accepted the result of a request. Gives the order of the request.
+    fn accept(&mut self, core: usize, id: u64, now: u64) -> u64
+        ensures { links_seen L.Link self.new ≡ links_seen L.Link self.old }
+    {
+        if core >= self.lines.len() {
+            return 0;
+        }
+        let line = &mut self.lines[core];
+        line.timer.accepted(id, now)
+    }
+
+    /// How many requests are open, of all cores.
+    fn open(&self) -> usize {
+        let mut open: usize = 0;
+        for line in self.lines.iter() {
+            open = open.saturating_add(line.timer.open());
+        }
+        open
+    }
+
+    /// The request with this order was answered before those that the core at a place submitted
+    /// earlier; so many are open, of all cores.
+    fn pass_at(&mut self, core: usize, order: u64, open: usize)
+        ensures { links_seen L.Link self.new ≡ links_seen L.Link self.old }
+    {
+        if core < self.lines.len() {
+            let line = &mut self.lines[core];
+            line.timer.passed(order, open);
+        }
+    }
+
+    /// The request with this order was answered before all that were submitted earlier and are
+    /// open.
+    fn pass(&mut self, order: u64)
+        ensures { links_seen L.Link self.new ≡ links_seen L.Link self.old }
+    {
+        let open = self.open();
+        for core in 0..self.lines.len() {
+            self.pass_at(core, order, open);
+        }
     }
 
     /// The core at a place accepted the result of a request.
     pub(crate) fn accepted(&mut self, core: usize, id: u64, now: u64)
-        ensures { lines_seen L.Link self.new.lines.items
-            ≡ lines_seen L.Link self.old.lines.items }
+        ensures { links_seen L.Link self.new ≡ links_seen L.Link self.old }
     {
-        if core < self.lines.len() {
-            let line = &mut self.lines[core];
-            line.timer.accepted(id, now);
-        }
+        let order = self.accept(core, id, now);
+        self.pass(order);
     }
 
     /// The core at a place asked for a read.
     pub(crate) fn asked(&mut self, core: usize, id: u64, now: u64) -> Result<(), NoMemory>
-        ensures { lines_seen L.Link self.new.lines.items
-            ≡ lines_seen L.Link self.old.lines.items }
+        ensures { links_seen L.Link self.new ≡ links_seen L.Link self.old }
     {
         if core >= self.lines.len() {
             return Ok(());
@@ -103,8 +144,7 @@ impl<L: Link> Lines<L> {
 
     /// The core at a place was answered its read.
     pub(crate) fn answered(&mut self, core: usize, id: u64, now: u64)
-        ensures { lines_seen L.Link self.new.lines.items
-            ≡ lines_seen L.Link self.old.lines.items }
+        ensures { links_seen L.Link self.new ≡ links_seen L.Link self.old }
     {
         if core < self.lines.len() {
             let line = &mut self.lines[core];
@@ -117,10 +157,18 @@ impl<L: Link> Lines<L> {
         core < self.lines.len() && self.lines[core].reads.is_idle()
     }
 
+    /// Whether the core at a place waits for an answer.
+    pub(crate) fn is_waiting(&self, core: usize) -> bool {
+        if core >= self.lines.len() {
+            return false;
+        }
+        let line = &self.lines[core];
+        !line.timer.is_idle() || !line.reads.is_idle()
+    }
+
     /// Whether another core is to ask for the read of the core at a place now, if one may.
     pub(crate) fn is_overdue(&mut self, core: usize, may: bool, now: u64) -> bool
-        ensures { lines_seen L.Link self.new.lines.items
-            ≡ lines_seen L.Link self.old.lines.items }
+        ensures { links_seen L.Link self.new ≡ links_seen L.Link self.old }
     {
         if core >= self.lines.len() {
             return false;
@@ -131,8 +179,7 @@ impl<L: Link> Lines<L> {
 
     /// Whether the core at a place sends its open requests and its read again now.
     pub(crate) fn is_due(&mut self, core: usize, now: u64) -> bool
-        ensures { lines_seen L.Link self.new.lines.items
-            ≡ lines_seen L.Link self.old.lines.items }
+        ensures { links_seen L.Link self.new ≡ links_seen L.Link self.old }
     {
         if core >= self.lines.len() {
             return false;

@@ -102,12 +102,12 @@ impl ReadTimer {
     pub(crate) fn asked(&mut self, id: u64, now: u64) -> Result<(), NoMemory> {
         self.since = now;
         self.is_reassigned = false;
-        self.timer.submitted(id, now)
+        self.timer.submitted(id, 0, now)
     }
 
     /// The core was answered it.
     pub(crate) fn answered(&mut self, id: u64, now: u64) {
-        self.timer.accepted(id, now);
+        let _order = self.timer.accepted(id, now);
     }
 
     /// Whether it is to be sent again now.

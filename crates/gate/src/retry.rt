@@ -13,8 +13,15 @@ pub const MOST_RETRY_MILLIS: u64 = 200;
 /// The time before any round trip was measured.
 pub const FIRST_RETRY_MILLIS: u64 = 50;
 
+/// A request is sent again at once where as many that were submitted later were answered as are
+/// open, of all cores, and so many at least: it was lost, or its replies.
+pub const LEAST_PASSED: u8 = 3;
+
 const _: () = prove!(
-    LEAST_RETRY_MILLIS == 5 && MOST_RETRY_MILLIS == 200 && FIRST_RETRY_MILLIS == 50
+    LEAST_RETRY_MILLIS == 5
+        && MOST_RETRY_MILLIS == 200
+        && FIRST_RETRY_MILLIS == 50
+        && LEAST_PASSED == 3
 );
 
 /// The round trip of requests, as RFC 6298 has it: 8 times its smoothed length, and 4 times the
@@ -26,12 +33,15 @@ pub struct RoundTrip {
     is_measured: bool,
 }
 
-/// A request that was submitted, when, and whether it was sent again since.
+/// A request that was submitted: the how manieth of all cores, when, whether it was sent again
+/// since, and how many later ones were answered before that.
 #[derive(Clone, Copy, Debug)]
 struct OpenRequest {
     id: u64,
+    order: u64,
     since: u64,
     again: bool,
+    passed: u8,
 }
 
 /// The open requests of a core, and when they are sent again.
@@ -41,6 +51,7 @@ pub struct RetryTimer {
     open: Vec<OpenRequest>,
     wait: u64,
     due: u64,
+    is_passed: bool,
 }
 
 impl RoundTrip {
@@ -94,6 +105,7 @@ impl RetryTimer {
             open: Vec::new(alloc),
             wait: FIRST_RETRY_MILLIS,
             due: 0,
+            is_passed: false,
         }
     }
 
@@ -102,15 +114,17 @@ impl RetryTimer {
         self.due = now.saturating_add(self.wait);
     }
 
-    /// A request was submitted.
-    pub fn submitted(&mut self, id: u64, now: u64) -> Result<(), NoMemory> {
+    /// A request was submitted; `order` counts those of all cores, from 1 on.
+    pub fn submitted(&mut self, id: u64, order: u64, now: u64) -> Result<(), NoMemory> {
         if self.open.is_empty() {
             self.restart(now);
         }
         self.open.push(OpenRequest {
             id,
+            order,
             since: now,
             again: false,
+            passed: 0,
         })?;
         Ok(())
     }
@@ -120,27 +134,55 @@ impl RetryTimer {
         self.open.is_empty()
     }
 
-    /// A request was answered. Its round trip is measured where it was sent once: else it is not
-    /// known which one was answered.
-    pub fn accepted(&mut self, id: u64, now: u64) {
+    /// A request was answered: gives its order, or 0 where none with this id was open. Its round
+    /// trip is measured where it was sent once: else it is not known which one was answered.
+    pub fn accepted(&mut self, id: u64, now: u64) -> u64 {
+        let mut order = 0;
         for request in self.open.iter() {
-            if request.id == id && !request.again {
-                self.trip = self.trip.measured(now.saturating_sub(request.since));
+            if request.id == id {
+                order = request.order;
+                if !request.again {
+                    self.trip = self.trip.measured(now.saturating_sub(request.since));
+                }
             }
         }
         self.open.retain(|request| request.id != id);
         self.restart(now);
+        order
+    }
+
+    /// How many requests are open.
+    pub fn open(&self) -> usize {
+        self.open.len()
+    }
+
+    /// The request with this order, of any core, was answered; so many are open, of all cores.
+    pub fn passed(&mut self, order: u64, open: usize) {
+        let mut is_passed = false;
+        for request in self.open.iter_mut() {
+            if request.order < order && !request.again {
+                request.passed = request.passed.saturating_add(1);
+                let passed = request.passed;
+                is_passed = is_passed || (LEAST_PASSED <= passed && open <= usize::from(passed));
+            }
+        }
+        self.is_passed = self.is_passed || is_passed;
+    }
+
+    fn is_over(&self, now: u64) -> bool {
+        self.is_passed || self.due <= now
     }
 
     /// Whether the open requests are to be sent again now; then the time after which they are again
     /// is twice as long.
     pub fn is_due(&mut self, now: u64) -> bool {
-        if self.open.is_empty() || now < self.due {
+        if self.open.is_empty() || !self.is_over(now) {
             return false;
         }
         for request in self.open.iter_mut() {
             request.again = true;
         }
+        self.is_passed = false;
         self.wait = self.wait.saturating_mul(2).min(MOST_RETRY_MILLIS);
         self.due = now.saturating_add(self.wait);
         true

@@ -1,26 +1,30 @@
 //! The loop of a gateway.
 
-ghost use Rattle.std.specs.Prelude.{◌≡◌, ◌≤◌, ◌+◌, ◌^◌, length};
+ghost use Rattle.std.specs.Prelude.{◌≡◌, ◌≤◌, ◌+◌, ◌^◌, length, IfOk};
 ghost use Rattle.outside.specs.Causes.{CountsFor};
 ghost use Rattle.gate_core.specs.Gates.{opening};
 ghost use Rattle.gate.specs.Attaching.{HasRoom};
 ghost use Rattle.gate.specs.Carrying.{Runs};
-ghost use Rattle.gate.specs.Serving.{RunsOver, Serves};
+ghost use Rattle.gate.specs.Serving.{RunsOver, Serves, near_at, watch_at};
 ghost use Rattle.gate.specs.Sides.{lines_seen, seen, side, users_seen};
 ghost use Rattle.gate.specs.declared.errors.GateError.TheVariants as errors;
 
-use crate::attaching::{attach_all, detach_all};
+use crate::attaching::{Seats, attach_all, detach_all};
 use crate::errors::{GateError, port_fault};
 use crate::lines::{Line, Lines};
 use crate::readers::Readers;
 use crate::site::Site;
 use client_call::Service;
 use gate_core::GateState;
-use nop_types::NoMemory;
+use kv_host::KvHost;
+use near_observer::NearObserver;
+use nop_types::{Config, MAX_OBSERVERS, NoMemory};
 use outside::{Clock, Link, Ports};
+use roll_call::Roll;
 use std::alloc::Global;
 use std::collections::VecDeque;
 use users::Users;
+use watching::Watch;
 
 /// After so many turns in which nothing came a turn waits for users.
 const QUIET_TURNS: u32 = 2;
@@ -44,6 +48,43 @@ fn quiet_after(quiet: u32, some: bool) -> u32 {
     if some { 0 } else { quiet.saturating_add(1) }
 }
 
+/// A watch at the place of an observer, if there is one.
+fn watch_at(alloc: Global, config: Config, observer: Option<u8>) -> Result<Option<Watch>, NoMemory>
+    ensures { IfOk result (λ watch. watch ≡ watch_at observer config) }
+{
+    match observer {
+        Some(_) => Ok(Some(Watch::new(alloc, config, false, Roll::none(alloc))?)),
+        None => Ok(None),
+    }
+}
+
+/// An observer at that place, in this process.
+fn near_at(
+    alloc: Global,
+    config: Config,
+    observer: Option<u8>,
+) -> Result<Option<NearObserver<KvHost>>, NoMemory>
+    ensures { IfOk result (λ near. near ≡ near_at observer config) }
+{
+    match observer {
+        Some(number) if number < MAX_OBSERVERS => {
+            Ok(Some(NearObserver::new(alloc, config, number)?))
+        }
+        _ => Ok(None),
+    }
+}
+
+/// The core before its first turn.
+fn first_state(alloc: Global, config: Config, seats: Seats) -> Result<GateState, NoMemory>
+    requires { seats.first + seats.count ≤ 2 ^ 32 }
+    ensures { IfOk result (λ g. g ≡ opening config seats.first seats.count
+        (watch_at seats.observer config) (near_at seats.observer config)) }
+{
+    let watch = watch_at(alloc, config, seats.observer)?;
+    let near = near_at(alloc, config, seats.observer)?;
+    GateState::new(alloc, config, seats.first, seats.count, watch, near)
+}
+
 fn take_turns<L: Link, U: Users, C: Clock>(
     turns: u64,
     site: &mut Site<L>,
@@ -53,10 +94,12 @@ fn take_turns<L: Link, U: Users, C: Clock>(
     ensures { Runs result (side L.Link U.Users site.old users.old)
         (side L.Link U.Users site.new users.new) }
 {
+    let began = clock.now();
     let mut quiet: u32 = 0;
     for _ in 0..turns {
         let patience = patience_after(quiet);
-        match site.take_turn(clock.now(), patience, users) {
+        let now = clock.now().saturating_sub(began);
+        match site.take_turn(now, patience, users) {
             Ok(some) => quiet = quiet_after(quiet, some),
             Err(e) => return Err(e),
         }
@@ -68,6 +111,7 @@ fn take_turns<L: Link, U: Users, C: Clock>(
 fn serve_over<P: Ports, U: Users, C: Clock>(
     alloc: Global,
     state: GateState,
+    seats: Seats,
     turns: u64,
     lines: Vec<Line<P::L>>,
     ports: &mut P,
@@ -76,7 +120,8 @@ fn serve_over<P: Ports, U: Users, C: Clock>(
 ) -> Result<(), GateError>
     requires { HasRoom (P.attached ports.old) (P.detached ports.old) lines.items }
     ensures runs { RunsOver P.L.Link result
-        (seen state (users_seen U.Users users.old) (lines_seen P.L.Link lines.items))
+        (seen state (users_seen U.Users users.old)
+        (record { cores = seats.count; links = lines_seen P.L.Link lines.items }))
         (users_seen U.Users users.new) (P.detached ports.old) (P.detached ports.new) }
     ensures back { length (P.detached ports.new)
         ≡ length (P.detached ports.old) + length lines.items }
@@ -86,10 +131,16 @@ fn serve_over<P: Ports, U: Users, C: Clock>(
     let mut site = Site {
         alloc,
         state,
-        lines: Lines { lines },
+        lines: Lines {
+            lines,
+            cores: seats.count,
+            submitted: 0,
+        },
+        own: seats.observer,
         ready: VecDeque::new(alloc),
         readers: Readers::new(alloc),
         now: 0,
+        polled: 0,
         submitted: 0,
     };
     let served = take_turns(turns, &mut site, users, clock);
@@ -97,12 +148,18 @@ fn serve_over<P: Ports, U: Users, C: Clock>(
         alloc: _,
         state: _state,
         lines,
+        own: _,
         ready: _ready,
         readers: _readers,
         now: _,
+        polled: _,
         submitted: _,
     } = site;
-    let Lines { lines } = lines;
+    let Lines {
+        lines,
+        cores: _,
+        submitted: _,
+    } = lines;
     detach_all(ports, lines);
     served
 }
@@ -112,15 +169,14 @@ fn serve_from<P: Ports, U: Users, C: Clock>(
     alloc: Global,
     state: GateState,
     service: &Service,
-    first: u32,
-    count: usize,
+    seats: Seats,
     turns: u64,
     ports: &mut P,
     users: &mut U,
     clock: &mut C,
 ) -> Result<(), GateError>
-    requires { first + count ≤ 2 ^ 32 }
-    ensures serves { Serves P.L.Link state count
+    requires { seats.first + seats.count ≤ 2 ^ 32 }
+    ensures serves { Serves P.L.Link state seats.observer seats.count
         (P.to_come ports.old) result (users_seen U.Users users.old) (users_seen U.Users users.new)
         (P.detached ports.old) (P.detached ports.new) }
     ensures attaches { CountsFor (P.fault_count ports.old) (P.fault_count ports.new)
@@ -129,8 +185,8 @@ fn serve_from<P: Ports, U: Users, C: Clock>(
         ≡ P.attached ports.old + length (P.detached ports.new) }
 {
     let mut lines = Vec::new(alloc);
-    match attach_all(alloc, service, first, count, ports, &mut lines) {
-        Ok(()) => serve_over(alloc, state, turns, lines, ports, users, clock),
+    match attach_all(alloc, service, seats, ports, &mut lines) {
+        Ok(()) => serve_over(alloc, state, seats, turns, lines, ports, users, clock),
         Err(e) => {
             detach_all(ports, lines);
             Err(port_fault(e))
@@ -138,25 +194,26 @@ fn serve_from<P: Ports, U: Users, C: Clock>(
     }
 }
 
-/// Serves users for so many turns, as the clients with the numbers from `first` to `first + count -
-/// 1` of a service, none of which was used before. A turn in which nothing comes, and before which
-/// nothing came for a while, waits for a millisecond. At an error the gateway has ended: ops in
-/// flight may still be executed.
+/// Serves users for so many turns, as clients of a service whose numbers were not used before, and
+/// watches it, and reads, at the place of an observer, where it has one, which no observer may have.
+/// A turn in which nothing comes, and before which nothing came for a while, waits for a millisecond.
+/// At an error the gateway has ended: ops in flight may still be executed.
 pub fn serve<P: Ports, U: Users, C: Clock>(
     alloc: Global,
     service: &Service,
-    first: u32,
-    count: usize,
+    seats: Seats,
     turns: u64,
     ports: &mut P,
     users: &mut U,
     clock: &mut C,
 ) -> Result<(), GateError>
-    requires { first + count ≤ 2 ^ 32 }
+    requires { seats.first + seats.count ≤ 2 ^ 32 }
 
     // What came from users and over the links, and what was done for users, is a run of the core
     // over some events, in order; at an error its first part, and the cause.
-    ensures serves { Serves P.L.Link (opening service.now.config first count) count
+    ensures serves { Serves P.L.Link (opening service.now.config seats.first seats.count
+        (watch_at seats.observer service.now.config) (near_at seats.observer service.now.config))
+        seats.observer seats.count
         (P.to_come ports.old) result (users_seen U.Users users.old) (users_seen U.Users users.new)
         (P.detached ports.old) (P.detached ports.new) }
     ensures attaches { CountsFor (P.fault_count ports.old) (P.fault_count ports.new)
@@ -164,10 +221,8 @@ pub fn serve<P: Ports, U: Users, C: Clock>(
     ensures back { P.attached ports.new + length (P.detached ports.old)
         ≡ P.attached ports.old + length (P.detached ports.new) }
 {
-    match GateState::new(alloc, service.config, first, count) {
-        Ok(state) => serve_from(
-            alloc, state, service, first, count, turns, ports, users, clock,
-        ),
+    match first_state(alloc, service.config, seats) {
+        Ok(state) => serve_from(alloc, state, service, seats, turns, ports, users, clock),
         Err(NoMemory) => Err(GateError::NoMemory),
     }
 }

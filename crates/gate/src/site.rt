@@ -15,15 +15,19 @@ use std::alloc::Global;
 use std::collections::VecDeque;
 use users::Users;
 
-/// The core, its links, the users of whom a request may be read and those whose reads wait for a
-/// core, the time of the turn, and when something was submitted last.
+/// The core, its links, the observer at whose place its watch is, if it has one, the users of whom
+/// a request may be read and those whose reads wait for a core, the time of the turn since the
+/// gateway began, the place of the link that is polled in it in any case, and when something was
+/// submitted last.
 pub(crate) struct Site<L> {
     pub(crate) alloc: Global,
     pub(crate) state: GateState,
     pub(crate) lines: Lines<L>,
+    pub(crate) own: Option<u8>,
     pub(crate) ready: VecDeque<u64>,
     pub(crate) readers: Readers,
     pub(crate) now: u64,
+    pub(crate) polled: usize,
     pub(crate) submitted: u64,
 }
 
@@ -45,15 +49,18 @@ impl<L: Link> Site<L> {
         self.readers.push(user, again, self.now)
     }
 
-    /// The next datagram that came to the core at a place.
-    pub(crate) fn poll(&mut self, core: usize) -> Result<Option<Bytes>, GateError>
-        ensures { (users : UsersSeen) → Asks (datagram_of core) result
+    /// The next datagram that came over the link at a place.
+    pub(crate) fn poll(&mut self, place: usize) -> Result<Option<Bytes>, GateError>
+        ensures asks { (users : UsersSeen)
+            → Asks (datagram_of self.old.lines.cores self.old.now place) result
             (side_with L.Link self.old users) (side_with L.Link self.new users) }
+        ensures cores { self.new.lines.cores ≡ self.old.lines.cores }
+        ensures now { self.new.now ≡ self.old.now }
     {
-        if core >= self.lines.lines.len() {
+        if place >= self.lines.lines.len() {
             return Ok(None);
         }
-        let line = &mut self.lines.lines[core];
+        let line = &mut self.lines.lines[place];
         match line.poll() {
             Ok(datagram) => Ok(datagram),
             Err(e) => Err(link_fault(e)),

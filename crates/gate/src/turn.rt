@@ -1,10 +1,11 @@
 //! A turn of a gateway.
 
-ghost use Rattle.std.specs.Prelude.{◌≡◌, ◌∷◌, [], List};
+ghost use Rattle.std.specs.Prelude.{◌≡◌, ◌==◌, ◌∷◌, []};
 ghost use Rattle.gate_core.specs.declared.act.Event.TheVariants as events;
 ghost use Rattle.gate_core.specs.declared.gate_state.GateState.{GateState};
-ghost use Rattle.gate.specs.Carrying.{datagram_of, event_of, Asks, IsInside, Runs, Took};
-ghost use Rattle.gate.specs.Sides.{seen, side, users_seen, LinkSeen, Side};
+ghost use Rattle.gate.specs.Carrying.{datagram_of, event_of, event_with};
+ghost use Rattle.gate.specs.Carrying.{Asks, IsInside, Runs, Took};
+ghost use Rattle.gate.specs.Sides.{seen, side, users_seen, LinksSeen, Side};
 
 use crate::errors::{GateError, users_fault};
 use crate::site::Site;
@@ -30,7 +31,7 @@ const _: () = prove!(
 
 /// The next event of a user, if one comes while it is waited for.
 fn next_event<U: Users>(users: &mut U, patience: u32) -> Result<Option<UserEvent>, GateError>
-    ensures { (state : GateState) (links : List LinkSeen) → Asks event_of result
+    ensures { (state : GateState) (links : LinksSeen) → Asks event_of result
         (seen state (users_seen U.Users users.old) links)
         (seen state (users_seen U.Users users.new) links) }
 {
@@ -40,12 +41,32 @@ fn next_event<U: Users>(users: &mut U, patience: u32) -> Result<Option<UserEvent
     }
 }
 
-/// The observer that a core asks: each core has one, those of all cores are spread over all.
-fn observer_of(core: usize, observers: u8) -> u8 {
+/// The event of a datagram that came over the link at a place. The one behind the cores is the
+/// watch's.
+fn event_with(cores: usize, now: u64, place: usize, bytes: Bytes) -> Event
+    ensures { result ≡ event_with (place == cores) now place bytes }
+{
+    if place == cores {
+        Event::Watch {
+            now,
+            datagram: Some(bytes),
+        }
+    } else {
+        Event::Datagram { core: place, bytes }
+    }
+}
+
+/// The observer that a core asks: each core has one, those of all cores are spread over all but the
+/// place that is the gateway's own.
+fn observer_of(core: usize, observers: u8, own: Option<u8>) -> u8 {
     if observers == 0 {
         return 0;
     }
-    u8::try_from(core % usize::from(observers)).unwrap_or(0)
+    let other = u8::try_from(core % usize::from(observers)).unwrap_or(0);
+    match own {
+        Some(own) if own <= other => other.saturating_add(1),
+        _ => other,
+    }
 }
 
 impl<L: Link> Site<L> {
@@ -81,7 +102,7 @@ impl<L: Link> Site<L> {
         ensures { Runs result (side L.Link U.Users self.old users.old)
             (side L.Link U.Users self.new users.new) }
     {
-        for core in 0..self.lines.lines.len() {
+        for core in 0..self.lines.cores {
             if let Err(e) = self.retry(core, users) {
                 return Err(e);
             }
@@ -121,7 +142,7 @@ impl<L: Link> Site<L> {
         match self.next_reader(core) {
             None => Ok(false),
             Some(user) => {
-                let observer = observer_of(core, self.state.observers);
+                let observer = observer_of(core, self.state.observers, self.own);
                 self.take_step(
                     Event::Ask {
                         core,
@@ -150,7 +171,7 @@ impl<L: Link> Site<L> {
         ensures { Runs result (side L.Link U.Users self.old users.old)
             (side L.Link U.Users self.new users.new) }
     {
-        for core in 0..self.lines.lines.len() {
+        for core in 0..self.lines.cores {
             if let Err(e) = self.read_at(core, users) {
                 return Err(e);
             }
@@ -161,39 +182,53 @@ impl<L: Link> Site<L> {
     /// The step of a datagram, if one came. Whether one did.
     fn take_polled<U: Users>(
         &mut self,
-        core: usize,
+        place: usize,
         datagram: Option<Bytes>,
         users: &mut U,
     ) -> Result<bool, GateError>
-        ensures { (before : Side) → Took (datagram_of core datagram) before
+        ensures { (before : Side)
+            → Took (datagram_of self.old.lines.cores self.old.now place datagram) before
             (side L.Link U.Users self.old users.old)
             → Runs result before (side L.Link U.Users self.new users.new) }
     {
         match datagram {
             None => Ok(false),
-            Some(bytes) => self.take_step(Event::Datagram { core, bytes }, users),
+            Some(bytes) => {
+                let event = event_with(self.lines.cores, self.now, place, bytes);
+                self.take_step(event, users)
+            }
         }
     }
 
-    /// A datagram that came to a core, if one did, and its step. Whether there was one.
-    fn take_datagram<U: Users>(&mut self, core: usize, users: &mut U) -> Result<bool, GateError>
+    /// A datagram that came over the link at a place, if one did, and its step. Whether there was
+    /// one.
+    fn take_datagram<U: Users>(&mut self, place: usize, users: &mut U) -> Result<bool, GateError>
         ensures { Runs result (side L.Link U.Users self.old users.old)
             (side L.Link U.Users self.new users.new) }
     {
-        match self.poll(core) {
-            Ok(datagram) => self.take_polled(core, datagram, users),
+        match self.poll(place) {
+            Ok(datagram) => self.take_polled(place, datagram, users),
             Err(e) => Err(e),
         }
     }
 
-    /// The datagrams that came to a core. Whether there was one.
-    fn take_datagrams<U: Users>(&mut self, core: usize, users: &mut U) -> Result<bool, GateError>
+    /// Whether the link at a place is polled in this turn: its core waits for an answer, or it is
+    /// that of the watch, behind the cores; or it is the turn of this link.
+    fn is_polled(&self, place: usize) -> bool {
+        place == self.polled || place == self.lines.cores || self.lines.is_waiting(place)
+    }
+
+    /// The datagrams that came over the link at a place. Whether there was one.
+    fn take_datagrams<U: Users>(&mut self, place: usize, users: &mut U) -> Result<bool, GateError>
         ensures { Runs result (side L.Link U.Users self.old users.old)
             (side L.Link U.Users self.new users.new) }
     {
         let mut some = false;
         for _ in 0..MOST_DATAGRAMS {
-            match self.take_datagram(core, users) {
+            if !self.is_polled(place) {
+                return Ok(some);
+            }
+            match self.take_datagram(place, users) {
                 Ok(here) => {
                     if !here {
                         return Ok(some);
@@ -211,8 +246,8 @@ impl<L: Link> Site<L> {
             (side L.Link U.Users self.new users.new) }
     {
         let mut some = false;
-        for core in 0..self.lines.lines.len() {
-            match self.take_datagrams(core, users) {
+        for place in 0..self.lines.lines.len() {
+            match self.take_datagrams(place, users) {
                 Ok(here) => some = some || here,
                 Err(e) => return Err(e),
             }
@@ -410,6 +445,39 @@ impl<L: Link> Site<L> {
         }
     }
 
+    /// The link behind that which was polled last in any case.
+    fn next_polled(&self) -> usize {
+        let next = self.polled.saturating_add(1);
+        if next < self.lines.lines.len() {
+            next
+        } else {
+            0
+        }
+    }
+
+    /// It is so late for the watch, if there is one.
+    fn tick<U: Users>(&mut self, users: &mut U) -> Result<bool, GateError>
+        ensures { Runs result (side L.Link U.Users self.old users.old)
+            (side L.Link U.Users self.new users.new) }
+    {
+        let due = self.state.watch.is_some();
+        let event = Event::Watch {
+            now: self.now,
+            datagram: None,
+        };
+        self.step_if(due, event, users)
+    }
+
+    fn tick_and_take<U: Users>(&mut self, patience: u32, users: &mut U) -> Result<bool, GateError>
+        ensures { Runs result (side L.Link U.Users self.old users.old)
+            (side L.Link U.Users self.new users.new) }
+    {
+        match self.tick(users) {
+            Ok(_) => self.read_and_take(patience, users),
+            Err(e) => Err(e),
+        }
+    }
+
     /// A turn at a time. Whether something came in it.
     pub(crate) fn take_turn<U: Users>(
         &mut self,
@@ -421,8 +489,9 @@ impl<L: Link> Site<L> {
             (side L.Link U.Users self.new users.new) }
     {
         self.now = now;
+        self.polled = self.next_polled();
         match self.retry_due(users) {
-            Ok(()) => self.read_and_take(patience, users),
+            Ok(()) => self.tick_and_take(patience, users),
             Err(e) => Err(e),
         }
     }

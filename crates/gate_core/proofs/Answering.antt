@@ -17,7 +17,7 @@ use Rattle.gate_core.specs.declared.session.UnderWay.{UnderWay}
 use Rattle.kv_resp.specs.declared.demand.Form.TheVariants.{Value}
 use Rattle.kv_resp.specs.Results.{reply_to}
 use Rattle.gate_core.specs.Gates.{answer, answer_owner, answer_user, answered, answered_if, awaits, begin_read, begin_user, begun, end_read, form_reply, fresh_if, is_new, read_answer_if, read_answered, read_user, reads_by, session_of, slot_in, tell, tell_all, tell_out, with_session, without_owner, without_reader}
-use Rattle.gate_core.specs.Runs.{Heard, IsAsked, IsResult, Taken, replies_to, reply_if, reply_in}
+use Rattle.gate_core.specs.Runs.{Heard, ByDesk, IsAsked, IsResult, Taken, replies_to, reply_if, reply_in}
 use Rattle.gate_core.proofs.Entries.{put_elsewhere, put_here}
 use Rattle.gate_core.proofs.Serving.{Fits, IsAnswer, IsInside, IsServing, serving_answered, serving_begun, serving_read}
 
@@ -30,6 +30,12 @@ replies_append user (x ∷ xs) ys =
 -- a reply to another user is none to this one
 pub other_reply : (user other : ℕ) (bytes : List ℕ) → (user ≡ other → ⊥) → replies_to user (Reply other bytes ∷ []) ≡ []
 other_reply user other bytes d = ap (λ (b : Bool). reply_if b bytes ++ []) (ne_eqb other user (λ e. d (sym e)))
+
+-- nor is one to a read of another user
+pub other_fresh : (user other position : ℕ) (s : Session) (result : List ℕ) (b : Bool) → (user ≡ other → ⊥)
+    → replies_to user (fresh_if b other position s result).1 ≡ []
+other_fresh user other position s result true d = other_reply user other (reply_to Value result) d
+other_fresh user other position s result false d = refl
 
 module _ (ops : List Taken) (told : List Heard) (user : ℕ) (bytes : List ℕ) where
   -- nothing that matters to the user changed
@@ -123,12 +129,8 @@ module _ (ops : List Taken) (told : List Heard) (user : ℕ) (bytes : List ℕ) 
     ]
 
   module _ (way : UnderWay) (position : ℕ) (result : List ℕ) (is : IsAnswer told way position result) (replies : List (List ℕ)) where
-    fresh_others : (other : ℕ) (s : Session) (b : Bool) → (user ≡ other → ⊥) → replies_to user (fresh_if b other position s result).1 ≡ []
-    fresh_others other s true d = other_reply user other (reply_to Value result) d
-    fresh_others other s false d = refl
-
     read_others : (other : ℕ) (s : Session) (b : Bool) → (user ≡ other → ⊥) → replies_to user (read_answer_if b other position s result).1 ≡ []
-    read_others other s true d = fresh_others other s (nat_le s.seen position) d
+    read_others other s true d = other_fresh user other position s result (nat_le s.seen position) d
     read_others other s false d = refl
 
     end_own : (o : Option Session) (g : GateState) → session_of g user ≡ o → IsInside ops told user bytes replies g
@@ -162,7 +164,7 @@ module _ (ops : List Taken) (told : List Heard) (user : ℕ) (bytes : List ℕ) 
 
   module _ (came : List ℕ) where
     tell_out_keeps : (core : ℕ) (ticket : Option ℕ) (out : Out) (g : GateState) (replies : List (List ℕ))
-        → Has told (record { told = record { core = core; ticket = ticket; out = out }; slot = slot_in came; sent = length bytes })
+        → Has told (ByDesk (record { core = core; ticket = ticket; out = out }) (slot_in came) (length bytes))
         → IsInside ops told user bytes replies g → Answers replies (tell_out came core ticket out g)
     tell_out_keeps core ticket (outs.Send dest sent) g replies has h = inside_quiet replies [] g refl h
     tell_out_keeps core ticket (outs.Submitted request) g replies has h = inside_quiet replies [] g refl h
@@ -181,7 +183,7 @@ module _ (ops : List Taken) (told : List Heard) (user : ℕ) (bytes : List ℕ) 
     tell_out_keeps core ticket _ g replies has h = inside_quiet replies [] g refl h
 
     pub tell_all_keeps : (ls : List Labelled) (g : GateState) (replies : List (List ℕ))
-        → ((l : Labelled) → Has ls l → Has told (record { told = l; slot = slot_in came; sent = length bytes })) → IsInside ops told user bytes replies g
+        → ((l : Labelled) → Has ls l → Has told (ByDesk l (slot_in came) (length bytes))) → IsInside ops told user bytes replies g
         → Answers replies (tell_all came ls g)
     tell_all_keeps [] g replies has h = inside_quiet replies [] g refl h
     tell_all_keeps (l ∷ ls) g replies has h =

@@ -24,12 +24,13 @@ use Rattle.gate_core.specs.declared.act.Act.TheVariants.{Accepted, Answered, Rea
 use Rattle.gate_core.specs.declared.act.Event.{Event}
 use Rattle.gate_core.specs.declared.act.Event.TheVariants as events
 use Rattle.gate_core.specs.declared.gate_state.GateState.{GateState}
+use Rattle.gate_core.specs.declared.near.NearAnswer.{NearAnswer}
 use Rattle.gate_core.specs.declared.session.InFlight.{InFlight}
 use Rattle.gate_core.specs.declared.session.InFlight.TheVariants as flight
 use Rattle.gate_core.specs.declared.session.UnderWay.{UnderWay}
 use Rattle.gate_core.specs.declared.session.Session.{Session}
 use Rattle.gate_core.specs.declared.limits.TheConstants.{MAX_USERS, MAX_WAITING_BYTES}
-use Rattle.gate_core.specs.Gates.{admitted, answer_owner, answer_user, answered_if, ask_for, ask_free, awaits, busy, came_of, comes, demanded, end_read, ended, executed, fresh, fresh_if, idle_op, is_new, key_to_ask, left_by, left_of, next, no_observers, no_request, quiet, read_answer_if, read_as, read_asked, read_user, reads_at, reads_by, reassign_reader, reassign_user, read_of, read_session, replied, sent_to, session_of, slot_in, take, taken_if, tell, tell_all, tell_out, too_many, too_much, with_desk, unread, with_owner, with_reader, with_session, without_owner, without_reader, without_session}
+use Rattle.gate_core.specs.Gates.{admitted, answer_owner, answer_user, answered_if, ask_for, ask_free, ask_with, awaits, busy, came_of, comes, demanded, end_read, ended, executed, fresh, fresh_if, idle_op, is_new, key_to_ask, left_by, left_of, looked, near_replied, near_user, next, no_observers, no_request, quiet, read_answer_if, read_as, read_asked, read_from, read_user, reads_at, reads_by, reassign_reader, reassign_user, read_of, read_session, replied, sent_to, session_of, slot_in, take, taken_if, tell, tell_all, tell_out, too_many, too_much, with_desk, unread, with_owner, with_reader, with_session, without_owner, without_reader, without_session, info}
 use Rattle.gate_core.specs.Runs.{after, gave, replies_to}
 use Rattle.gate_core.proofs.Answering.{replies_append}
 use Rattle.gate_core.proofs.Entries.{gone_here}
@@ -177,10 +178,18 @@ module _ (user : ℕ) where
   read_at_closes g other s key true = waits_closes g other (record s { asked = Some (flight.Read (record { key = key; under_way = None })) })
   read_at_closes g other s key false = reply_closes g other s no_observers
 
+  near_closes : (a : NearAnswer) (g : GateState) (other : ℕ) (s : Session) → Closes (near_replied a g other s)
+  near_closes a g other s = never (near_replied a g other s) (fresh_closes other a.position s a.result (nat_le s.seen a.position))
+
+  read_from_closes : (o : Option NearAnswer) (g : GateState) (other : ℕ) (s : Session) (key : List ℕ) → Closes (read_from o g other s key)
+  read_from_closes None g other s key = read_at_closes g other s key (nat_lt 0 g.observers)
+  read_from_closes (Some a) g other s key = near_closes a g other (record s { asked = Some (flight.Read (record { key = key; under_way = None })) })
+
   demand_closes : (g : GateState) (other : ℕ) (s : Session) (action : Action) → (user ≡ other → is_new g user ≡ false)
       → Closes (demanded g other s action)
   demand_closes g other s (table.Execute op form) old = op_closes g other s op form (has_room g.desk.state)
-  demand_closes g other s (table.ReadAt key) old = read_at_closes g other s key (nat_lt 0 g.observers)
+  demand_closes g other s (table.ReadAt key) old = read_from_closes (looked g.near key) g other s key
+  demand_closes g other s table.Info old = reply_closes g other s (info g.watch)
   demand_closes g other s (table.Answer bytes) old = reply_closes g other s bytes
   demand_closes g other s (table.End bytes) old = ended_closes g other bytes old
 
@@ -247,11 +256,20 @@ module _ (user : ℕ) where
   ask_closes g true = never (take g None idle_op) (take_closes g None idle_op)
   ask_closes g false = never (quiet g) none_closes
 
-  key_closes : (g : GateState) (key : Option (List ℕ)) (core observer other : ℕ) → Closes (ask_for key g core observer other)
-  key_closes g None core observer other = never (quiet g) none_closes
-  key_closes g (Some key) core observer other =
+  near_user_closes : (o : Option Session) (a : NearAnswer) (g : GateState) (other : ℕ) → Closes (near_user o a g other)
+  near_user_closes None a g other = never (quiet g) none_closes
+  near_user_closes (Some s) a g other = near_closes a g other s
+
+  ask_with_closes : (o : Option NearAnswer) (key : List ℕ) (g : GateState) (core observer other : ℕ)
+      → Closes (ask_with o key g core observer other)
+  ask_with_closes None key g core observer other =
       let x = given.Read observer key in
       never (comes (with_reader g core other) core x) (comes_closes (with_reader g core other) core x)
+  ask_with_closes (Some a) key g core observer other = near_user_closes (session_of g other) a g other
+
+  key_closes : (g : GateState) (key : Option (List ℕ)) (core observer other : ℕ) → Closes (ask_for key g core observer other)
+  key_closes g None core observer other = never (quiet g) none_closes
+  key_closes g (Some key) core observer other = ask_with_closes (looked g.near key) key g core observer other
 
   ask_read_closes : (g : GateState) (o : Option ℕ) (core observer other : ℕ) → Closes (ask_free o g core observer other)
   ask_read_closes g None core observer other = key_closes g (key_to_ask (session_of g other)) core observer other
@@ -278,6 +296,7 @@ module _ (user : ℕ) where
   row_closes g h (events.Read other) = read_closes g h other (session_of g other) refl
   row_closes g h (events.Ask core observer other) = ask_read_closes g (finite.get g.readers core) core observer other
   row_closes g h (events.Reassign core) = reassign_closes g core (finite.get g.readers core)
+  row_closes g h (events.Watch now datagram) = never (next g (events.Watch now datagram)) none_closes
   row_closes g h events.Idle = ask_closes g (has_room g.desk.state)
 
   pub closed_after : (es : List Event) (g : GateState) → IsAbsent user g → Has (gave g es) (Close user) → IsGone (after g es)

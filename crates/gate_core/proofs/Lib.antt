@@ -8,3 +8,4 @@ pub mod Served
 pub mod Serving
 pub mod Silence
 pub mod Taking
+pub mod WatchTurns

@@ -6,6 +6,7 @@ use Rattle.std.specs.FinMap as finite
 use Rattle.std.proofs.lemmas.Bool.{eq-eqb, ne_eqb, cases_eq, cases_lt, le-leb, leb-true, lt-leb, and_cases, and_left, and_parts, and_right}
 use Rattle.nop_types.specs.Given as given
 use Rattle.nop_types.specs.Given.{Given, Packet, Ticked}
+use Rattle.nop_types.specs.Machine.{Machine}
 use Rattle.nop_types.specs.declared.input.Tick.TheVariants as ticks
 use Rattle.nop_types.specs.Lists.{Has}
 use Rattle.lemmas.proofs.Members.{Has-append_left, Has-append_right, Has-cases, Has-first, Has-none, Has-rest}
@@ -22,21 +23,24 @@ use Rattle.desk.specs.Desks.{has_room, Take, Leave, Comes}
 use Rattle.desk.specs.Runs as runs
 use Rattle.desk.specs.declared.desk_state.DeskState.{DeskState}
 use Rattle.desk.specs.declared.submitter.Labelled.{Labelled}
+use Rattle.observer.specs.ObserverSteps.{Observer}
+use Rattle.watching.specs.Turns.{Turn}
 use Rattle.users.specs.declared.event.UserEvent.TheVariants as users
 use Rattle.gate_core.specs.declared.act.Act.{Act}
 use Rattle.gate_core.specs.declared.act.Act.TheVariants.{Reply, Close, Waits}
 use Rattle.gate_core.specs.declared.act.Event.{Event}
 use Rattle.gate_core.specs.declared.act.Event.TheVariants as events
 use Rattle.gate_core.specs.declared.gate_state.GateState.{GateState}
+use Rattle.gate_core.specs.declared.near.NearAnswer.{NearAnswer}
 use Rattle.gate_core.specs.declared.session.InFlight.{InFlight}
 use Rattle.gate_core.specs.declared.session.InFlight.TheVariants as flight
 use Rattle.gate_core.specs.declared.session.Session.{Session}
 use Rattle.gate_core.specs.declared.limits.TheConstants.{MAX_USERS, MAX_WAITING_BYTES}
-use Rattle.gate_core.specs.Gates.{admitted, ask_for, ask_free, ask_read, busy, came_of, fresh, comes, demanded, ended, executed, idle_op, is_new, key_to_ask, left_by, left_of, next, no_observers, no_request, opened, quiet, read_as, read_asked, reads_at, reassign, reassign_reader, reassign_user, read_of, read_session, replied, sent_to, session_of, slot_in, take, taken_if, too_many, too_much, unread, with_desk, with_owner, with_reader, with_session, without_session}
-use Rattle.gate_core.specs.Runs.{AreReplied, Exchange, Heard, IsEnd, IsReplied, IsServed, Taken, Told, Takes, Inputs, Nothing, bytes_if, bytes_in, heard_by, hears, leave_if, replies_of, replies_to, requests_of, takes, takes_if, told_by_ask, told_by_demand, told_by_key, told_by_left, told_by_read, told_by_sent, told_by_session, told_in, told_leave}
+use Rattle.gate_core.specs.Gates.{admitted, ask_for, ask_free, ask_read, ask_with, busy, came_of, fresh, comes, demanded, ended, executed, idle_op, info, is_new, key_to_ask, left_by, left_of, looked, near_answer, near_read, near_replied, near_user, next, no_observers, no_request, opened, quiet, read_as, read_asked, read_from, reads_at, reassign, reassign_reader, reassign_user, read_of, read_session, replied, sent_to, session_of, slot_in, take, taken_if, too_many, too_much, unread, with_desk, with_owner, with_reader, with_session, without_session, with_turn}
+use Rattle.gate_core.specs.Runs.{AreReplied, ByDesk, Exchange, Heard, Looks, OfNear, OfWatch, Shows, looked_if, looks, IsEnd, IsReplied, IsServed, Taken, Told, Takes, Inputs, Nothing, bytes_if, bytes_in, heard_by, hears, leave_if, replies_of, replies_to, requests_of, takes, takes_if, told_by_ask, told_by_demand, told_by_key, told_by_left, told_by_read, told_by_sent, told_by_session, told_in, told_leave, told_with, shown_if}
 use Rattle.gate_core.proofs.Entries.{gone_elsewhere, gone_here, put_elsewhere, put_here}
-use Rattle.gate_core.proofs.Serving.{Fits, ends_of, greatest, max_none, serving_unread, IsInside, IsServing, Rests, each_more, fits_more, own_reply, served_bytes, served_end, served_more, served_push, serving_bytes, serving_more, serving_push}
-use Rattle.gate_core.proofs.Answering.{inside_quiet, inside_same, other_reply, tell_all_keeps}
+use Rattle.gate_core.proofs.Serving.{Fits, end_by, ends_of, greatest, max_none, serving_unread, serving_near, IsInside, IsServing, Rests, each_more, fits_more, own_reply, served_bytes, served_end, served_more, served_push, serving_bytes, serving_more, serving_push}
+use Rattle.gate_core.proofs.Answering.{inside_quiet, inside_same, other_fresh, other_reply, tell_all_keeps}
 
 has_map : {A B : Type 0} (f : A → B) (xs : List A) (x : A) → Has xs x → Has (map f xs) (f x)
 has_map f [] x h = absurd (Has-none x h)
@@ -45,11 +49,11 @@ has_map f (y ∷ ys) x h = elim (Has-cases x y ys h) [
   | inr k ↦ Has-rest (f x) (f y) (map f ys) (has_map f ys x k)
 ]
 
--- what the desk tells in a step
-abbrev pub tells : (sent : ℕ) → GateState → Told → List Heard
-tells sent g t = heard_by g.desk.state t sent
-
 module _ (user : ℕ) where
+  -- what is heard in a step
+  abbrev pub tells : (sent : ℕ) → GateState → Told → List Heard
+  tells sent g t = heard_by user g t sent
+
   abbrev pub Keeps : (ops : List Taken) (told : List Heard) (bytes : List ℕ) (replies : List (List ℕ)) → (GateState × List Act) → Type 0
   Keeps ops told bytes replies p = IsInside ops told user bytes (replies ++ replies_to user p.1) p.0
 
@@ -57,11 +61,11 @@ module _ (user : ℕ) where
 
   module _ (ops : List Taken) (told : List Heard) (bytes : List ℕ) (replies : List (List ℕ)) where
     told_now : (slot : ℕ) (d : DeskState) (e : desks.Event) (l : Labelled) → Has (desks.next d e).1 l
-        → Has (told ++ hears slot (length bytes) (runs.gave d (e ∷ []))) (record { told = l; slot = slot; sent = length bytes })
+        → Has (told ++ hears slot (length bytes) (runs.gave d (e ∷ []))) (ByDesk l slot (length bytes))
     told_now slot d e l h =
         let k : Has (runs.gave d (e ∷ [])) l = Has-append_left (desks.next d e).1 [] l h in
-        Has-append_right told (hears slot (length bytes) (runs.gave d (e ∷ []))) (record { told = l; slot = slot; sent = length bytes })
-        (has_map (λ (m : Labelled). record { told = m; slot = slot; sent = length bytes }) (runs.gave d (e ∷ [])) l k)
+        Has-append_right told (hears slot (length bytes) (runs.gave d (e ∷ []))) (ByDesk l slot (length bytes))
+        (has_map (λ (m : Labelled). ByDesk m slot (length bytes)) (runs.gave d (e ∷ [])) l k)
 
     -- an input of a core
     pub comes_keeps : (g : GateState) (core : ℕ) (x : Given) → IsInside ops (told ++ tells (length bytes) g (Inputs core x)) user bytes replies g
@@ -81,6 +85,13 @@ module _ (user : ℕ) where
         tell_all_keeps ops now user bytes [] (desks.next g.desk.state (Take t.op)).1 (with_owner (with_desk g d) g.desk.state.taken owner) replies
         (told_now (slot_in []) g.desk.state (Take t.op))
         (inside_same ops now user bytes replies g (with_owner (with_desk g d) g.desk.state.taken owner) refl refl h)
+
+  -- the near observer is looked at for the user
+  looked_now : (told : List Heard) (near : Machine Observer) (sent : ℕ) → Has (told ++ looked_if (user == user) near sent) (OfNear near sent)
+  looked_now told near sent =
+      Has-append_right told (looked_if (user == user) near sent) (OfNear near sent)
+      (subst (λ (b : Bool). Has (looked_if b near sent) (OfNear near sent)) (sym (eq-eqb user user refl))
+      (Has-first (OfNear near sent) (OfNear near sent) [] refl))
 
   -- ---- one that leaves, or is ended
 
@@ -176,18 +187,21 @@ module _ (user : ℕ) where
       rests = record { arguments = arguments; op = op; asks = asks; taken = taken; bytes_are = bytes_are };
     })
 
-    -- its read waits for a core
+    -- its read is in flight
+    read_serving : (key : List ℕ) → asked arguments ≡ table.ReadAt key → IsServing ops told user bytes replies (read_session_of seen rest key)
+    read_serving key asks = record {
+      exchanges = xs;
+      each = each;
+      replies_are = replies_are;
+      seen = seen_is;
+      rests = record { arguments = arguments; asks = asks; way = tt; bytes_are = bytes_are };
+    }
+
+    -- it waits for a core
     at_read : (key : List ℕ) → asked arguments ≡ table.ReadAt key → Keeps ops told bytes replies (read_asked g user (idle seen rest) key)
     at_read key asks =
         let s : Session = read_session_of seen rest key in
-        inside_quiet ops told user bytes replies [] (with_session g user s) refl
-        (here ops told bytes replies g s known (record {
-          exchanges = xs;
-          each = each;
-          replies_are = replies_are;
-          seen = seen_is;
-          rests = record { arguments = arguments; asks = asks; way = tt; bytes_are = bytes_are };
-        }))
+        inside_quiet ops told user bytes replies [] (with_session g user s) refl (here ops told bytes replies g s known (read_serving key asks))
 
   module _ (ops : List Taken) (told : List Heard) (bytes : List ℕ) (replies : List (List ℕ)) (g : GateState) (known : is_new g user ≡ false)
       (counts : g.desk.state.taken ≡ length ops)
@@ -230,9 +244,41 @@ module _ (user : ℕ) where
         at_read (ops ++ []) (told ++ []) bytes replies g known xs arguments rest seen (each_then Nothing) seen_is bytes_are replies_are key asks
     read_at_keeps key asks false = replies_now no_observers (told_reply (table.ReadAt key) no_observers asks (inl refl))
 
-    demand_keeps : (action : Action) → asked arguments ≡ action → Done (told_by_demand g user action) (demanded g user (idle seen rest) action)
+    from_keeps : (near : Option (Machine Observer)) (key : List ℕ) → asked arguments ≡ table.ReadAt key
+        → Done (looks near user) (read_from (looked near key) g user (idle seen rest) key)
+    from_keeps None key asks = read_at_keeps key asks (nat_lt 0 g.observers)
+    from_keeps (Some o) key asks =
+        let t = Looks user o in
+        let now = told ++ tells (length bytes) g t in
+        let s : Session = read_session_of seen rest key in
+        let a : NearAnswer = near_answer o key in
+        here (ops ++ []) now bytes (replies ++ replies_to user (near_read a user s).1) g (near_read a user s).0 known
+        (serving_near (ops ++ []) now user o key bytes (looked_now told o (length bytes)) replies s (nat_le s.seen a.position) refl refl
+        (read_serving (ops ++ []) now bytes replies g known xs arguments rest seen (each_then t) seen_is bytes_are replies_are key asks))
+
+    -- what the watch shows now
+    is_shown : Has (told ++ tells (length bytes) g (Shows user (length rest))) (OfWatch (ends_of 0 xs + length (spelled arguments)) g.watch)
+    is_shown =
+        let end = length bytes - length rest in
+        let e : OfWatch (ends_of 0 xs + length (spelled arguments)) g.watch ≡ OfWatch end g.watch =
+        ap (λ (n : ℕ). OfWatch n g.watch) (sym (end_by xs arguments bytes rest bytes_are)) in
+        Has-append_right told (shown_if (user == user) end g.watch) _
+        (subst (λ (b : Bool). Has (shown_if b end g.watch) (OfWatch (ends_of 0 xs + length (spelled arguments)) g.watch)) (sym (eq-eqb user user refl))
+        (Has-first (OfWatch (ends_of 0 xs + length (spelled arguments)) g.watch) (OfWatch end g.watch) [] e))
+
+    info_keeps : asked arguments ≡ table.Info → Done (Shows user (length rest)) (replied g user (idle seen rest) (info g.watch))
+    info_keeps is =
+        let t = Shows user (length rest) in
+        let now = told ++ tells (length bytes) g t in
+        at_once (ops ++ []) now bytes replies g known xs arguments rest seen (each_then t) seen_is bytes_are replies_are (info g.watch)
+        (subst (λ (c : Action). IsReplied (ops ++ []) now user (greatest 0 xs) (ends_of 0 xs + length (spelled arguments)) c None 0 (info g.watch))
+        (sym is) (record { watch = g.watch; shown = is_shown; replied = refl }))
+
+    demand_keeps : (action : Action) → asked arguments ≡ action
+        → Done (told_by_demand g user (length rest) action) (demanded g user (idle seen rest) action)
     demand_keeps (table.Execute op form) is = op_keeps op form is (has_room g.desk.state)
-    demand_keeps (table.ReadAt key) is = read_at_keeps key is (nat_lt 0 g.observers)
+    demand_keeps (table.ReadAt key) is = from_keeps g.near key is
+    demand_keeps table.Info is = info_keeps is
     demand_keeps (table.Answer reply) is = replies_now reply (told_reply (table.Answer reply) reply is refl)
     demand_keeps (table.End reply) is =
         at_end (ops ++ []) (told ++ []) bytes replies g known xs arguments rest seen (each_then Nothing) seen_is bytes_are replies_are reply
@@ -258,7 +304,7 @@ module _ (user : ℕ) where
         let e : bytes ≡ requests_of xs ++ s.waiting =
         subst (λ (o : Option InFlight). Rests ops told user xs bytes s.waiting o) none serving.rests in
         let bytes_are : bytes ≡ requests_of xs ++ (spelled p.0 ++ p.1) = e ∙ ap (λ (w : List ℕ). requests_of xs ++ w) begins.is in
-        let t = told_by_demand g user (asked p.0) in
+        let t = told_by_demand g user (length p.1) (asked p.0) in
         subst (λ (o : Option InFlight). Keeps (ops ++ takes t) (told ++ tells (length bytes) g t) bytes replies
         (demanded g user (record { waiting = p.1; asked = o; seen = s.seen }) (asked p.0))) (sym none)
         (demand_keeps ops told bytes replies g known counts xs p.0 p.1 s.seen serving.each serving.seen bytes_are serving.replies_are (asked p.0) refl)
@@ -323,10 +369,13 @@ module _ (user : ℕ) where
           others_session (ops ++ takes t) (told ++ tells (length bytes) g t) bytes replies g h other (Reply other bs ∷ Close other ∷ []) same known
           (other_end other bs d) (as_before t)
 
+      told_reply_of : (t : Told) (s : Session) (bs : List ℕ) → Then t (replied g other s bs)
+      told_reply_of t s bs =
+          others_session (ops ++ takes t) (told ++ tells (length bytes) g t) bytes replies g (with_session g other s) other (Reply other bs ∷ [])
+          (put_elsewhere g.sessions other s user d) refl (other_reply user other bs d) (as_before t)
+
       none_reply : (s : Session) (bs : List ℕ) → Then Nothing (replied g other s bs)
-      none_reply s bs =
-          others_session (ops ++ []) (told ++ []) bytes replies g (with_session g other s) other (Reply other bs ∷ [])
-          (put_elsewhere g.sessions other s user d) refl (other_reply user other bs d) (as_before Nothing)
+      none_reply s bs = told_reply_of Nothing s bs
 
       op_elsewhere : (s : Session) (op : List ℕ) (form : Form) (b : Bool)
           → Then (takes_if b (record { owner = Some other; op = op })) (cond b (executed g other s op form) (replied g other s busy))
@@ -349,17 +398,35 @@ module _ (user : ℕ) where
       read_at_elsewhere s key true = none_waits (record s { asked = Some (flight.Read (record { key = key; under_way = None })) })
       read_at_elsewhere s key false = none_reply s no_observers
 
-      demand_elsewhere : (s : Session) (action : Action) → Then (told_by_demand g other action) (demanded g other s action)
-      demand_elsewhere s (table.Execute op form) = op_elsewhere s op form (has_room g.desk.state)
-      demand_elsewhere s (table.ReadAt key) = read_at_elsewhere s key (nat_lt 0 g.observers)
-      demand_elsewhere s (table.Answer bs) = none_reply s bs
-      demand_elsewhere s (table.End bs) = none_end Nothing (without_session g other) bs (gone_elsewhere g.sessions other user d) refl
+      near_elsewhere : (t : Told) (s : Session) (a : NearAnswer) → Then t (near_replied a g other s)
+      near_elsewhere t s a =
+          others_session (ops ++ takes t) (told ++ tells (length bytes) g t) bytes replies g (with_session g other (near_read a other s).0) other
+          (near_read a other s).1 (put_elsewhere g.sessions other (near_read a other s).0 user d) refl
+          (other_fresh user other a.position s a.result (nat_le s.seen a.position) d) (as_before t)
+
+      from_elsewhere : (near : Option (Machine Observer)) (s : Session) (key : List ℕ)
+          → Then (looks near other) (read_from (looked near key) g other s key)
+      from_elsewhere None s key = read_at_elsewhere s key (nat_lt 0 g.observers)
+      from_elsewhere (Some o) s key =
+          near_elsewhere (Looks other o) (record s { asked = Some (flight.Read (record { key = key; under_way = None })) }) (near_answer o key)
+
+      near_user_elsewhere : (t : Told) (o : Option Session) (a : NearAnswer) → Then t (near_user o a g other)
+      near_user_elsewhere t None a =
+          inside_quiet (ops ++ takes t) (told ++ tells (length bytes) g t) user bytes replies [] g refl (as_before t)
+      near_user_elsewhere t (Some s) a = near_elsewhere t s a
+
+      demand_elsewhere : (s : Session) (rest : ℕ) (action : Action) → Then (told_by_demand g other rest action) (demanded g other s action)
+      demand_elsewhere s rest (table.Execute op form) = op_elsewhere s op form (has_room g.desk.state)
+      demand_elsewhere s rest (table.ReadAt key) = from_elsewhere g.near s key
+      demand_elsewhere s rest table.Info = told_reply_of (Shows other rest) s (info g.watch)
+      demand_elsewhere s rest (table.Answer bs) = none_reply s bs
+      demand_elsewhere s rest (table.End bs) = none_end Nothing (without_session g other) bs (gone_elsewhere g.sessions other user d) refl
 
       read_elsewhere : (s : Session) (o : Option InFlight) (r : Read (List (List ℕ))) → read_request s.waiting ≡ r
           → Then (told_by_read g other o r) (read_session g other s o)
       read_elsewhere s None (Ok p) e =
-          subst (λ (r : Read (List (List ℕ))). Then (told_by_demand g other (asked p.0)) (read_as g other s r)) (sym e)
-          (demand_elsewhere (record s { waiting = p.1 }) (asked p.0))
+          subst (λ (r : Read (List (List ℕ))). Then (told_by_demand g other (length p.1) (asked p.0)) (read_as g other s r)) (sym e)
+          (demand_elsewhere (record s { waiting = p.1 }) (length p.1) (asked p.0))
       read_elsewhere s None (Err More) e =
           subst (λ (r : Read (List (List ℕ))). Then Nothing (read_as g other s r)) (sym e) nothing
       read_elsewhere s None (Err (Wrong fault)) e =
@@ -391,17 +458,43 @@ module _ (user : ℕ) where
 
     -- ---- reads of observers
 
-    key_keeps : (key : Option (List ℕ)) (core observer other : ℕ) → Then (told_by_key key core observer) (ask_for key g core observer other)
-    key_keeps None core observer other = nothing
-    key_keeps (Some key) core observer other =
+    near_own : (near : Machine Observer) (key : List ℕ) (o : Option Session) → session_of g user ≡ o → key_to_ask o ≡ Some key
+        → Then (Looks user near) (near_user o (near_answer near key) g user)
+    near_own near key None e k = absurd (let h : None ≡ Some key = k in cc)
+    near_own near key (Some s) e k =
+        let t = Looks user near in
+        let now = told ++ tells (length bytes) g t in
+        let a : NearAnswer = near_answer near key in
+        let serving : IsServing ops told user bytes replies s = subst (λ (o : Option Session). Fits ops told user bytes replies o) e inside.fits in
+        here (ops ++ []) now bytes (replies ++ replies_to user (near_read a user s).1) g (near_read a user s).0 inside.known
+        (serving_near (ops ++ []) now user near key bytes (looked_now told near (length bytes)) replies s (nat_le s.seen a.position) k refl
+        (serving_more ops [] told (tells (length bytes) g t) user bytes replies s serving))
+
+    near_keeps : (near : Machine Observer) (key : List ℕ) (other : ℕ) → key_to_ask (session_of g other) ≡ Some key
+        → Then (Looks other near) (near_user (session_of g other) (near_answer near key) g other)
+    near_keeps near key other k = elim (cases_eq user other) [
+      | inl e ↦ subst (λ (v : ℕ). Then (Looks v near) (near_user (session_of g v) (near_answer near key) g v)) e
+          (near_own near key (session_of g user) refl (subst (λ (v : ℕ). key_to_ask (session_of g v) ≡ Some key) (sym e) k))
+      | inr d ↦ near_user_elsewhere other d (Looks other near) (session_of g other) (near_answer near key)
+    ]
+
+    with_keeps : (near : Option (Machine Observer)) (key : List ℕ) (core observer other : ℕ) → key_to_ask (session_of g other) ≡ Some key
+        → Then (told_with near key core observer other) (ask_with (looked near key) key g core observer other)
+    with_keeps None key core observer other k =
         let x = given.Read observer key in
         comes_keeps (ops ++ []) told bytes replies (with_reader g core other) core x
         (inside_same (ops ++ []) (told ++ tells (length bytes) g (Inputs core x)) user bytes replies g (with_reader g core other) refl refl
         (as_before (Inputs core x)))
+    with_keeps (Some o) key core observer other k = near_keeps o key other k
+
+    key_keeps : (key : Option (List ℕ)) (core observer other : ℕ) → key_to_ask (session_of g other) ≡ key
+        → Then (told_by_key key g.near core observer other) (ask_for key g core observer other)
+    key_keeps None core observer other k = nothing
+    key_keeps (Some key) core observer other k = with_keeps g.near key core observer other k
 
     ask_read_keeps : (o : Option ℕ) (core observer other : ℕ)
-        → Then (told_by_ask o (session_of g other) core observer) (ask_free o g core observer other)
-    ask_read_keeps None core observer other = key_keeps (key_to_ask (session_of g other)) core observer other
+        → Then (told_by_ask o g core observer other) (ask_free o g core observer other)
+    ask_read_keeps None core observer other = key_keeps (key_to_ask (session_of g other)) core observer other refl
     ask_read_keeps (Some reader) core observer other = nothing
 
     own_unread : (s : Session) → session_of g user ≡ Some s → (b : Bool) → Then Nothing (taken_if b g user s)
@@ -537,6 +630,12 @@ module _ (user : ℕ) where
       | inr d ↦ others_left other d (session_of g other)
     ]
 
+    turn_keeps : (t : Turn) → Then Nothing (quiet (with_turn g t))
+    turn_keeps t =
+        no_more ops told bytes replies (quiet (with_turn g t))
+        (inside_quiet ops told user bytes replies [] (with_turn g t) refl
+        (inside_same ops told user bytes replies g (with_turn g t) refl refl inside))
+
     -- each row keeps what holds of the user
     pub row_keeps : (e : Event) → Sends (told_in g e) (bytes_in user e) (next g e)
     row_keeps (events.Datagram core sent) = with_bytes (Inputs core (Packet sent)) (comes g core (Packet sent)) [] refl (input_keeps core (Packet sent))
@@ -551,5 +650,6 @@ module _ (user : ℕ) where
         with_bytes (told_in g (events.Ask core observer other)) (ask_read g core observer other) [] refl
         (ask_read_keeps (finite.get g.readers core) core observer other)
     row_keeps (events.Reassign core) = with_bytes Nothing (reassign g core) [] refl (reassign_keeps core (finite.get g.readers core))
+    row_keeps (events.Watch now datagram) = with_bytes Nothing (next g (events.Watch now datagram)) [] refl (turn_keeps (record { now = now; datagram = datagram }))
     row_keeps events.Idle =
         with_bytes (told_in g events.Idle) (next g events.Idle) [] refl (ask_keeps (has_room g.desk.state))

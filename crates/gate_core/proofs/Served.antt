@@ -6,6 +6,9 @@ use Rattle.std.specs.Ordering.{nat_cmp}
 use Rattle.std.specs.FinMap as finite
 use Rattle.std.proofs.lemmas.Bool.{lt-leb, and_left}
 use Rattle.nop_types.specs.Configuration.{Configuration}
+use Rattle.nop_types.specs.Machine.{Machine}
+use Rattle.observer.specs.ObserverSteps.{Observer}
+use Rattle.watching.specs.Watching.{Watching}
 use Rattle.users.specs.declared.event.UserEvent.TheVariants as users
 use Rattle.gate_core.specs.declared.act.Act.TheVariants.{Reply, Close}
 use Rattle.gate_core.specs.declared.act.Event.{Event}
@@ -51,7 +54,7 @@ module _ (user : ℕ) where
       (fits_served ops told bytes replies (session_of g user) h.fits)
   run_served (e ∷ es) g ops told bytes replies counts h =
       let g' = (next g e).0 in
-      let now = heard_by g.desk.state (told_in g e) (length bytes) in
+      let now = heard_by user g (told_in g e) (length bytes) in
       let more = bytes_in user e in
       let later = heard user (length bytes + length more) g' es in
       let new_ops = takes (told_in g e) in
@@ -125,17 +128,17 @@ opened_inside user ops told g new none =
     (cond b (admitted (record g { next_user = user + 1 }) user) (quiet g)).0) (sym new)
     (first_inside user ops told (record g { next_user = user + 1 }) (just_passed user) none (nat_le MAX_USERS (finite.len g.sessions)))
 
-module _ (config : Configuration) (first count : ℕ) where
+module _ (config : Configuration) (first count : ℕ) (watch : Option Watching) (near : Option (Machine Observer)) where
   abbrev pub opened_first : GateState
-  opened_first = opening config first count
+  opened_first = opening config first count watch near
 
   pub none_first : (user : ℕ) → session_of opened_first user ≡ None
   none_first user = finite.get-empty nat_cmp user
 
-  pub served_from : (before later : List Event) (user : ℕ) → is_new (after (opening config first count) before) user ≡ true
-      → IsServedFrom (opening config first count) before later user
+  pub served_from : (before later : List Event) (user : ℕ) → is_new (after (opening config first count watch near) before) user ≡ true
+      → IsServedFrom (opening config first count watch near) before later user
   served_from before later user new =
-      let g0 = opening config first count in
+      let g0 = opening config first count watch near in
       let g = after g0 before in
       let ops = taken g0 before in
       let none = absent_after user before g0 (λ _. none_first user) new in

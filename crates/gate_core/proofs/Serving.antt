@@ -1,10 +1,11 @@
 -- What a user was replied so far, and what is open of it.
 use Rattle.std.proofs.Common.{◌≡◌, ℕ, Bool, true, false, List, [], ◌∷◌, ◌++◌, Option, Some, None, refl, sym, ap, subst, ◌∙◌, inl, inr}
-use Rattle.std.proofs.Common.{append-nil, append_assoc, true≢false, max, ◌≤◌, ◌+◌, arith, length, length-append}
+use Rattle.std.proofs.Common.{append-nil, append_assoc, true≢false, max, ◌≤◌, ◌+◌, ◌-◌, arith, length, length-append}
 use Rattle.std.specs.Prelude.{◌⊎◌, ⊤}
 use Rattle.std.specs.Prelude.{slice_get, nat_le, ◌==◌, ◌&&◌}
 use Rattle.std.specs.Cmp.Lexicographic.{same_text}
 use Rattle.nop_types.specs.Lists.{Has}
+use Rattle.nop_types.specs.Machine.{Machine}
 use Rattle.nop_types.specs.declared.output.Out.TheVariants as outs
 use Rattle.std.proofs.lemmas.Bool.{eq-eqb, eqb-true, and_parts, leb-true}
 use Rattle.lemmas.proofs.Members.{Has-append_left}
@@ -14,6 +15,7 @@ use Rattle.kv_resp.specs.Results.{reply_to}
 use Rattle.kv_resp.specs.declared.demand.Form.TheVariants.{Value}
 use Rattle.kv_resp.specs.Table as table
 use Rattle.kv_resp.specs.Table.{Action, asked}
+use Rattle.observer.specs.ObserverSteps.{Observer}
 use Rattle.gate_core.specs.declared.act.Act.TheVariants.{Reply}
 use Rattle.gate_core.specs.declared.gate_state.GateState.{GateState}
 use Rattle.gate_core.specs.declared.session.Asked.{Asked}
@@ -22,8 +24,8 @@ use Rattle.gate_core.specs.declared.session.InFlight.TheVariants as flight
 use Rattle.gate_core.specs.declared.session.Reading as reads
 use Rattle.gate_core.specs.declared.session.UnderWay.{UnderWay}
 use Rattle.gate_core.specs.declared.session.Session.{Session}
-use Rattle.gate_core.specs.Gates.{answered_if, awaits, begun, begun_if, form_reply, fresh_if, is_new, is_way, no_observers, read_answer_if, reads_by, same_key, session_of, unread}
-use Rattle.gate_core.specs.Runs.{AreReplied, Exchange, end_of, Heard, IsAnswered, IsAsked, IsFreshRead, IsRead, IsEnd, IsReplied, IsResult, IsServed, Taken, replies_of, replies_to, reply_if, requests_of}
+use Rattle.gate_core.specs.Gates.{answered_if, awaits, begun, begun_if, form_reply, fresh_if, is_new, is_way, key_if, key_of, near_answer, no_observers, read_answer_if, reads_by, same_key, session_of, unread}
+use Rattle.gate_core.specs.Runs.{AreReplied, ByDesk, Exchange, end_of, Heard, OfNear, IsAnswered, IsAsked, IsFreshRead, IsNearRead, IsRead, IsEnd, IsReplied, IsResult, IsServed, Taken, replies_of, replies_to, reply_if, requests_of}
 
 -- a request that was read, whose op is in flight, and the bytes behind it
 pub record IsOpen (ops : List Taken) (user : ℕ) (xs : List Exchange) (bytes waiting : List ℕ) (a : Asked) : Type 0 where
@@ -168,10 +170,26 @@ module _ (ops more : List Taken) (told also : List Heard) (user : ℕ) where
     replied = h.replied;
   }
 
+  near_more : (key : List ℕ) (end_ slot : ℕ) (reply : List ℕ) → IsNearRead told key end_ slot reply
+      → IsNearRead (told ++ also) key end_ slot reply
+  near_more key end slot reply h = record {
+    near = h.near;
+    sent = h.sent;
+    after_ = h.after_;
+    looks = Has-append_left told also _ h.looks;
+    position_is = h.position_is;
+    replied = h.replied;
+  }
+
+  source_more : (key : List ℕ) (end_ slot : ℕ) (reply : List ℕ) → IsRead told key end_ slot reply ⊎ IsNearRead told key end_ slot reply
+      → IsRead (told ++ also) key end_ slot reply ⊎ IsNearRead (told ++ also) key end_ slot reply
+  source_more key end slot reply (inl h) = inl (read_more key end slot reply h)
+  source_more key end slot reply (inr h) = inr (near_more key end slot reply h)
+
   either_more : (key : List ℕ) (end_ least slot : ℕ) (reply : List ℕ) → (reply ≡ no_observers) ⊎ IsFreshRead told key end_ least slot reply
       → (reply ≡ no_observers) ⊎ IsFreshRead (told ++ also) key end_ least slot reply
   either_more key end least slot reply (inl e) = inl e
-  either_more key end least slot reply (inr h) = inr (record { read = read_more key end slot reply h.read; fresh = h.fresh })
+  either_more key end least slot reply (inr h) = inr (record { read = source_more key end slot reply h.read; fresh = h.fresh })
 
   replied_more : (least end_ : ℕ) (action : Action) (ticket : Option ℕ) (slot : ℕ) (reply : List ℕ)
       → IsReplied ops told user least end_ action ticket slot reply → IsReplied (ops ++ more) (told ++ also) user least end_ action ticket slot reply
@@ -189,9 +207,12 @@ module _ (ops more : List Taken) (told also : List Heard) (user : ℕ) where
   }
   replied_more least end (table.Execute op form) None slot reply h = h
   replied_more least end (table.ReadAt key) None slot reply h = either_more key end least slot reply h
+  replied_more least end table.Info None slot reply h =
+      record { watch = h.watch; shown = Has-append_left told also _ h.shown; replied = h.replied }
   replied_more least end (table.Answer bytes) None slot reply h = h
   replied_more least end (table.End bytes) None slot reply h = h
   replied_more least end (table.ReadAt key) (Some t) slot reply h = absurd h
+  replied_more least end table.Info (Some t) slot reply h = absurd h
   replied_more least end (table.Answer bytes) (Some t) slot reply h = absurd h
   replied_more least end (table.End bytes) (Some t) slot reply h = absurd h
 
@@ -384,6 +405,15 @@ have_come xs arguments bytes waiting e =
     let last = length-append (spelled arguments) waiting in
     omega (arith, ends, all, last)
 
+-- where its bytes end
+pub end_by : (xs : List Exchange) (arguments : List (List ℕ)) (bytes waiting : List ℕ) → bytes ≡ requests_of xs ++ (spelled arguments ++ waiting)
+    → length bytes - length waiting ≡ ends_of 0 xs + length (spelled arguments)
+end_by xs arguments bytes waiting e =
+    let ends = ends_are 0 xs in
+    let all = ap (λ (bs : List ℕ). length bs) e ∙ length-append (requests_of xs) (spelled arguments ++ waiting) in
+    let last = length-append (spelled arguments) waiting in
+    omega (arith, ends, all, last)
+
 -- another state of what is in flight, of which the same holds
 serving_asked : (ops : List Taken) (told : List Heard) (user : ℕ) (bytes : List ℕ) (replies : List (List ℕ)) (s : Session) (a : Option InFlight)
     → ((xs : List Exchange) → Rests ops told user xs bytes s.waiting s.asked → Rests ops told user xs bytes s.waiting a)
@@ -458,11 +488,24 @@ pub record IsAnswer (told : List Heard) (way : UnderWay) (position : ℕ) (resul
   pub ticket : Option ℕ
   pub reply_slot : ℕ
   pub sent : ℕ
-  pub has : Has told (record {
-    told = record { core = way.core; ticket = ticket; out = outs.Answered client way.id way.observer position result };
-    slot = reply_slot;
-    sent = sent;
-  })
+  pub has : Has told (ByDesk (record { core = way.core; ticket = ticket; out = outs.Answered client way.id way.observer position result }) reply_slot sent)
+
+-- a read in flight is replied a result from a position that is not too old
+module _ (ops : List Taken) (told : List Heard) (user : ℕ) (position : ℕ) (result : List ℕ) (bytes : List ℕ) (replies : List (List ℕ)) where
+  replied_open : (s : Session) (r : reads.Reading) → s.seen ≤ position → (xs : List Exchange)
+      → AreReplied ops told user 0 0 xs → replies ≡ replies_of xs → s.seen ≡ greatest 0 xs → (rests : IsOpenRead told xs bytes s.waiting r)
+      → IsRead told r.key (ends_of 0 xs + length (spelled rests.arguments)) position (reply_to Value result)
+      ⊎ IsNearRead told r.key (ends_of 0 xs + length (spelled rests.arguments)) position (reply_to Value result)
+      → IsServing ops told user bytes (replies ++ reply_to Value result ∷ []) (record s { asked = None; seen = position })
+  replied_open s r fresh xs each replies_are seen rests read =
+      let x : Exchange = record { arguments = rests.arguments; ticket = None; slot = position; reply = reply_to Value result } in
+      let end = end_of (ends_of 0 xs) x in
+      let above : greatest 0 xs ≤ position = subst (λ (n : ℕ). n ≤ position) seen fresh in
+      let replied : IsReplied ops told user (greatest 0 xs) end (asked rests.arguments) None position (reply_to Value result) =
+      subst (λ (c : Action). IsReplied ops told user (greatest 0 xs) end c None position (reply_to Value result)) (sym rests.asks)
+      (inr (record { read = read; fresh = above })) in
+      serving_push ops told user xs x bytes s.waiting replies each replied rests.bytes_are replies_are position
+      (max_above (greatest 0 xs) position above)
 
 module _ (ops : List Taken) (told : List Heard) (user : ℕ) (way : UnderWay) (position : ℕ) (result : List ℕ) (is : IsAnswer told way position result)
     (bytes : List ℕ) (replies : List (List ℕ)) where
@@ -472,8 +515,7 @@ module _ (ops : List Taken) (told : List Heard) (user : ℕ) (way : UnderWay) (p
   read_open s None e by fresh xs each replies_are seen rests = absurd (true≢false (sym by))
   read_open s (Some (flight.Op a)) e by fresh xs each replies_are seen rests = absurd (true≢false (sym by))
   read_open s (Some (flight.Read r)) e by fresh xs each replies_are seen rests =
-      let x : Exchange = record { arguments = rests.arguments; ticket = None; slot = position; reply = reply_to Value result } in
-      let end = end_of (ends_of 0 xs) x in
+      let end = ends_of 0 xs + length (spelled rests.arguments) in
       let read : IsRead told r.key end position (reply_to Value result) = record {
         core = way.core;
         id = way.id;
@@ -487,12 +529,7 @@ module _ (ops : List Taken) (told : List Heard) (user : ℕ) (way : UnderWay) (p
         answers = is.has;
         replied = refl;
       } in
-      let above : greatest 0 xs ≤ position = subst (λ (n : ℕ). n ≤ position) seen fresh in
-      let replied : IsReplied ops told user (greatest 0 xs) end (asked rests.arguments) None position (reply_to Value result) =
-      subst (λ (c : Action). IsReplied ops told user (greatest 0 xs) end c None position (reply_to Value result)) (sym rests.asks)
-      (inr (record { read = read; fresh = above })) in
-      serving_push ops told user xs x bytes s.waiting replies each replied rests.bytes_are replies_are position
-      (max_above (greatest 0 xs) position above)
+      replied_open ops told user position result bytes replies s r fresh xs each replies_are seen rests (inl read)
 
   fresh_or_not : (s : Session) (b : Bool) → reads_by s.asked way ≡ true → nat_le s.seen position ≡ b → IsServing ops told user bytes replies s
       → IsServing ops told user bytes (replies ++ replies_to user (fresh_if b user position s result).1) (fresh_if b user position s result).0
@@ -510,3 +547,48 @@ module _ (ops : List Taken) (told : List Heard) (user : ℕ) (way : UnderWay) (p
   serving_read s true e h = fresh_or_not s (nat_le s.seen position) e refl h
   serving_read s false e h =
       subst (λ (rs : List (List ℕ)). IsServing ops told user bytes rs s) (sym (append-nil replies)) h
+
+-- ---- reads at the near observer
+
+key_is : (o : Option UnderWay) (k key : List ℕ) → key_if o k ≡ Some key → k ≡ key
+key_is None k key e = let h : Some k ≡ Some key = e in cc
+key_is (Some way) k key e = absurd (let h : None ≡ Some key = e in cc)
+
+-- it is looked at, now
+module _ (ops : List Taken) (told : List Heard) (user : ℕ) (near : Machine Observer) (key : List ℕ) (bytes : List ℕ)
+    (looks : Has told (OfNear near (length bytes))) (replies : List (List ℕ)) where
+  abbrev pub near_position : ℕ
+  near_position = (near_answer near key).position
+
+  abbrev pub near_result : List ℕ
+  near_result = (near_answer near key).result
+
+  near_open : (s : Session) (a : Option InFlight) → key_of a ≡ Some key → s.seen ≤ near_position → (xs : List Exchange)
+      → AreReplied ops told user 0 0 xs → replies ≡ replies_of xs → s.seen ≡ greatest 0 xs → Rests ops told user xs bytes s.waiting a
+      → IsServing ops told user bytes (replies ++ reply_to Value near_result ∷ []) (record s { asked = None; seen = near_position })
+  near_open s None k fresh xs each replies_are seen rests = absurd (let e : None ≡ Some key = k in cc)
+  near_open s (Some (flight.Op a)) k fresh xs each replies_are seen rests = absurd (let e : None ≡ Some key = k in cc)
+  near_open s (Some (flight.Read r)) k fresh xs each replies_are seen rests =
+      let end = ends_of 0 xs + length (spelled rests.arguments) in
+      let read : IsNearRead told key end near_position (reply_to Value near_result) = record {
+        near = near;
+        sent = length bytes;
+        after_ = have_come xs rests.arguments bytes s.waiting rests.bytes_are;
+        looks = looks;
+        position_is = refl;
+        replied = refl;
+      } in
+      replied_open ops told user near_position near_result bytes replies s r fresh xs each replies_are seen rests
+      (inr (subst (λ (c : List ℕ). IsNearRead told c end near_position (reply_to Value near_result)) (sym (key_is r.under_way r.key key k)) read))
+
+  pub serving_near : (s : Session) (b : Bool) → key_of s.asked ≡ Some key → nat_le s.seen near_position ≡ b
+      → IsServing ops told user bytes replies s
+      → IsServing ops told user bytes (replies ++ replies_to user (fresh_if b user near_position s near_result).1)
+      (fresh_if b user near_position s near_result).0
+  serving_near s true k e h =
+      subst (λ (rs : List (List ℕ)). IsServing ops told user bytes (replies ++ rs) (record s { asked = None; seen = near_position }))
+      (sym (own_reply user (reply_to Value near_result)))
+      (near_open s s.asked k (leb-true s.seen near_position e) h.exchanges h.each h.replies_are h.seen h.rests)
+  serving_near s false k e h =
+      subst (λ (rs : List (List ℕ)). IsServing ops told user bytes rs (record s { asked = unread s.asked })) (sym (append-nil replies))
+      (serving_unread ops told user bytes replies s h)

@@ -22,17 +22,16 @@ use Rattle.gate_core.specs.declared.act.Act.TheVariants.{Reply, Close, Waits}
 use Rattle.gate_core.specs.declared.act.Event.{Event}
 use Rattle.gate_core.specs.declared.act.Event.TheVariants as events
 use Rattle.gate_core.specs.declared.gate_state.GateState.{GateState}
+use Rattle.gate_core.specs.declared.near.NearAnswer.{NearAnswer}
 use Rattle.gate_core.specs.declared.session.InFlight.{InFlight}
 use Rattle.gate_core.specs.declared.session.InFlight.TheVariants as flight
 use Rattle.gate_core.specs.declared.session.UnderWay.{UnderWay}
-use Rattle.kv_resp.specs.declared.demand.Form.TheVariants.{Value}
-use Rattle.kv_resp.specs.Results.{reply_to}
 use Rattle.gate_core.specs.declared.session.Session.{Session}
 use Rattle.gate_core.specs.declared.limits.TheConstants.{MAX_USERS, MAX_WAITING_BYTES}
-use Rattle.gate_core.specs.Gates.{admitted, answer_owner, answer_user, answered, answered_if, ask_for, ask_free, awaits, begin_read, begin_user, begun, busy, came_of, comes, demanded, end_read, ended, executed, form_reply, fresh, fresh_if, idle_op, is_new, key_to_ask, left_by, left_of, next, no_observers, no_request, opened, quiet, read_answer_if, read_answered, read_as, read_asked, read_user, reads_at, reads_by, reassign_reader, reassign_user, read_of, read_session, replied, sent_to, session_of, slot_in, take, taken_if, tell, tell_all, tell_out, too_many, too_much, with_desk, unread, with_owner, with_reader, with_session, without_owner, without_reader}
+use Rattle.gate_core.specs.Gates.{admitted, answer_owner, answer_user, answered, answered_if, ask_for, ask_free, ask_with, awaits, begin_read, begin_user, begun, busy, came_of, comes, demanded, end_read, ended, executed, form_reply, fresh, idle_op, is_new, key_to_ask, left_by, left_of, looked, near_read, near_replied, near_user, next, no_observers, no_request, opened, quiet, read_answer_if, read_answered, read_as, read_asked, read_from, read_user, reads_at, reads_by, reassign_reader, reassign_user, read_of, read_session, replied, sent_to, session_of, slot_in, take, taken_if, tell, tell_all, tell_out, too_many, too_much, with_desk, unread, with_owner, with_reader, with_session, without_owner, without_reader, info, with_turn}
 use Rattle.gate_core.specs.Runs.{replies_to}
 use Rattle.gate_core.proofs.Entries.{gone_elsewhere, put_elsewhere}
-use Rattle.gate_core.proofs.Answering.{other_reply, replies_append}
+use Rattle.gate_core.proofs.Answering.{other_fresh, other_reply, replies_append}
 
 module _ (user : ℕ) where
   -- the user is not connected after a step, and was replied nothing in it
@@ -85,12 +84,8 @@ module _ (user : ℕ) where
   ]
 
   module _ (position : ℕ) (way : UnderWay) (result : List ℕ) where
-    fresh_none : (other : ℕ) (s : Session) (b : Bool) → (user ≡ other → ⊥) → replies_to user (fresh_if b other position s result).1 ≡ []
-    fresh_none other s true d = other_reply user other (reply_to Value result) d
-    fresh_none other s false d = refl
-
     read_none : (other : ℕ) (s : Session) (b : Bool) → (user ≡ other → ⊥) → replies_to user (read_answer_if b other position s result).1 ≡ []
-    read_none other s true d = fresh_none other s (nat_le s.seen position) d
+    read_none other s true d = other_fresh user other position s result (nat_le s.seen position) d
     read_none other s false d = refl
 
     end_other : (other : ℕ) (o : Option Session) (g : GateState) → (user ≡ other → ⊥) → session_of g user ≡ None
@@ -171,6 +166,20 @@ module _ (user : ℕ) where
     read_at_silent s key true = waits_silent (record s { asked = Some (flight.Read (record { key = key; under_way = None })) })
     read_at_silent s key false = replied_silent s no_observers
 
+    near_silent : (s : Session) (a : NearAnswer) → IsSilent (near_replied a g other s)
+    near_silent s a = record {
+      gone = put (near_read a other s).0;
+      none = other_fresh user other a.position s a.result (nat_le s.seen a.position) d;
+    }
+
+    near_user_silent : (o : Option Session) (a : NearAnswer) → IsSilent (near_user o a g other)
+    near_user_silent None a = still g e
+    near_user_silent (Some s) a = near_silent s a
+
+    read_from_silent : (o : Option NearAnswer) (s : Session) (key : List ℕ) → IsSilent (read_from o g other s key)
+    read_from_silent None s key = read_at_silent s key (nat_lt 0 g.observers)
+    read_from_silent (Some a) s key = near_silent (record s { asked = Some (flight.Read (record { key = key; under_way = None })) }) a
+
     unread_silent : (s : Session) (b : Bool) → IsSilent (taken_if b g other s)
     unread_silent s true = waits_silent (record s { asked = unread s.asked })
     unread_silent s false = still g e
@@ -181,7 +190,8 @@ module _ (user : ℕ) where
 
     demand_silent : (s : Session) (action : Action) → IsSilent (demanded g other s action)
     demand_silent s (table.Execute op form) = op_silent s op form (has_room g.desk.state)
-    demand_silent s (table.ReadAt key) = read_at_silent s key (nat_lt 0 g.observers)
+    demand_silent s (table.ReadAt key) = read_from_silent (looked g.near key) s key
+    demand_silent s table.Info = replied_silent s (info g.watch)
     demand_silent s (table.Answer bytes) = replied_silent s bytes
     demand_silent s (table.End bytes) = ended_silent bytes
 
@@ -244,10 +254,18 @@ module _ (user : ℕ) where
   own_opened g e old =
       subst (λ (b : Bool). IsSilent (cond b (admitted (record g { next_user = user + 1 }) user) (quiet g))) (sym old) (still g e)
 
+  ask_with_silent : (g : GateState) → session_of g user ≡ None → (o : Option NearAnswer) (key : List ℕ) (core observer other : ℕ)
+      → IsSilent (ask_with o key g core observer other)
+  ask_with_silent g e None key core observer other = comes_silent (with_reader g core other) core (given.Read observer key) e
+  ask_with_silent g e (Some a) key core observer other =
+      by_user (λ v. IsSilent (near_user (session_of g v) a g v)) other
+      (subst (λ (o : Option Session). IsSilent (near_user o a g user)) (sym e) (still g e))
+      (λ d. near_user_silent g e other d (session_of g other) a)
+
   key_silent : (g : GateState) → session_of g user ≡ None → (key : Option (List ℕ)) (core observer other : ℕ)
       → IsSilent (ask_for key g core observer other)
   key_silent g e None core observer other = still g e
-  key_silent g e (Some key) core observer other = comes_silent (with_reader g core other) core (given.Read observer key) e
+  key_silent g e (Some key) core observer other = ask_with_silent g e (looked g.near key) key core observer other
 
   ask_read_silent : (g : GateState) → session_of g user ≡ None → (o : Option ℕ) (core observer other : ℕ)
       → IsSilent (ask_free o g core observer other)
@@ -282,6 +300,7 @@ module _ (user : ℕ) where
       (λ d. read_silent g e other d (session_of g other))
   row_silent g e (events.Ask core observer other) unopened = ask_read_silent g e (finite.get g.readers core) core observer other
   row_silent g e (events.Reassign core) unopened = reassign_silent g e core (finite.get g.readers core)
+  row_silent g e (events.Watch now datagram) unopened = still (with_turn g (record { now = now; datagram = datagram })) e
   row_silent g e events.Idle unopened = ask_silent (has_room g.desk.state)
     where
       ask_silent : (b : Bool) → IsSilent (cond b (take g None idle_op) (quiet g))

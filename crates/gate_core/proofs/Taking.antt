@@ -8,10 +8,11 @@ use Rattle.desk.specs.Desks.{has_room}
 use Rattle.std.specs.Prelude.{nat_lt}
 use Rattle.gate_core.specs.declared.act.Act.TheVariants.{Reply, Close, Waits}
 use Rattle.gate_core.specs.declared.gate_state.GateState.{GateState}
+use Rattle.gate_core.specs.declared.near.NearAnswer.{NearAnswer}
 use Rattle.gate_core.specs.declared.session.InFlight.{InFlight}
 use Rattle.gate_core.specs.declared.session.InFlight.TheVariants as flight
 use Rattle.gate_core.specs.declared.session.Session.{Session}
-use Rattle.gate_core.specs.Gates.{busy, demanded, executed, left_by, no_observers, read_asked, replied, take, with_session, without_session}
+use Rattle.gate_core.specs.Gates.{busy, demanded, executed, info, left_by, looked, near_read, no_observers, read_asked, read_from, replied, take, with_session, without_session}
 use Rattle.gate_core.proofs.Entries.{gone_here, gone_none, put_back}
 
 -- what is put back is put
@@ -38,11 +39,19 @@ read_taken g user s key true =
     (back g user (record s { asked = Some (flight.Read (record { key = key; under_way = None })) }))
 read_taken g user s key false = ap (λ (h : GateState). (h, Reply user no_observers ∷ [])) (back g user s)
 
+from_taken : (o : Option NearAnswer) (g : GateState) (user : ℕ) (s : Session) (key : List ℕ)
+    → read_from o (without_session g user) user s key ≡ read_from o g user s key
+from_taken None g user s key = read_taken g user s key (nat_lt 0 g.observers)
+from_taken (Some a) g user s key =
+    let p = near_read a user (record s { asked = Some (flight.Read (record { key = key; under_way = None })) }) in
+    ap (λ (h : GateState). (h, p.1)) (back g user p.0)
+
 -- what a request asks for is done as if the session still stood in its table
 pub demanded_taken : (g : GateState) (user : ℕ) (s : Session) (action : Action)
     → demanded (without_session g user) user s action ≡ demanded g user s action
 demanded_taken g user s (table.Execute op form) = op_taken g user s op form (has_room g.desk.state)
-demanded_taken g user s (table.ReadAt key) = read_taken g user s key (nat_lt 0 g.observers)
+demanded_taken g user s (table.ReadAt key) = from_taken (looked g.near key) g user s key
+demanded_taken g user s table.Info = ap (λ (h : GateState). (h, Reply user (info g.watch) ∷ [])) (back g user s)
 demanded_taken g user s (table.Answer reply) = ap (λ (h : GateState). (h, Reply user reply ∷ [])) (back g user s)
 demanded_taken g user s (table.End reply) = ap (λ (h : GateState). (h, Reply user reply ∷ Close user ∷ [])) (twice g user)
 

@@ -6,6 +6,9 @@ use Rattle.std.specs.FinMap as finite
 use Rattle.nop_types.specs.Configuration.{Configuration}
 use Rattle.nop_types.specs.Given as given
 use Rattle.nop_types.specs.Given.{Given, Packet, Ticked}
+use Rattle.nop_types.specs.Logs.{Trimmed}
+use Rattle.nop_types.specs.Machine.{Machine}
+use Rattle.nop_types.specs.Services.{get_of}
 use Rattle.nop_types.specs.declared.datagram.Datagram.{Datagram}
 use Rattle.nop_types.specs.declared.datagram.Datagram.TheVariants as datagrams
 use Rattle.nop_types.specs.declared.input.Tick.TheVariants as ticks
@@ -15,8 +18,10 @@ use Rattle.oum_codec.specs.declared.bad.Bad.{Bad}
 use Rattle.oum_codec.specs.Reading.{reading}
 use Rattle.resp.specs.Reading.{Read, read_request}
 use Rattle.resp.specs.Replies.{error}
+use Rattle.resp.specs.Spelling.{bulk, line_end}
 use Rattle.resp.specs.declared.parsed.Request.{Request}
 use Rattle.resp.specs.declared.parsed.Stop.TheVariants.{More, Wrong}
+use Rattle.kv_host.specs.Kv.{kv_meaning}
 use Rattle.kv_host.specs.declared.op.TheConstants.{GET}
 use Rattle.kv_resp.specs.Results.{reply_to}
 use Rattle.kv_resp.specs.Table as table
@@ -27,6 +32,12 @@ use Rattle.desk.specs.Desks as desks
 use Rattle.desk.specs.Desks.{has_room, Take, Leave, Comes}
 use Rattle.desk.specs.declared.desk_state.DeskState.{DeskState}
 use Rattle.desk.specs.declared.submitter.Labelled.{Labelled}
+use Rattle.observer.specs.ObserverSteps as observers
+use Rattle.observer.specs.ObserverSteps.{Observer}
+use Rattle.observer.specs.Observing as observing
+use Rattle.watching.specs.Screens.{last_lines}
+use Rattle.watching.specs.Turns.{Turn, turned}
+use Rattle.watching.specs.Watching.{Watching}
 use Rattle.users.specs.declared.event.UserEvent.{UserEvent}
 use Rattle.users.specs.declared.event.UserEvent.TheVariants as users
 use Rattle.gate_core.specs.declared.act.Act.{Act}
@@ -34,6 +45,7 @@ use Rattle.gate_core.specs.declared.act.Act.TheVariants.{Send, Submitted, Accept
 use Rattle.gate_core.specs.declared.act.Event.{Event}
 use Rattle.gate_core.specs.declared.act.Event.TheVariants as events
 use Rattle.gate_core.specs.declared.gate_state.GateState.{GateState}
+use Rattle.gate_core.specs.declared.near.NearAnswer.{NearAnswer}
 use Rattle.gate_core.specs.declared.session.Asked.{Asked}
 use Rattle.gate_core.specs.declared.session.InFlight.{InFlight}
 use Rattle.gate_core.specs.declared.session.InFlight.TheVariants as flight
@@ -42,15 +54,22 @@ use Rattle.gate_core.specs.declared.session.UnderWay.{UnderWay}
 use Rattle.gate_core.specs.declared.session.Session.{Session}
 use Rattle.gate_core.specs.declared.limits.TheConstants.{MAX_USERS, MAX_WAITING_BYTES}
 
--- no users, and cores whose numbers were not used before
-abbrev pub opening : Configuration → (first count : ℕ) → GateState
-opening config first count = record {
+-- how many observers may be asked: at the place of the watch there is none
+abbrev pub others_than : Option Watching → ℕ → ℕ
+others_than None observers = observers
+others_than (Some w) observers = observers - 1
+
+-- no users, cores whose numbers were not used before, and a watch and a near observer, if it has them
+abbrev pub opening : Configuration → (first count : ℕ) → Option Watching → Option (Machine Observer) → GateState
+opening config first count watch near = record {
   desk = record { failed = false; state = desks.opening config first count };
   sessions = finite.empty;
   owners = finite.empty;
   readers = finite.empty;
-  observers = config.observers;
+  observers = others_than watch config.observers;
   next_user = 0;
+  watch = watch;
+  near = near;
 }
 
 -- ---- what is replied where nothing is asked of the service
@@ -244,6 +263,40 @@ abbrev pub tell_all : (came : List ℕ) → List Labelled → GateState → Step
 tell_all came [] g = quiet g
 tell_all came (l ∷ told) g = then_do (tell came l g) (tell_all came told)
 
+-- ---- the near observer
+
+-- it hears a datagram, if one came
+abbrev pub heard_if : Machine Observer → Option (List ℕ) → Machine Observer
+heard_if o None = o
+heard_if o (Some bytes) = record o { state = (observers.next kv_meaning o.state (Packet bytes)).0 }
+
+abbrev pub heard_near : Option (Machine Observer) → Option (List ℕ) → Option (Machine Observer)
+heard_near None datagram = None
+heard_near (Some o) datagram = Some (heard_if o datagram)
+
+-- what it answers to the read of a key, from its position
+abbrev pub near_answer : Machine Observer → (key : List ℕ) → NearAnswer
+near_answer o key = record {
+  position = observing.position o.state.heard.state;
+  result = observing.answer kv_meaning Trimmed o.state.heard.state (get_of key);
+}
+
+-- if there is one
+abbrev pub looked : Option (Machine Observer) → (key : List ℕ) → Option NearAnswer
+looked None key = None
+looked (Some o) key = Some (near_answer o key)
+
+-- a user whose read is in flight is replied its answer, or its read waits again
+abbrev pub near_read : NearAnswer → (user : ℕ) → Session → Session × List Act
+near_read a user s = fresh_if (nat_le s.seen a.position) user a.position s a.result
+
+abbrev pub near_replied : NearAnswer → GateState → (user : ℕ) → Session → Step
+near_replied a g user s = (with_session g user (near_read a user s).0, (near_read a user s).1)
+
+abbrev pub near_user : Option Session → NearAnswer → GateState → (user : ℕ) → Step
+near_user None a g user = quiet g
+near_user (Some s) a g user = near_replied a g user s
+
 -- ---- inputs of cores, and what the gateway asks itself
 
 -- the datagram that an input is; no bytes of any other one
@@ -262,6 +315,25 @@ take g owner op =
 
 abbrev pub ask : GateState → Step
 ask g = if has_room g.desk.state then take g None idle_op else quiet g
+
+-- ---- the watch
+
+abbrev pub turned_by : Option Watching → Turn → Option Watching
+turned_by None t = None
+turned_by (Some w) t = Some (turned w t)
+
+-- it takes a turn: a datagram comes, or none, and it is so late; the near observer hears the datagram
+abbrev pub with_turn : GateState → Turn → GateState
+with_turn g t = record g { watch = turned_by g.watch t; near = heard_near g.near t.datagram }
+
+-- the lines that it showed last, if there is one
+abbrev pub shown_by : Option Watching → List ℕ
+shown_by None = []
+shown_by (Some w) = last_lines w
+
+-- what is said of the gateway itself, and then what its watch shows
+abbrev pub info : Option Watching → List ℕ
+info watch = bulk (codes "redis_mode:standalone" ++ line_end ++ shown_by watch)
 
 -- ---- requests
 
@@ -282,9 +354,15 @@ abbrev pub read_asked : GateState → (user : ℕ) → Session → (key : List �
 read_asked g user s key =
     (with_session g user (record s { asked = Some (flight.Read (record { key = key; under_way = None })) }), Waits user false ∷ [])
 
+-- at the near observer, or, where there is none, at an observer
+abbrev pub read_from : Option NearAnswer → GateState → (user : ℕ) → Session → (key : List ℕ) → Step
+read_from None g user s key = if nat_lt 0 g.observers then read_asked g user s key else replied g user s no_observers
+read_from (Some a) g user s key = near_replied a g user (record s { asked = Some (flight.Read (record { key = key; under_way = None })) })
+
 abbrev pub demanded : GateState → (user : ℕ) → Session → Action → Step
 demanded g user s (table.Execute op form) = if has_room g.desk.state then executed g user s op form else replied g user s busy
-demanded g user s (table.ReadAt key) = if nat_lt 0 g.observers then read_asked g user s key else replied g user s no_observers
+demanded g user s (table.ReadAt key) = read_from (looked g.near key) g user s key
+demanded g user s table.Info = replied g user s (info g.watch)
 demanded g user s (table.Answer reply) = replied g user s reply
 demanded g user s (table.End reply) = ended g user reply
 
@@ -330,9 +408,14 @@ abbrev pub key_to_ask : Option Session → Option (List ℕ)
 key_to_ask None = None
 key_to_ask (Some s) = key_of s.asked
 
+-- it is read at the near observer again, or, where there is none, the core asks for it
+abbrev pub ask_with : Option NearAnswer → (key : List ℕ) → GateState → (core observer user : ℕ) → Step
+ask_with None key g core observer user = comes (with_reader g core user) core (given.Read observer key)
+ask_with (Some a) key g core observer user = near_user (session_of g user) a g user
+
 abbrev pub ask_for : Option (List ℕ) → GateState → (core observer user : ℕ) → Step
 ask_for None g core observer user = quiet g
-ask_for (Some key) g core observer user = comes (with_reader g core user) core (given.Read observer key)
+ask_for (Some key) g core observer user = ask_with (looked g.near key) key g core observer user
 
 -- by a core that has none under way
 abbrev pub ask_free : Option ℕ → GateState → (core observer user : ℕ) → Step
@@ -413,4 +496,5 @@ next g (events.User event) = user_event g event
 next g (events.Read user) = read g user
 next g (events.Ask core observer user) = ask_read g core observer user
 next g (events.Reassign core) = reassign g core
+next g (events.Watch now datagram) = quiet (with_turn g (record { now = now; datagram = datagram }))
 next g events.Idle = ask g

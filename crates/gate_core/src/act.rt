@@ -20,7 +20,7 @@ pub enum Event {
         user: u64,
     },
     /// The core at this place asks an observer for the key of a user's read, where neither has a
-    /// read under way.
+    /// read under way; where there is a near observer, the key is read at that again.
     Ask {
         core: usize,
         observer: u8,
@@ -29,6 +29,12 @@ pub enum Event {
     /// The read that the core at this place has under way is asked for by another core.
     Reassign {
         core: usize,
+    },
+    /// It is so late for the watch, in milliseconds, and a datagram came to it, or none; the near
+    /// observer hears it too.
+    Watch {
+        now: u64,
+        datagram: Option<Bytes>,
     },
     /// Nobody asks for anything: the gateway asks for something itself.
     Idle,

@@ -1,33 +1,42 @@
 //! What the gateway keeps, and its steps.
 
-ghost use Rattle.std.specs.Prelude.{◌≡◌, ◌≤◌, ◌+◌, ◌^◌, ◌==◌, ◌++◌, Some, IfOk, OnOk};
+ghost use Rattle.std.specs.Prelude.{◌≡◌, ◌≤◌, ◌+◌, ◌^◌, ◌==◌, ◌++◌, None, Some, IfOk, OnOk};
+ghost use Rattle.std.specs.Prelude.{option_map};
 ghost use Rattle.std.specs.FinMap as finite;
 ghost use Rattle.nop_types.specs.Given.{given};
 ghost use Rattle.resp.specs.Replies.{reply_bytes};
 ghost use Rattle.kv_resp.specs.Table as table;
 ghost use Rattle.kv_resp.specs.Table.{asked};
 ghost use Rattle.gate_core.specs.Gates.{answer, ask, ask_read, begin_read, busy, came_of, comes, demanded, end_read};
-ghost use Rattle.gate_core.specs.Gates.{ended, idle_op, left_by, left_of, next, no_observers, no_request, opened};
-ghost use Rattle.gate_core.specs.Gates.{opening, read, reassign, requested, sent_to, session_of, slot_in, tell};
-ghost use Rattle.gate_core.specs.Gates.{tell_all, too_many, too_much, user_event, without_reader, HasBytes};
+ghost use Rattle.gate_core.specs.Gates.{ask_with, ended, idle_op, info, left_by, left_of, near_replied};
+ghost use Rattle.gate_core.specs.Gates.{near_user, next, read_from};
+ghost use Rattle.gate_core.specs.Gates.{no_observers, no_request, opened, opening, others_than, read};
+ghost use Rattle.gate_core.specs.Gates.{reassign, requested, sent_to, session_of, slot_in, tell};
+ghost use Rattle.gate_core.specs.Gates.{looked, tell_all, too_many, too_much, user_event, with_turn};
+ghost use Rattle.gate_core.specs.Gates.{without_reader, HasBytes};
 
 use crate::act::{Act, Event};
-use crate::in_flight::{answer_session, begin, end_reading, reads_at, wait_again};
+use crate::in_flight::{answer_session, begin, end_near, end_reading, reads_at, wait_again};
 use crate::limits::{MAX_USERS, MAX_WAITING_BYTES};
+use crate::near::{NearAnswer, hear, look};
 use crate::replying::{put_act, put_answer, put_end};
 use crate::session::{Asked, InFlight, Reading, Session, UnderWay};
 use crate::tables::{Owners, Readers, Sessions};
 use crate::waiting::Waiting;
+use crate::watched::{put_info, take_turn};
 use desk::{Desk, DeskError, Labelled};
-use kv_host::GET;
+use kv_host::{GET, KvHost};
 use kv_resp::{Demand, Form, asked};
+use near_observer::NearObserver;
 use nop_types::{Bytes, Config, Input, Key, NoMemory, Op, Out, Tick};
 use resp::{Parsed, Reply, Request};
 use std::alloc::Global;
 use users::UserEvent;
+use watching::Watch;
 
 /// The desk, the users that are connected, whose the tickets are, for whom cores read, how many
-/// observers there are, and the least number of a user to come.
+/// observers may be asked, the least number of a user to come, and the watch and the near observer,
+/// if there are these.
 #[derive(Drop)]
 pub struct GateState {
     pub desk: Desk,
@@ -36,6 +45,8 @@ pub struct GateState {
     pub readers: Readers,
     pub observers: u8,
     pub next_user: u64,
+    pub watch: Option<Watch>,
+    pub near: Option<NearObserver<KvHost>>,
 }
 
 /// What is replied to a user that is one too many.
@@ -73,6 +84,16 @@ fn no_observers<'a>() -> Reply<'a>
     Reply::Error("ERR no observers to read at")
 }
 
+/// How many of so many observers may be asked: at the place of the watch there is none.
+fn others_than(watch: &Option<Watch>, observers: u8) -> u8
+    ensures { result ≡ others_than watch.now observers }
+{
+    match watch {
+        Some(_) => observers.saturating_sub(1),
+        None => observers,
+    }
+}
+
 /// The datagram that an input is; no bytes of any other one.
 fn came_of(input: Input<'_>) -> &[u8]
     ensures { result.now ≡ came_of (given input.entry) }
@@ -91,23 +112,29 @@ fn idle_op(alloc: Global) -> Result<Op, NoMemory>
 }
 
 impl GateState {
-    /// A gateway without users, whose cores have the numbers from `first` on. None of these numbers was used before.
+    /// A gateway without users, whose cores have the numbers from `first` on. None of these numbers
+    /// was used before. Where it has a watch, that is at the place of one of the observers, and so
+    /// is the near observer, where it has one.
     pub fn new(
         alloc: Global,
         config: Config,
         first: u32,
         count: usize,
+        watch: Option<Watch>,
+        near: Option<NearObserver<KvHost>>,
     ) -> Result<GateState, NoMemory>
         requires { first + count ≤ 2 ^ 32 }
-        ensures { IfOk result (λ g. g ≡ opening config first count) }
+        ensures { IfOk result (λ g. g ≡ opening config first count watch near) }
     {
         Ok(GateState {
             desk: Desk::new(alloc, config, first, count)?,
             sessions: Sessions::new(alloc),
             owners: Owners::new(alloc),
             readers: Readers::new(alloc),
-            observers: config.observers(),
+            observers: others_than(&watch, config.observers()),
             next_user: 0,
+            watch,
+            near,
         })
     }
 
@@ -345,8 +372,28 @@ impl GateState {
         }
     }
 
-    /// The read of a user's request.
-    fn read_at(
+    /// The read in flight of a user whose session was taken out is replied what the near observer
+    /// answered, or waits again.
+    fn reply_near(
+        &mut self,
+        alloc: Global,
+        user: u64,
+        session: Session,
+        answer: &NearAnswer,
+        acts: &mut Vec<Act>,
+    ) -> Result<(), NoMemory>
+        ensures state { OnOk result (self.new
+            ≡ (near_replied answer.now self.old user session).0) }
+        ensures acts { OnOk result (acts.new.items
+            ≡ acts.old.items ++ (near_replied answer.now self.old user session).1) }
+    {
+        let mut session = session;
+        end_near(alloc, user, &mut session, answer, acts)?;
+        self.sessions.put(user, session)
+    }
+
+    /// The read of a user's request, which waits for a core, where there are observers.
+    fn read_far(
         &mut self,
         alloc: Global,
         user: u64,
@@ -354,10 +401,9 @@ impl GateState {
         key: Key,
         acts: &mut Vec<Act>,
     ) -> Result<(), NoMemory>
-        ensures state { OnOk result (self.new
-            ≡ (demanded self.old user session (table.ReadAt key)).0) }
-        ensures acts { OnOk result (acts.new.items ≡ acts.old.items
-            ++ (demanded self.old user session (table.ReadAt key)).1) }
+        ensures state { OnOk result (self.new ≡ (read_from None self.old user session key).0) }
+        ensures acts { OnOk result (acts.new.items
+            ≡ acts.old.items ++ (read_from None self.old user session key).1) }
     {
         if self.observers == 0 {
             self.sessions.put(user, session)?;
@@ -378,6 +424,36 @@ impl GateState {
         put_act(acts, Act::Waits { user, again: false })
     }
 
+    /// The read of a user's request.
+    fn read_at(
+        &mut self,
+        alloc: Global,
+        user: u64,
+        session: Session,
+        key: Key,
+        acts: &mut Vec<Act>,
+    ) -> Result<(), NoMemory>
+        ensures state { OnOk result (self.new
+            ≡ (demanded self.old user session (table.ReadAt key)).0) }
+        ensures acts { OnOk result (acts.new.items ≡ acts.old.items
+            ++ (demanded self.old user session (table.ReadAt key)).1) }
+    {
+        match look(&mut self.near, &key)? {
+            Some(answer) => {
+                let session = Session {
+                    waiting: session.waiting,
+                    asked: Some(InFlight::Read(Reading {
+                        key,
+                        under_way: None,
+                    })),
+                    seen: session.seen,
+                };
+                self.reply_near(alloc, user, session, &answer, acts)
+            }
+            None => self.read_far(alloc, user, session, key, acts),
+        }
+    }
+
     /// What a user's request asks for.
     fn demand(
         &mut self,
@@ -395,6 +471,10 @@ impl GateState {
         match asked(alloc, arguments)? {
             Demand::Execute(op, form) => self.execute(alloc, user, session, op, form, acts),
             Demand::ReadAt(key) => self.read_at(alloc, user, session, key, acts),
+            Demand::Info => {
+                self.sessions.put(user, session)?;
+                put_info(alloc, user, &self.watch, acts)
+            }
             Demand::Answer(reply) => {
                 self.sessions.put(user, session)?;
                 put_answer(alloc, user, reply, acts)
@@ -539,8 +619,53 @@ impl GateState {
         }
     }
 
-    /// The core at a place asks an observer for the key of a user's read, where neither has a read
-    /// under way.
+    /// The near observer was looked at for a user's read in flight.
+    #[tactic(auto, using(crate::proofs::Entries::put_back))]
+    fn end_near(
+        &mut self,
+        alloc: Global,
+        user: u64,
+        answer: &NearAnswer,
+        acts: &mut Vec<Act>,
+    ) -> Result<(), NoMemory>
+        ensures state { OnOk result (self.new
+            ≡ (near_user (session_of self.old user) answer.now self.old user).0) }
+        ensures acts { OnOk result (acts.new.items ≡ acts.old.items
+            ++ (near_user (session_of self.old user) answer.now self.old user).1) }
+    {
+        let Some(session) = self.sessions.take(user) else {
+            return Ok(());
+        };
+        self.reply_near(alloc, user, session, answer, acts)
+    }
+
+    /// The key of a user's read is read at the near observer; where there is none, the core at a
+    /// place asks an observer.
+    fn ask_with(
+        &mut self,
+        alloc: Global,
+        core: usize,
+        observer: u8,
+        user: u64,
+        key: &Key,
+        acts: &mut Vec<Act>,
+    ) -> Result<(), NoMemory>
+        ensures state { OnOk result (self.new
+            ≡ (ask_with (looked self.old.near key.now) key.now self.old core observer user).0) }
+        ensures acts { OnOk result (acts.new.items ≡ acts.old.items
+            ++ (ask_with (looked self.old.near key.now) key.now self.old core observer user).1) }
+    {
+        match look(&mut self.near, key)? {
+            Some(answer) => self.end_near(alloc, user, &answer, acts),
+            None => {
+                self.readers.put(core, user)?;
+                self.comes(alloc, core, Input::Read(observer, key), acts)
+            }
+        }
+    }
+
+    /// A user's read that waits is read at the near observer, or asked for by the core at a place,
+    /// where neither has a read under way.
     fn ask_read(
         &mut self,
         alloc: Global,
@@ -557,10 +682,7 @@ impl GateState {
             return Ok(());
         }
         match self.sessions.key_to_ask(user)? {
-            Some(key) => {
-                self.readers.put(core, user)?;
-                self.comes(alloc, core, Input::Read(observer, &key), acts)
-            }
+            Some(key) => self.ask_with(alloc, core, observer, user, &key, acts),
             None => Ok(()),
         }
     }
@@ -587,6 +709,15 @@ impl GateState {
         put_act(acts, Act::Waits { user, again: false })
     }
 
+    /// A turn of the watch, and of the near observer, if there are these.
+    fn watch(&mut self, now: u64, datagram: Option<&Bytes>) -> Result<(), NoMemory>
+        ensures { OnOk result (self.new ≡ with_turn self.old
+            (record { now = now; datagram = option_map (λ d. d.now) datagram.entry })) }
+    {
+        take_turn(&mut self.watch, now, datagram)?;
+        hear(&mut self.near, datagram)
+    }
+
     /// A step, and what is done in it. After an error no more steps are taken.
     pub fn step(&mut self, alloc: Global, event: Event, acts: &mut Vec<Act>) -> Result<(), NoMemory>
         ensures state { OnOk result (self.new ≡ (next self.old event).0) }
@@ -605,6 +736,7 @@ impl GateState {
                 user,
             } => self.ask_read(alloc, core, observer, user, acts),
             Event::Reassign { core } => self.reassign(core, acts),
+            Event::Watch { now, datagram } => self.watch(now, datagram.as_ref()),
             Event::Idle => self.ask(alloc, acts),
         }
     }

@@ -1,10 +1,12 @@
 //! What becomes of a session, where a core gave something for it.
 
-ghost use Rattle.std.specs.Prelude.{◌≡◌, ◌++◌, IfOk, IfSome, OnOk};
-ghost use Rattle.gate_core.specs.Gates.{answered, begun, begun_if, is_at, is_way, op_of, read_answered, reads_at};
+ghost use Rattle.std.specs.Prelude.{◌≡◌, ◌++◌, nat_le, IfOk, IfSome, OnOk};
+ghost use Rattle.gate_core.specs.Gates.{answered, begun, begun_if, fresh_if, is_at, is_way};
+ghost use Rattle.gate_core.specs.Gates.{near_read, op_of, read_answered, reads_at};
 ghost use Rattle.gate_core.specs.Gates.{reads_by, same_key, slot_in, unread};
 
 use crate::act::Act;
+use crate::near::NearAnswer;
 use crate::replying::{put_act, put_answer};
 use crate::session::{Asked, InFlight, Reading, Session, UnderWay};
 use kv_resp::{Form, reply_to};
@@ -130,6 +132,54 @@ pub(crate) fn reads_at(asked: &Option<InFlight>, core: usize) -> bool
     }
 }
 
+/// The read in flight is replied a result from this position, unless its session has seen a later
+/// state.
+fn reply_if_fresh(
+    alloc: Global,
+    user: u64,
+    position: u32,
+    session: &mut Session,
+    answer: &[u8],
+    acts: &mut Vec<Act>,
+) -> Result<(), NoMemory>
+    ensures session { OnOk result (session.new ≡ (fresh_if (nat_le session.old.seen position)
+        user position session.old answer.now).0) }
+    ensures acts { OnOk result (acts.new.items ≡ acts.old.items
+        ++ (fresh_if (nat_le session.old.seen position) user position session.old answer.now).1) }
+{
+    if session.seen <= position {
+        session.asked = None;
+        session.seen = position;
+        put_answer(alloc, user, reply_to(Form::Value, answer), acts)
+    } else {
+        wait_again(&mut session.asked);
+        put_act(acts, Act::Waits { user, again: true })
+    }
+}
+
+/// The near observer was looked at: the session whose read is in flight is replied the answer,
+/// unless it has seen a later state.
+pub(crate) fn end_near(
+    alloc: Global,
+    user: u64,
+    session: &mut Session,
+    answer: &NearAnswer,
+    acts: &mut Vec<Act>,
+) -> Result<(), NoMemory>
+    ensures session { OnOk result (session.new ≡ (near_read answer.now user session.old).0) }
+    ensures acts { OnOk result (acts.new.items
+        ≡ acts.old.items ++ (near_read answer.now user session.old).1) }
+{
+    reply_if_fresh(
+        alloc,
+        user,
+        answer.position,
+        session,
+        answer.result.as_slice(),
+        acts,
+    )
+}
+
 /// A core was answered: the session whose read this is is replied the result, unless it has seen a
 /// later state.
 pub(crate) fn end_reading(
@@ -149,12 +199,5 @@ pub(crate) fn end_reading(
     if !reads_by(&session.asked, way) {
         return Ok(());
     }
-    if session.seen <= position {
-        session.asked = None;
-        session.seen = position;
-        put_answer(alloc, user, reply_to(Form::Value, answer), acts)
-    } else {
-        wait_again(&mut session.asked);
-        put_act(acts, Act::Waits { user, again: true })
-    }
+    reply_if_fresh(alloc, user, position, session, answer, acts)
 }

@@ -5,7 +5,7 @@ ghost use Rattle.outside.specs.Memory.{MayAnswer};
 
 use crate::scripts::{self, bytes_of, put_text, reply, text_of};
 use client_call::Service;
-use gate::{GateError, serve};
+use gate::{GateError, Seats, serve};
 use nop_types::{Bytes, Config, MAX_DATAGRAM_BYTES};
 use outside::{ClockMem, Failing, LinkMem, PollAnswer, PortsMem};
 use std::alloc::Global;
@@ -109,8 +109,13 @@ fn check(
         config: Config::new(3, 1, 1, 1, 1).expect(rt, "a group"),
     };
     let mut clock = ClockMem::new(alloc);
+    let seats = Seats {
+        first: 0,
+        count: cores,
+        observer: None,
+    };
     let given = serve(
-        alloc, &service, 0, cores, turns, &mut ports, &mut users, &mut clock,
+        alloc, &service, seats, turns, &mut ports, &mut users, &mut clock,
     );
     let told = told(rt, alloc, &users);
     assert!(rt;
@@ -127,6 +132,16 @@ fn a_ping_is_answered(rt: HostRuntime) {
     let ports = ports(&rt, alloc, SILENT, &[]);
     let users = user(&rt, alloc, "*1;$4;PING;");
     check(&rt, alloc, 1, 1, ports, users, Ok(()), 1, "+PONG;");
+}
+
+/// So is INFO, with the line on the gateway alone where it has no place of an observer.
+#[test]
+fn info_is_answered(rt: HostRuntime) {
+    let alloc = rt.alloc();
+    let ports = ports(&rt, alloc, SILENT, &[]);
+    let users = user(&rt, alloc, "*1;$4;INFO;");
+    let told = "$23;redis_mode:standalone;;";
+    check(&rt, alloc, 1, 1, ports, users, Ok(()), 1, told);
 }
 
 /// A SET over a link with these polls has these replies after so many turns.
@@ -195,8 +210,8 @@ fn a_failed_attach_ends_it(rt: HostRuntime) {
     check(&rt, alloc, 3, 3, ports, users, ended, 1, "");
 }
 
-/// Where a poll fails in the second turn the gateway ends, and both links are given back. What was
-/// replied before stands.
+/// Where a poll fails the gateway ends, and both links are given back. What was replied before
+/// stands. Of links over which no answer is awaited one is polled in a turn.
 #[test]
 fn a_failed_poll_ends_it(rt: HostRuntime) {
     let alloc = rt.alloc();
@@ -204,7 +219,7 @@ fn a_failed_poll_ends_it(rt: HostRuntime) {
     let ports = ports(&rt, alloc, polls, &[]);
     let users = user(&rt, alloc, "*1;$4;PING;");
     let ended = Err(GateError::LinkFault);
-    check(&rt, alloc, 2, 3, ports, users, ended, 2, "+PONG;");
+    check(&rt, alloc, 2, 4, ports, users, ended, 2, "+PONG;");
 }
 
 /// Where users fail as a whole the gateway ends, and its link is given back.

@@ -1,6 +1,8 @@
 //! A gateway in lines: what it takes, and below it what is done.
 
 use gate_core::{Act, Event, GateState};
+use kv_host::KvHost;
+use near_observer::NearObserver;
 use nop_types::{Bytes, Config};
 use std::alloc::Global;
 use std::process::Abort;
@@ -125,9 +127,9 @@ fn answered(rt: &impl Abort, alloc: Global, words: &str) -> Event {
 }
 
 /// A line of a script: `open USER`, `send USER TEXT`, `left USER`, `read USER`, `retry CORE`, `ask
-/// CORE OBSERVER USER`, `reassign CORE`, `idle 0`, or `reply REPLICA CLIENT ID RESULT` and `answer
-/// OBSERVER POSITION CLIENT ID RESULT`, which come to the core with the place of the client's
-/// number.
+/// CORE OBSERVER USER`, `reassign CORE`, `idle 0`, `hear HEX`, a datagram that comes to the place of
+/// an observer, or `reply REPLICA CLIENT ID RESULT` and `answer OBSERVER POSITION CLIENT ID RESULT`,
+/// which come to the core with the place of the client's number.
 fn event_of(rt: &impl Abort, alloc: Global, line: &str) -> Event {
     let (kind, rest) = line.split_once(' ').expect(rt, "a word");
     match kind {
@@ -155,6 +157,10 @@ fn event_of(rt: &impl Abort, alloc: Global, line: &str) -> Event {
             core: rest.parse::<usize>().expect(rt, "a core"),
         },
         "answer" => answered(rt, alloc, rest),
+        "hear" => Event::Watch {
+            now: 0,
+            datagram: Some(Bytes::from_vec(hex::decode(alloc, rest).expect(rt, "hex"))),
+        },
         "idle" => Event::Idle,
         _ => {
             let bytes = Bytes::from_vec(reply(rt, alloc, rest));
@@ -170,8 +176,26 @@ fn event_of(rt: &impl Abort, alloc: Global, line: &str) -> Event {
 /// indented; those that are say what is done.
 pub fn play(rt: &impl Abort, alloc: Global, cores: usize, observers: u8, script: &str) {
     let config = Config::new(3, 1, 1, 1, observers).expect(rt, "a group");
+    play_with(rt, alloc, config, cores, None, script);
+}
+
+/// So does one that reads at the place of the only observer.
+pub fn play_near(rt: &impl Abort, alloc: Global, cores: usize, script: &str) {
+    let config = Config::new(3, 1, 1, 1, 1).expect(rt, "a group");
+    let near = NearObserver::new(alloc, config, 0).expect(rt, "memory");
+    play_with(rt, alloc, config, cores, Some(near), script);
+}
+
+fn play_with(
+    rt: &impl Abort,
+    alloc: Global,
+    config: Config,
+    cores: usize,
+    near: Option<NearObserver<KvHost>>,
+    script: &str,
+) {
     assert!(rt; cores <= 16);
-    let mut gate = GateState::new(alloc, config, 0, cores).expect(rt, "memory");
+    let mut gate = GateState::new(alloc, config, 0, cores, None, near).expect(rt, "memory");
     let mut given = String::new(alloc);
     for line in script.lines() {
         if !line.starts_with("  ") {

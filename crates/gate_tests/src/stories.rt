@@ -1,6 +1,6 @@
 //! What is expected was worked out from the rules.
 
-use crate::scripts::play;
+use crate::scripts::{play, play_near};
 
 /// Two requests of a user in one piece: the second is read once the first is answered. A request that came in part is read when it is whole.
 const ORDER: &str = "\
@@ -165,6 +165,37 @@ answer 0 2 0 3 none
   1 $-1;
 ";
 
+/// Where the gateway has an observer's place, a read is replied at once, or waits until what its
+/// connection wrote was heard there: replica 0 leads, tells its log, and commits one slot.
+const NEAR: &str = "\
+open 0
+send 0 *2;$5;GETAT;$1;k;*3;$3;SET;$1;k;$1;v;*2;$5;GETAT;$1;k;*2;$5;GETAT;$1;j;
+read 0
+  0 $-1;
+read 0
+  0 submitted 1
+reply 0 0 1 none
+reply 1 0 1 none
+  0 accepted 1
+  0 +OK;
+read 0
+  0 waits again
+hear 4e4f030800000000000000000100000001170000000000000000000000000100000000000000010100000000000000000000000100075000016b000176
+ask 0 0 0
+  0 waits again
+open 1
+send 1 *2;$5;GETAT;$1;k;
+read 1
+  1 $-1;
+hear 4e4f030800000000000000000200000001190000000000000000000000000100000001
+ask 0 0 1
+ask 0 0 0
+  0 $1;v;
+ask 0 0 0
+read 0
+  0 $-1;
+";
+
 /// Without observers there are no reads of them.
 const ALONE: &str = "\
 open 0
@@ -199,6 +230,11 @@ fn reads_never_go_back(rt: HostRuntime) {
 #[test]
 fn cores_read_for_one_user_each(rt: HostRuntime) {
     play(&rt, rt.alloc(), 2, 2, CORES);
+}
+
+#[test]
+fn reads_at_its_own_place(rt: HostRuntime) {
+    play_near(&rt, rt.alloc(), 1, NEAR);
 }
 
 #[test]

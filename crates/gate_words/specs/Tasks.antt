@@ -1,5 +1,5 @@
 -- The task that words ask for.
-use Rattle.std.specs.Prelude.{ℕ, ◌+◌, ◌-◌, ◌^◌, ◌≤◌, ◌==◌, length, List, [], ◌∷◌, Option, Some, None, codes, if◌then◌else◌}
+use Rattle.std.specs.Prelude.{ℕ, ◌+◌, ◌-◌, ◌^◌, ◌≤◌, ◌==◌, nat_lt, length, List, [], ◌∷◌, Option, Some, None, codes, if◌then◌else◌}
 use Rattle.std.specs.Option.{option_copied}
 use Rattle.std.specs.declared.net.socket_addr.SocketAddr.{SocketAddr}
 use Rattle.oum_codec.specs.Numbers.{◌>>=◌}
@@ -14,9 +14,9 @@ use Rattle.gate_words.specs.declared.task.Site.{Site}
 use Rattle.gate_words.specs.declared.task.Site.TheVariants.{Near, Listed}
 use Rattle.gate_words.specs.declared.task.Task.{Task}
 
--- a service on this machine, or the texts of a list's file and of a folder of marks
+-- a service on this machine, and the observer at whose place it is watched, if it is; or the texts of a list's file and of a folder of marks
 pub data Place : Type 0 where
-  AtPorts : Service → Place
+  AtPorts : Service → (observer : Option ℕ) → Place
   AtHosts : List ℕ → Option (List ℕ) → Place
 
 pub record Asked : Type 0 where
@@ -26,7 +26,7 @@ pub record Asked : Type 0 where
 
 -- a task, with its texts themselves
 abbrev pub place_seen : Site → Place
-place_seen (Near service) = AtPorts service
+place_seen (Near service observer) = AtPorts service observer
 place_seen (Listed list marks) = AtHosts list.now (option_copied marks)
 
 abbrev pub seen : Task → Asked
@@ -58,7 +58,7 @@ asked listen place first count = do
 abbrev pub asked_at : List ℕ → Option Service → List ℕ → List ℕ → Option Asked
 asked_at listen service first count = do
   s ← service
-  asked listen (AtPorts s) first count
+  asked listen (AtPorts s None) first count
 
 -- with so many observers
 abbrev pub observed : Option Service → List ℕ → Option Service
@@ -66,6 +66,19 @@ observed service observers = do
   s ← service
   n ← number_in 0 MAX_OBSERVERS observers
   Some (record s { config = record s.config { observers = n } })
+
+-- a service, and one of its observers
+abbrev pub watched : Option Service → List ℕ → Option (Service × ℕ)
+watched service own = do
+  s ← service
+  i ← number_in 0 MAX_OBSERVERS own
+  if nat_lt i s.config.observers then Some (s, i) else None
+
+-- watched at the place of an observer
+abbrev pub watched_at : List ℕ → Option Service → List ℕ → List ℕ → List ℕ → Option Asked
+watched_at listen service own first count = do
+  w ← watched service own
+  asked listen (AtPorts w.0 (Some w.1)) first count
 
 -- a service on this machine, with observers
 abbrev pub of_eight : List ℕ → List ℕ → List ℕ → List ℕ → List ℕ → List ℕ → List ℕ → List ℕ → Option Asked
@@ -85,6 +98,37 @@ abbrev pub observed_task : List (List ℕ) → Option Asked
 observed_task (program ∷ listen ∷ port ∷ replicas ∷ sequencers ∷ rest) = observed_at listen port replicas sequencers rest
 observed_task words = None
 
+-- one of their places is the gateway's own
+abbrev pub of_place : List ℕ → Service → List ℕ → List ℕ → List ℕ → List ℕ → Option Asked
+of_place listen service at own first count =
+    if is_text (codes "--at") at then watched_at listen (Some service) own first count else None
+
+-- the words after their number
+abbrev pub own_place_behind : List ℕ → Service → List (List ℕ) → Option Asked
+own_place_behind listen service (at ∷ own ∷ first ∷ count ∷ []) = of_place listen service at own first count
+own_place_behind listen service words = None
+
+abbrev pub with_own_place : List ℕ → Option Service → List (List ℕ) → Option Asked
+with_own_place listen service words = do
+  s ← service
+  own_place_behind listen s words
+
+abbrev pub own_place_by : List ℕ → Service → List ℕ → List ℕ → List (List ℕ) → Option Asked
+own_place_by listen service option observers words =
+    if is_text (codes "--observers") option then with_own_place listen (observed (Some service) observers) words else None
+
+-- the words after the first four
+abbrev pub own_place_at : List ℕ → Service → List (List ℕ) → Option Asked
+own_place_at listen service (option ∷ observers ∷ words) = own_place_by listen service option observers words
+own_place_at listen service words = None
+
+-- ten words behind the program's name
+abbrev pub own_place_task : List (List ℕ) → Option Asked
+own_place_task (program ∷ listen ∷ port ∷ replicas ∷ sequencers ∷ rest) = do
+  s ← service_of port replicas sequencers
+  own_place_at listen s rest
+own_place_task words = None
+
 -- six words behind the program's name, or four
 abbrev pub plain_task : List (List ℕ) → Option Asked
 plain_task (program ∷ listen ∷ a ∷ b ∷ c ∷ first ∷ count ∷ []) =
@@ -95,4 +139,5 @@ plain_task (program ∷ listen ∷ list ∷ first ∷ count ∷ []) = asked list
 plain_task words = None
 
 abbrev pub task_of : List (List ℕ) → Option Asked
-task_of words = if length words == 9 then observed_task words else plain_task words
+task_of words =
+    if length words == 9 then observed_task words else if length words == 11 then own_place_task words else plain_task words

@@ -2,8 +2,10 @@
 
 ghost use Rattle.std.specs.Prelude.{◌≡◌, None, Some, IfSome, option_map, map, string_bytes};
 ghost use Rattle.gate_words.specs.Tasks.{AreBelow, AtHosts, asked, asked_at, ends_of, numbers_of, observed};
-ghost use Rattle.gate_words.specs.Tasks.{observed_at, observed_task, of_eight, plain_task, seen};
-ghost use Rattle.gate_words.specs.Tasks.{task_of};
+ghost use Rattle.gate_words.specs.Tasks.{observed_at, observed_task, of_eight, of_place};
+ghost use Rattle.gate_words.specs.Tasks.{own_place_at, own_place_behind, own_place_by};
+ghost use Rattle.gate_words.specs.Tasks.{own_place_task, plain_task, seen, task_of, watched};
+ghost use Rattle.gate_words.specs.Tasks.{watched_at};
 ghost use Rattle.call_words.specs.Services.{service_of};
 
 use crate::task::{MAX_NUMBERS, Numbers, Site, Task};
@@ -66,7 +68,47 @@ fn at_ports<'a>(listen: &str, service: Service, first: &str, count: &str) -> Opt
     let (listen, numbers) = ends_of(listen, first, count)?;
     Some(Task {
         listen,
-        site: Site::Near(service),
+        site: Site::Near {
+            service,
+            observer: None,
+        },
+        numbers,
+    })
+}
+
+/// The service, and one of its observers.
+fn watched(service: Service, own: &[u8]) -> Option<(Service, u8)>
+    ensures { result ≡ watched (Some service) own.now }
+{
+    let own = number_in(0, u64::from(MAX_OBSERVERS), own)?;
+    let own = own as u8;
+    if own < service.config.observers() {
+        Some((service, own))
+    } else {
+        None
+    }
+}
+
+/// A task of this service on this machine, watched at the place of an observer.
+fn watched_at<'a>(
+    listen: &str,
+    service: Service,
+    own: &str,
+    first: &str,
+    count: &str,
+) -> Option<Task<'a>>
+    ensures task { option_map seen result
+        ≡ watched_at listen.now (Some service) own.now first.now count.now }
+    ensures below { IfSome result (λ task. AreBelow task.numbers) }
+{
+    let (service, own) = watched(service, own.as_bytes())?;
+    let (listen, numbers) = ends_of(listen, first, count)?;
+    Some(Task {
+        listen,
+        site: Site::Near {
+            service,
+            observer: Some(own),
+        },
         numbers,
     })
 }
@@ -194,6 +236,76 @@ fn observed_at<'a>(
     )
 }
 
+/// A task of this service on this machine, by the four words after the number of observers.
+fn of_place<'a>(
+    listen: &str,
+    service: Service,
+    at: &str,
+    own: &str,
+    first: &str,
+    count: &str,
+) -> Option<Task<'a>>
+    ensures task { option_map seen result
+        ≡ of_place listen.now service at.now own.now first.now count.now }
+    ensures below { IfSome result (λ task. AreBelow task.numbers) }
+{
+    if is_word(at.as_bytes(), "--at") {
+        watched_at(listen, service, own, first, count)
+    } else {
+        None
+    }
+}
+
+/// A task of this service on this machine, by the words after the number of observers.
+fn own_place_behind<'a>(listen: &str, service: Service, rest: &[String]) -> Option<Task<'a>>
+    ensures task { option_map seen result
+        ≡ own_place_behind listen.now service (map string_bytes rest.now) }
+    ensures below { IfSome result (λ task. AreBelow task.numbers) }
+{
+    let [at, own, first, count] = rest else {
+        return None;
+    };
+    of_place(
+        listen,
+        service,
+        at.as_str(),
+        own.as_str(),
+        first.as_str(),
+        count.as_str(),
+    )
+}
+
+/// A task of a service on this machine, by the option of observers and the words after it.
+fn own_place_by<'a>(
+    listen: &str,
+    service: Service,
+    option: &str,
+    observers: &str,
+    rest: &[String],
+) -> Option<Task<'a>>
+    ensures task { option_map seen result ≡ own_place_by listen.now service option.now
+        observers.now (map string_bytes rest.now) }
+    ensures below { IfSome result (λ task. AreBelow task.numbers) }
+{
+    if !is_word(option.as_bytes(), "--observers") {
+        return None;
+    }
+    let service = with_observers(service, observers.as_bytes())?;
+    own_place_behind(listen, service, rest)
+}
+
+/// A task of ten words: those after the first four.
+fn own_place_at<'a>(listen: &str, service: Service, rest: &[String]) -> Option<Task<'a>>
+    ensures task { option_map seen result
+        ≡ own_place_at listen.now service (map string_bytes rest.now) }
+    ensures below { IfSome result (λ task. AreBelow task.numbers) }
+{
+    let [option, observers, rest @ ..] = rest else {
+        return None;
+    };
+    own_place_by(listen, service, option.as_str(), observers.as_str(), rest)
+}
+
 /// A task of eight words behind the program's name.
 fn observed_task<'a>(words: &[String]) -> Option<Task<'a>>
     ensures task { option_map seen result ≡ observed_task (map string_bytes words.now) }
@@ -209,6 +321,18 @@ fn observed_task<'a>(words: &[String]) -> Option<Task<'a>>
         sequencers.as_str(),
         rest,
     )
+}
+
+/// A task of ten words behind the program's name.
+fn own_place_task<'a>(words: &[String]) -> Option<Task<'a>>
+    ensures task { option_map seen result ≡ own_place_task (map string_bytes words.now) }
+    ensures below { IfSome result (λ task. AreBelow task.numbers) }
+{
+    let [_, listen, port, replicas, sequencers, rest @ ..] = words else {
+        return None;
+    };
+    let service = service_of(port.as_bytes(), replicas.as_bytes(), sequencers.as_bytes())?;
+    own_place_at(listen.as_str(), service, rest)
 }
 
 /// A task of six words behind the program's name, or of four.
@@ -243,6 +367,8 @@ pub fn task_of(words: &[String]) -> Option<Task<'_>>
 {
     if words.len() == 9 {
         observed_task(words)
+    } else if words.len() == 11 {
+        own_place_task(words)
     } else {
         plain_task(words)
     }

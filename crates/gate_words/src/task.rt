@@ -11,8 +11,12 @@ const _: () = prove!(MAX_NUMBERS == 16);
 /// Where a service is.
 #[derive(Clone, Copy, Debug)]
 pub enum Site<'a> {
-    /// On this machine.
-    Near(Service),
+    /// On this machine. With an observer, the gateway watches it at the place of that one, which no
+    /// observer has then.
+    Near {
+        service: Service,
+        observer: Option<u8>,
+    },
     /// Where the list of hosts in a file says. With a folder, marks of the numbers are made there.
     Listed {
         list: &'a str,

@@ -5,29 +5,15 @@ ghost use Rattle.gate_words.specs.Tasks.{AreBelow};
 use crate::running::serve_over;
 use crate::status::Status;
 use crate::texts::{write_refusal, write_usage};
-use admission::Own;
 use client_call::Service;
 use gate_words::Numbers;
 use host_list::HostList;
-use host_places::{address_in, is_marked, own_of, places_of};
-use nop_types::{Actor, NoMemory};
-use std::alloc::Global;
+use host_places::{address_in, has_clients, homes_of, is_marked, own_of, places_of};
+use nop_types::Actor;
 use std::fs;
 use std::io::ErrorKind;
 use std::net::SocketAddr;
-use udp_node::Address;
-use udp_ports::{Home, Place, UdpPorts};
-
-/// Whether the list has a place for each of the numbers.
-fn has_places(list: &HostList, numbers: Numbers) -> bool {
-    for i in 0..numbers.count {
-        let client = Actor::Client(numbers.first.saturating_add(i));
-        if list.address_of(client).is_none() {
-            return false;
-        }
-    }
-    true
-}
+use udp_ports::UdpPorts;
 
 /// Makes the marks of the numbers. Whether each was made.
 fn have_marked(rt: &HostRuntime, folder: &str, cluster: u64, numbers: Numbers) -> bool {
@@ -41,26 +27,6 @@ fn have_marked(rt: &HostRuntime, folder: &str, cluster: u64, numbers: Numbers) -
         }
     }
     true
-}
-
-/// Where each of the numbers is.
-fn homes_of<'a>(
-    alloc: Global,
-    places: &'a [Place],
-    at: &Address,
-    own: Own,
-    numbers: Numbers,
-) -> Result<Vec<Home<'a>>, NoMemory> {
-    let mut homes = Vec::new(alloc);
-    for i in 0..numbers.count {
-        let actor = Actor::Client(numbers.first.saturating_add(i));
-        homes.push(Home {
-            places,
-            port: at.port_of(actor),
-            own: Own { actor, ..own },
-        })?;
-    }
-    Ok(homes)
 }
 
 /// Runs a gateway by a list that was read, once the marks of its numbers are made, where there are to be some.
@@ -80,7 +46,8 @@ fn run_at(
     let Ok(places) = places_of(rt.alloc(), list, &at) else {
         return Status::NoMemory;
     };
-    let Ok(homes) = homes_of(rt.alloc(), &places, &at, own, numbers) else {
+    let homes = homes_of(rt.alloc(), &places, &at, own, numbers.first, numbers.count);
+    let Ok(homes) = homes else {
         return Status::NoMemory;
     };
     if let Some(folder) = marks {
@@ -93,7 +60,7 @@ fn run_at(
         config: at.config,
     };
     let ports = UdpPorts::at_hosts(rt, rt.alloc(), &homes);
-    serve_over(rt, listen, numbers, &service, ports)
+    serve_over(rt, listen, numbers, None, &service, ports)
 }
 
 /// Runs a gateway by the list in a file.
@@ -114,7 +81,7 @@ pub(crate) fn run_at_hosts(
     };
     match host_list::read(&text) {
         Err(refusal) => write_refusal(rt.alloc(), &mut writer, refusal),
-        Ok(list) if !has_places(&list, numbers) => write_usage(&mut writer),
+        Ok(list) if !has_clients(&list, numbers.first, numbers.count) => write_usage(&mut writer),
         Ok(list) => run_at(rt, listen, numbers, &list, marks),
     }
 }

@@ -1,7 +1,7 @@
 //! The program `kv_gate`: a gateway to the key-value store, for users who speak the protocol of Redis (RESP 2).
 //!
-//!     kv_gate LISTEN PORT REPLICAS SEQUENCERS [--observers M] FIRST COUNT
-//!         the nodes are on this machine
+//!     kv_gate LISTEN PORT REPLICAS SEQUENCERS [--observers M [--at K]] FIRST COUNT
+//!         the nodes are on this machine; with `--at` it watches them at the place of observer K, and says in INFO what it sees
 //!     kv_gate LISTEN LIST [--marks FOLDER] FIRST COUNT
 //!         they are where a list of hosts says
 //!

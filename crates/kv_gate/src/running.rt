@@ -7,17 +7,19 @@ use crate::status::Status;
 use crate::texts::write_usage;
 use crate::waking::WakingPorts;
 use client_call::Service;
-use gate::{GateError, serve};
+use gate::{GateError, Seats, serve};
 use gate_words::{Numbers, Site, Task, task_of};
 use std::net::SocketAddr;
 use tcp_users::TcpUsers;
 use udp_ports::{SystemClock, UdpPorts};
 
-/// Answers users until a device fails.
+/// Answers users, and watches the service at the place of an observer, if it is to, until a device
+/// fails.
 pub(crate) fn serve_over(
     rt: &HostRuntime,
     listen: SocketAddr,
     numbers: Numbers,
+    observer: Option<u8>,
     service: &Service,
     ports: UdpPorts<'_, HostRuntime>,
 ) -> Status
@@ -31,11 +33,15 @@ pub(crate) fn serve_over(
     };
     let mut ports = WakingPorts::new(ports.without_waits(), registry);
     let mut clock = SystemClock::new(rt);
+    let seats = Seats {
+        first: numbers.first,
+        count: numbers.count as usize,
+        observer,
+    };
     let ended = serve(
         rt.alloc(),
         service,
-        numbers.first,
-        numbers.count as usize,
+        seats,
         u64::MAX,
         &mut ports,
         &mut users,
@@ -59,9 +65,9 @@ pub(crate) fn run(rt: &HostRuntime, words: &[String]) -> Status {
         numbers,
     } = task;
     match site {
-        Site::Near(service) => {
+        Site::Near { service, observer } => {
             let ports = UdpPorts::new(rt, rt.alloc());
-            serve_over(rt, listen, numbers, &service, ports)
+            serve_over(rt, listen, numbers, observer, &service, ports)
         }
         Site::Listed { list, marks } => run_at_hosts(rt, listen, numbers, list, marks),
     }

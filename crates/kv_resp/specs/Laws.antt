@@ -1,6 +1,6 @@
 -- Proofs: nothing here has to be believed.
 -- What the replies say of the map.
-use Rattle.std.proofs.Common.{◌≡◌, ℕ, Bool, true, false, cond, List, [], ◌∷◌, ◌++◌, Option, Some, None, refl, sym, ap, subst, ◌∙◌, arith, length}
+use Rattle.std.proofs.Common.{◌≡◌, ℕ, Bool, true, false, cond, List, [], ◌∷◌, ◌++◌, Option, Some, None, refl}
 use Rattle.std.specs.Prelude.{codes, is_some, ◌&&◌, ◌||◌}
 use Rattle.std.proofs.lemmas.Bool.{and_parts}
 use Rattle.std.specs.FinMap as finite
@@ -16,8 +16,8 @@ use Rattle.kv_resp.specs.declared.demand.Form.TheVariants.{Value, Stored, Presen
 use Rattle.kv_resp.specs.Results.{reply_to}
 use Rattle.kv_spelling.specs.Spell.{fits_key, fits_value}
 use Rattle.kv_spelling.specs.Laws.{key_fits, value_fits}
-use Rattle.kv_resp.specs.Table.{Action, Execute, ReadAt, Answer, End, key_action, put_action, read_action, swap_action, option_action, selected}
-use Rattle.kv_resp.specs.Table.{with_any, alone, with_one, with_two, with_three, asked, is_word, unknown, bad_key, bad_value}
+use Rattle.kv_resp.specs.Table.{Action, Execute, ReadAt, Info, Answer, End}
+use Rattle.kv_resp.specs.Table.{with_any, with_one, with_two, with_three, asked, is_word, bad_key, bad_value}
 
 -- ---- results
 
@@ -101,6 +101,7 @@ pub record IsOp (bytes : List ℕ) : Type 0 where
 abbrev pub IsSpelled : Action → Type 0
 IsSpelled (Execute bytes form) = IsOp bytes
 IsSpelled (ReadAt key) = KeyFits key
+IsSpelled Info = Unit {0}
 IsSpelled (Answer reply) = Unit {0}
 IsSpelled (End reply) = Unit {0}
 

@@ -4,7 +4,7 @@ use Rattle.std.specs.Str.{str_eq_ignore_ascii_case}
 use Rattle.kv_host.specs.declared.op.TheConstants.{GET, PUT, DELETE, SWAP}
 use Rattle.kv_host.specs.Spelling.{field}
 use Rattle.kv_spelling.specs.Spell.{fits_key, fits_value}
-use Rattle.resp.specs.Spelling.{bulk, line_end}
+use Rattle.resp.specs.Spelling.{bulk}
 use Rattle.resp.specs.Replies.{simple, error, no_elements}
 use Rattle.kv_resp.specs.declared.demand.Form.{Form}
 use Rattle.kv_resp.specs.declared.demand.Form.TheVariants.{Value, Stored, Presence, Swapped}
@@ -14,6 +14,8 @@ pub data Action : Type 0 where
   Execute : (op : List ℕ) → (form : Form) → Action
   -- an observer's result for this key is replied in the form of a value
   ReadAt : (key : List ℕ) → Action
+  -- what is known of the cluster is replied
+  Info : Action
   -- these bytes are replied
   Answer : (reply : List ℕ) → Action
   -- they are replied, and the connection ends
@@ -65,7 +67,7 @@ with_any word =
     if is_word word (codes "quit") then End (simple (codes "OK"))
     else if is_word word (codes "client") then done
     else if is_word word (codes "command") || is_word word (codes "config") then Answer no_elements
-    else if is_word word (codes "info") then Answer (bulk (codes "redis_mode:standalone" ++ line_end))
+    else if is_word word (codes "info") then Info
     else unknown
 
 abbrev pub alone : List ℕ → Action

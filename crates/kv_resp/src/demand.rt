@@ -21,6 +21,8 @@ pub enum Demand<'a> {
     Execute(Op, Form),
     /// An observer's result for a key, in the form of a value.
     ReadAt(Key),
+    /// What is known of the cluster.
+    Info,
     /// A reply, and nothing of the service.
     Answer(Reply<'a>),
     /// A reply, and that the connection ends.

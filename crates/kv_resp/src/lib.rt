@@ -7,7 +7,8 @@
 //! | `DEL k`; `GETDEL k` | delete | 1 or 0; the former value or nil |
 //! | `CAS k old new` | swap | 1 or 0 |
 //! | `GETAT k` | none: a read of an observer | the value or nil |
-//! | `PING`, `PING text`, `ECHO text`, `SELECT 0`, `QUIT ..`, `CLIENT ..`, `COMMAND ..`, `CONFIG ..`, `INFO ..` | none | what clients of Redis expect |
+//! | `INFO ..` | none | what is known of the cluster, as the caller says |
+//! | `PING`, `PING text`, `ECHO text`, `SELECT 0`, `QUIT ..`, `CLIENT ..`, `COMMAND ..`, `CONFIG ..` | none | what clients of Redis expect |
 //!
 //! Commands and the option are words in letters of any case. All else is answered with an error, and nothing of it is done: other
 //! commands, other numbers of arguments, other options, keys and values that no op may have, and puts that are answered `full`.

@@ -129,7 +129,7 @@ fn with_any<'a>(word: &[u8]) -> Demand<'a>
     } else if is_word(word, "command") || is_word(word, "config") {
         Demand::Answer(Reply::Empty)
     } else if is_word(word, "info") {
-        Demand::Answer(Reply::Bulk(b"redis_mode:standalone\r\n"))
+        Demand::Info
     } else {
         unknown()
     }

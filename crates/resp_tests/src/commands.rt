@@ -5,7 +5,8 @@ use std::alloc::Global;
 use std::process::Abort;
 
 /// A request, and what it asks for: a letter of the form and the bytes of an op, `@` and the key of
-/// a read, or the bytes of a reply, after `.` where the connection ends.
+/// a read, `?` for what is known of the cluster, or the bytes of a reply, after `.` where the
+/// connection ends.
 const REQUESTS: [(&[&str], &[u8]); 48] = [
     (&["GET", "k"], b"V G\0\x01k"),
     (&["get", "kk"], b"V G\0\x02kk"),
@@ -32,8 +33,8 @@ const REQUESTS: [(&[&str], &[u8]); 48] = [
     (&["COMMAND"], b"*0\r\n"),
     (&["COMMAND", "DOCS"], b"*0\r\n"),
     (&["CONFIG", "GET", "save"], b"*0\r\n"),
-    (&["INFO"], b"$23\r\nredis_mode:standalone\r\n\r\n"),
-    (&["INFO", "server"], b"$23\r\nredis_mode:standalone\r\n\r\n"),
+    (&["INFO"], b"?"),
+    (&["info", "server"], b"?"),
     (&["SELECT", "1"], b"-ERR DB index is out of range\r\n"),
     (&["GET", ""], b"-ERR a key has 1 to 64 bytes\r\n"),
     (&["GETAT", ""], b"-ERR a key has 1 to 64 bytes\r\n"),
@@ -107,6 +108,7 @@ fn put_demand(rt: &impl Abort, demand: &Demand<'_>, to: &mut Vec<u8>) {
             put(rt, b"@", to);
             put(rt, key.as_slice(), to);
         }
+        Demand::Info => put(rt, b"?", to),
         Demand::Answer(reply) => put_reply(*reply, to).expect(rt, "memory"),
         Demand::End(reply) => {
             put(rt, b".", to);

@@ -104,16 +104,24 @@ fn put_round(watch: &mut Watch, now: u64, to: &mut Vec<u8>) -> Result<(), NoMemo
 /// The cursor goes to the first place of a screen, and all that stands on it is erased.
 const CLEARING: &[u8; 6] = b"\x1b[H\x1b[J";
 
-/// The lines of what was shown last, on a screen from which all else is erased.
-fn put_screen(watch: &Watch, to: &mut Vec<u8>) -> Result<(), NoMemory>
-    ensures { OnOk result (to.new.items ≡ to.old.items ++ (clearing ++ last_lines watch.now)) }
+/// Appends the lines of what was shown last: of the change, of how nodes stand, of the warning and
+/// of the state, each where there is one.
+pub fn put_last_lines(watch: &Watch, to: &mut Vec<u8>) -> Result<(), NoMemory>
+    ensures { OnOk result (to.new.items ≡ to.old.items ++ last_lines watch.now) }
 {
     let replicas = watch.replicas();
-    to.extend_from_slice(CLEARING)?;
     put_change(replicas, watch.changed(), to)?;
     watch.roll().put_standings(to)?;
     put_warning(watch.warned(), to)?;
     put_state(replicas, watch.shown(), to)
+}
+
+/// The lines of what was shown last, on a screen from which all else is erased.
+fn put_screen(watch: &Watch, to: &mut Vec<u8>) -> Result<(), NoMemory>
+    ensures { OnOk result (to.new.items ≡ to.old.items ++ (clearing ++ last_lines watch.now)) }
+{
+    to.extend_from_slice(CLEARING)?;
+    put_last_lines(watch, to)
 }
 
 /// What is written where these lines are to be shown.

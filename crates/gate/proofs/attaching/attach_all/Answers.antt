@@ -1,6 +1,6 @@
 use Rattle.std.proofs.Common.{◌≡◌, ◌∙◌, refl, sym, subst, ap, arith, length}
 use Rattle.outside.proofs.Counts.{counts_none}
-use Rattle.gate.specs.Attaching.{AreNew}
+use Rattle.gate.specs.Attaching.{AreNew, seat_count}
 use Rattle.gate.specs.Sides.{lines_seen}
 use Rattle.gate.proofs.AttachingLemmas.{new_none, new_more, left_none, left_after, room_stays, room_more, holds_stays, holds_more}
 use Rattle.gate.proofs.attaching.attach_all.Goals as goal
@@ -56,7 +56,7 @@ loop-i-preserved g c =
 
 pub returns-clause-attaches : goal.returns-clause-attaches
 returns-clause-attaches g c =
-    let all : c.loop-i.i ≡ c.args.count = omega arith in
+    let all : c.loop-i.i ≡ seat_count c.args.seats.observer c.args.seats.count = omega (arith, c.seat_count-i-end.ensures) in
     record {
       are = subst (λ n. AreNew n (g.P.Ports.to_come c.args.ports.now) (lines_seen g.P.L.Link c.loop-i.lines.items)) all c.loop-i.invariant.are;
       given = c.loop-i.invariant.given;

@@ -7,7 +7,7 @@ use Rattle.gate.proofs.serving.serve.Goals as goal
 
 pub returns-in-Ok-clause-serves : goal.returns-in-Ok-clause-serves
 returns-in-Ok-clause-serves g c =
-    subst (λ (s : GateState). Serves g.P.L.Link s c.args.count (g.P.Ports.to_come c.args.ports.now) c.serve_from.result
+    subst (λ (s : GateState). Serves g.P.L.Link s c.args.seats.observer c.args.seats.count (g.P.Ports.to_come c.args.ports.now) c.serve_from.result
     (users_seen g.U.Users c.args.users.now) (users_seen g.U.Users c.serve_from.new.users) (g.P.Ports.detached c.args.ports.now)
     (g.P.Ports.detached c.serve_from.new.ports))
     c.in-Ok.ensures c.serve_from.ensures.serves

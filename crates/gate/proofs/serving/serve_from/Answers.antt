@@ -9,7 +9,7 @@ use Rattle.gate.proofs.serving.serve_from.Goals as goal
 
 pub returns-in-Ok-clause-serves : goal.returns-in-Ok-clause-serves
 returns-in-Ok-clause-serves g c =
-    served g.P.L.Link c.args.state c.args.count (g.P.Ports.to_come c.args.ports.now) c.serve_over.result (users_seen g.U.Users c.args.users.now)
+    served g.P.L.Link c.args.state c.args.seats.observer c.args.seats.count (g.P.Ports.to_come c.args.ports.now) c.serve_over.result (users_seen g.U.Users c.args.users.now)
     (users_seen g.U.Users c.serve_over.new.users) (g.P.Ports.detached c.args.ports.now) (g.P.Ports.detached c.attach_all.new.ports)
     (g.P.Ports.detached c.serve_over.new.ports) (lines_seen g.P.L.Link c.attach_all.new.lines.items) c.in-Ok.ensures.attaches.are
     c.in-Ok.ensures.attaches.given c.serve_over.ensures.runs
@@ -18,7 +18,8 @@ pub returns-in-Ok-clause-attaches : goal.returns-in-Ok-clause-attaches
 returns-in-Ok-clause-attaches g c =
     counts_none _ _ _ (c.serve_over.ensures.faults ∙ c.in-Ok.ensures.count.others (λ failed. cc))
     (over_no_port_fault g.P.L.Link c.serve_over.result
-    (seen c.args.state (users_seen g.U.Users c.args.users.now) (lines_seen g.P.L.Link c.attach_all.new.lines.items))
+    (seen c.args.state (users_seen g.U.Users c.args.users.now)
+    (record { cores = c.args.seats.count; links = lines_seen g.P.L.Link c.attach_all.new.lines.items }))
     (users_seen g.U.Users c.serve_over.new.users) (g.P.Ports.detached c.attach_all.new.ports) (g.P.Ports.detached c.serve_over.new.ports)
     c.serve_over.ensures.runs)
 
@@ -28,7 +29,7 @@ returns-in-Ok-clause-back g c =
 
 pub returns-in-Err-clause-serves : goal.returns-in-Err-clause-serves
 returns-in-Err-clause-serves g c =
-    unserved g.P.L.Link c.args.state c.args.count (g.P.Ports.to_come c.args.ports.now) c.in-Err.e c.port_fault.result
+    unserved g.P.L.Link c.args.state c.args.seats.observer c.args.seats.count (g.P.Ports.to_come c.args.ports.now) c.in-Err.e c.port_fault.result
     (users_seen g.U.Users c.args.users.now) (g.P.Ports.detached c.args.ports.now) (g.P.Ports.detached c.detach_all.new.ports)
     c.port_fault.ensures
 

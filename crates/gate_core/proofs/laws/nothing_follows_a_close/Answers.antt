@@ -5,6 +5,6 @@ use Rattle.gate_core.proofs.Served.{none_first}
 use Rattle.gate_core.proofs.laws.nothing_follows_a_close.Goals as goal
 
 pub returns : goal.returns
-returns c = λ config first count before later user has.
-    gone_silent user later (after (opening config first count) before)
-    (closed_after user before (opening config first count) (λ _. none_first config first count user) has)
+returns c = λ config first count watch near before later user has.
+    gone_silent user later (after (opening config first count watch near) before)
+    (closed_after user before (opening config first count watch near) (λ _. none_first config first count watch near user) has)

@@ -10,4 +10,4 @@ returns g c =
     let x = c.index_mut-line.result.now in
     let within : c.args.core < length ys = omega (arith, c.if-core-len.false, c.len.ensures, c.args.self.now.lines.ok.0) in
     let found : slice_get ys c.args.core ≡ Some x = slice_get_read ys (length ys) c.args.core x refl within c.index_mut-line.ensures.value in
-    line_sent g.L.Link ys c.args.core x _ found c.send.ensures.answers c.send.ensures.faults
+    line_sent g.L.Link c.args.self.now.cores ys c.args.core x _ found c.send.ensures.answers c.send.ensures.faults

@@ -16,3 +16,7 @@ returns-in-Err g c =
 pub returns-then-not-here : goal.returns-then-not-here
 returns-then-not-here g c =
     ran_then _ _ _ c.loop.invariant c.in-Ok.ensures
+
+pub returns-then-not-is_polled : goal.returns-then-not-is_polled
+returns-then-not-is_polled g c =
+    c.loop.invariant

@@ -1,0 +1,6 @@
+use Rattle.gate.proofs.Running.{runs_then}
+use Rattle.gate.proofs.site.Site.tick_and_take.Goals as goal
+
+pub returns-in-Ok : goal.returns-in-Ok
+returns-in-Ok g c =
+    runs_then c.read_and_take.result _ _ _ c.in-Ok.ensures c.read_and_take.ensures

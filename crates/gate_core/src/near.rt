@@ -1,0 +1,62 @@
+//! The observer in the gateway's own process: what it hears, and what is read at it.
+
+ghost use Rattle.std.specs.Prelude.{◌≡◌, option_map, IfOk, OnOk};
+ghost use Rattle.gate_core.specs.Gates.{heard_if, heard_near, looked, near_answer};
+
+use kv_host::KvHost;
+use near_observer::NearObserver;
+use nop_types::{Bytes, Key, NoMemory};
+
+/// What a near observer answers to the read of a key, and its position.
+#[derive(Debug, Drop)]
+pub struct NearAnswer {
+    pub position: u32,
+    pub result: Bytes,
+}
+
+fn hear_one(near: &mut NearObserver<KvHost>, datagram: Option<&Bytes>) -> Result<(), NoMemory>
+    ensures { OnOk result (near.new
+        ≡ heard_if near.old (option_map (λ d. d.now) datagram.entry)) }
+{
+    match datagram {
+        Some(bytes) => near.hear(bytes.as_slice()),
+        None => Ok(()),
+    }
+}
+
+/// The near observer hears a datagram, if one came and there is one.
+pub(crate) fn hear(
+    near: &mut Option<NearObserver<KvHost>>,
+    datagram: Option<&Bytes>,
+) -> Result<(), NoMemory>
+    ensures { OnOk result (near.new
+        ≡ heard_near near.old (option_map (λ d. d.now) datagram.entry)) }
+{
+    match near {
+        Some(near) => hear_one(near, datagram),
+        None => Ok(()),
+    }
+}
+
+fn read_one(near: &mut NearObserver<KvHost>, key: &Key) -> Result<NearAnswer, NoMemory>
+    ensures same { OnOk result (near.new ≡ near.old) }
+    ensures answer { IfOk result (λ a. a ≡ near_answer near.old key.now) }
+{
+    let position = near.position();
+    let result = near.read(key)?;
+    Ok(NearAnswer { position, result })
+}
+
+/// The key is read at the near observer, if there is one.
+pub(crate) fn look(
+    near: &mut Option<NearObserver<KvHost>>,
+    key: &Key,
+) -> Result<Option<NearAnswer>, NoMemory>
+    ensures same { OnOk result (near.new ≡ near.old) }
+    ensures answer { IfOk result (λ a. a ≡ looked near.old key.now) }
+{
+    match near {
+        Some(near) => Ok(Some(read_one(near, key)?)),
+        None => Ok(None),
+    }
+}
