@@ -42,4 +42,8 @@ answers 6 '=v7' put k7 w
 answers 7 =w get k7
 kills s0
 answers 8 =w get k7
+# a client of other nodes says what may be wrong
+timeout 6 python3 -B examples/client.py $((base + 100)) 3 2 9 get k7 > "$folder/out" 2> "$folder/err"
+same 'a client of no nodes' $? 124 \
+    'no answer yet: do nodes run with BASE, REPLICAS and SEQUENCERS, and had no client NUMBER before?' err
 concludes

@@ -5,6 +5,7 @@
 
 The ops are `put KEY VALUE`, `get KEY` and `delete KEY`, one behind the other, up to eight of them under way at a time; their answers come a
 line each, in the order of the ops. NUMBER is one that no client of this cluster had before. Status 1: some op had no answer within a minute.
+Where nothing is answered for four seconds, it says on standard error what may be wrong.
 """
 
 import select
@@ -18,6 +19,7 @@ REQUEST = struct.Struct(">4sIQH")
 REPLY = struct.Struct(">4sBIQIIQBH")
 RETRY_SECONDS = 0.2
 MOST_SECONDS = 60
+DOUBT_SECONDS = 4
 WINDOW = 8
 MOST_RESULT_BYTES = 257
 
@@ -121,11 +123,15 @@ def main(words):
     ops = ops_of(words[4:])
     client = Client(*(int(word) for word in words[:4]))
     end = time.monotonic() + MOST_SECONDS
+    doubt = time.monotonic() + DOUBT_SECONDS
     waiting = list(ops)
     while (waiting or client.open) and time.monotonic() < end:
         while waiting and client.has_room():
             client.submit(waiting.pop(0))
         client.serve()
+        if not client.answers and time.monotonic() >= doubt:
+            print("no answer yet: do nodes run with BASE, REPLICAS and SEQUENCERS, and had no client NUMBER before?", file=sys.stderr)
+            doubt = end
     for number in range(1, len(ops) + 1):
         print(client.answers.get(number, b"(no answer)").decode(errors="backslashreplace"))
     sys.exit(len(client.answers) != len(ops))
