@@ -1,6 +1,6 @@
 //! Clients of one process, whose numbers are one above the other.
 
-ghost use Rattle.std.specs.Prelude.{◌≡◌, ◌+◌, ◌≤◌, ◌^◌, IfOk, MatchBool, map};
+ghost use Rattle.std.specs.Prelude.{◌≡◌, ◌+◌, ◌≤◌, ◌^◌, IfOk, MatchBool, Some, map};
 ghost use Rattle.host_places.specs.Clients.{HasAll, LacksOne, clients_from};
 ghost use Rattle.udp_node.specs.Ports.{port_of};
 
@@ -24,7 +24,7 @@ pub fn has_clients(list: &HostList, first: u32, count: u32) -> bool
     true
 }
 
-/// Where each of so many clients from this number on is, with `own` of one of them.
+/// Where each of so many clients from this number on is, by which the process claims its number; `own` is that of one of them.
 pub fn homes_of<'a>(
     alloc: Global,
     places: &'a [Place],
@@ -34,8 +34,8 @@ pub fn homes_of<'a>(
     count: u32,
 ) -> Result<Vec<Home<'a>>, NoMemory>
     requires { first + count ≤ 2 ^ 32 }
-    ensures actors { IfOk result (λ homes.
-        map (λ h. h.own.actor) homes.items ≡ clients_from first count) }
+    ensures claims { IfOk result (λ homes. map (λ h. h.claims) homes.items
+        ≡ map (λ a. Some (record own { actor = a })) (clients_from first count)) }
     ensures ports { IfOk result (λ homes.
         map (λ h. h.port) homes.items ≡ map (port_of at.now.base) (clients_from first count)) }
 {
@@ -45,7 +45,7 @@ pub fn homes_of<'a>(
         homes.push(Home {
             places,
             port: at.port_of(actor),
-            own: Own { actor, ..own },
+            claims: Some(Own { actor, ..own }),
         })?;
     }
     Ok(homes)

@@ -6,7 +6,7 @@ use crate::texts::{write_unfit, write_usage};
 use commands::{Status, run};
 use host_places::{is_marked, own_of, places_of};
 use nop_types::Host;
-use standard_io::{StandardIn, StandardOut};
+use standard_io::{StandardIn, StandardOut, arguments};
 use std::fs;
 use std::io::ErrorKind;
 use std::process::ExitCode;
@@ -47,7 +47,7 @@ fn run_plan<H: Host>(rt: &HostRuntime, program: &str, task: &Task<'_>, plan: &Pl
     let home = Home {
         places: &places,
         port: plan.at.port_of(actor),
-        own,
+        claims: Some(own),
     };
     run_at::<H>(rt, program, &plan.words, home)
 }
@@ -72,15 +72,8 @@ fn run_words<H: Host>(rt: &HostRuntime, program: &str, words: &[String]) -> Stat
 
 /// The program of a service: runs the actor that the command line asks for, and ends with its status.
 pub fn run_hosted<H: Host>(rt: &HostRuntime, program: &str) -> ExitCode {
-    let words = match std::env::args(rt) {
-        Ok(args) => args.collect(rt.alloc()),
-        // A word that is no text: no words are taken.
-        Err(e) if e.kind() == ErrorKind::InvalidData => Ok(Vec::new(rt.alloc())),
-        Err(_) => return ExitCode::from(Status::NoMemory as u8),
-    };
-    let Ok(words) = words else {
+    let Ok(words) = arguments(rt) else {
         return ExitCode::from(Status::NoMemory as u8);
     };
-    let words: Vec<String> = words;
     ExitCode::from(run_words::<H>(rt, program, &words) as u8)
 }

@@ -91,7 +91,7 @@ fn call_in<T: OpText>(
     let homes = [Home {
         places: &places,
         port: at.port_of(at.own),
-        own,
+        claims: Some(own),
     }];
     let service = Service {
         base: at.base,

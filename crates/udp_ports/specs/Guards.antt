@@ -1,5 +1,5 @@
 -- Who has which number, as far as a link was told, and whether its own process may have its own.
-use Rattle.std.specs.Prelude.{◌≡◌, ◌≢◌, ◌⊎◌, ℕ, List, map, find, Bool, true, false, ◌==◌, Option, Some, None, Ok}
+use Rattle.std.specs.Prelude.{◌≡◌, ◌≢◌, ◌⊎◌, ℕ, List, map, find, ◌==◌, Option, Some, None, Ok}
 use Rattle.nop_types.specs.Lists.{Has}
 use Rattle.nop_types.specs.declared.limits.TheConstants.{MAX_SERVED}
 use Rattle.nop_types.specs.declared.output.Actor.{Actor}
@@ -70,22 +70,22 @@ pub record IsAdmitted (own : Own) (actors : List Actor) (guard : Guard) : Type 0
 abbrev pub home_at : ℕ → List Home → Option Home
 home_at port homes = find (λ home. home.port == port) homes
 
--- the guard of a link at a home: where a number is claimed, that of a process that was admitted; where links only listen, none
-abbrev pub IsGuarded : Bool → Home → Option Guard → Type 0
-IsGuarded false home guard = guard ≡ None
-IsGuarded true home None = ⊥
-IsGuarded true home (Some guard) = IsAdmitted home.own (actors_at home.places.now) guard
+-- the guard of a link: of a process that claims a number, that of one that was admitted; of one that only listens, none
+abbrev pub IsGuarded : (claims : Option Own) → List Actor → Option Guard → Type 0
+IsGuarded None actors guard = guard ≡ None
+IsGuarded (Some own) actors None = ⊥
+IsGuarded (Some own) actors (Some guard) = IsAdmitted own actors guard
 
 -- a link at the port of one of the homes
-pub record Attaches (homes : List Home) (claims : Bool) (port : ℕ) (guard : Option Guard) : Type 0 where
+pub record Attaches (homes : List Home) (port : ℕ) (guard : Option Guard) : Type 0 where
   pub home : Home
   pub at : home_at port homes ≡ Some home
-  pub guarded : IsGuarded claims home guard
+  pub guarded : IsGuarded home.claims (actors_at home.places.now) guard
 
 -- a link at a port: with no homes at any, without a guard; else at that of a home
-abbrev pub MayAttach : Option (List Home) → Bool → ℕ → Option Guard → Type 0
-MayAttach None claims port guard = guard ≡ None
-MayAttach (Some homes) claims port guard = Attaches homes claims port guard
+abbrev pub MayAttach : Option (List Home) → ℕ → Option Guard → Type 0
+MayAttach None port guard = guard ≡ None
+MayAttach (Some homes) port guard = Attaches homes port guard
 
 -- the guard of a link goes on, where it has one
 abbrev pub MayGoOn : Option Guard → Option Guard → Type 0

@@ -15,12 +15,13 @@ use outside::AttachError;
 use std::alloc::Global;
 use std::time::Clock;
 
-/// Where a process is: the places of all actors, the port of its own, and what tells it from other processes.
+/// Where a process is: the places of all actors, and the port of its own. With `claims` it claims a number there, as the process that
+/// it is; else its link only listens.
 #[derive(Clone, Copy, Debug)]
 pub struct Home<'a> {
     pub places: &'a [Place],
     pub port: u16,
-    pub own: Own,
+    pub claims: Option<Own>,
 }
 
 /// Who has which number, as far as this link was told, and how the own process stands.
@@ -71,14 +72,14 @@ fn port_of(places: &[Place], actor: Actor) -> Option<u16> {
 
 impl Guard {
     /// Nothing is noted, and nothing asked.
-    fn new(alloc: Global, home: Home<'_>, now: u64) -> Result<Guard, NoMemory>
-        ensures { IfOk result (Ran home.entry.own (actors_at home.entry.places.now)) }
+    fn new(alloc: Global, places: &[Place], own: Own, now: u64) -> Result<Guard, NoMemory>
+        ensures { IfOk result (Ran own (actors_at places.now)) }
     {
-        let nodes = actors_of(alloc, home.places)?;
+        let nodes = actors_of(alloc, places)?;
         Ok(Guard {
-            own: home.own,
-            registry: Registry::new(alloc, home.own.digest, MAX_SERVED),
-            admission: Admission::new(alloc, home.own, &nodes, now)?,
+            own,
+            registry: Registry::new(alloc, own.digest, MAX_SERVED),
+            admission: Admission::new(alloc, own, &nodes, now)?,
             now,
         })
     }
@@ -159,14 +160,15 @@ impl Guard {
 pub(crate) fn admit<R: Clock>(
     alloc: Global,
     socket: &mut Socket<'_, R>,
-    home: Home<'_>,
+    places: &[Place],
+    own: Own,
 ) -> Result<Guard, AttachError>
-    ensures { IfOk result (IsAdmitted home.entry.own (actors_at home.entry.places.now)) }
+    ensures { IfOk result (IsAdmitted own (actors_at places.now)) }
 {
     let now = socket.micros().unwrap_or(0);
-    let mut guard = Guard::new(alloc, home, now)?;
+    let mut guard = Guard::new(alloc, places, own, now)?;
     for _ in 0..u64::MAX {
-        guard.ask(socket, home.places);
+        guard.ask(socket, places);
         match guard.admission.standing() {
             Standing::Going => guard.wait(socket)?,
             Standing::Admitted => return Ok(guard),

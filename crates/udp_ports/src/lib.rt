@@ -9,7 +9,7 @@
 //! With a table of places (`UdpPorts::at_hosts`) actors are on several machines: a port is then only the name of an actor. A link is
 //! bound to the address of its own one, and sends to that of a port's. What comes from an address that is in no place is dropped, and
 //! so is what the actor there may not send (`datagram_sources`). Before it is attached, a process asks the others whether it may have
-//! its number, and links answer such greetings (`admission`). Links may also only listen at a place (`UdpPorts::without_claims`): such a
+//! its number, and links answer such greetings (`admission`). A link may also only listen at a place (`Home`, without `claims`): such a
 //! one asks nobody and answers no greeting, but hears those that come, so who polls it may ask others whether they are there.
 //!
 //! Proved: the contracts of the traits, so that counts of faults and losses rise exactly where they have to. `is_part` tells which
@@ -20,16 +20,16 @@
 //! acknowledgement then (`all_settled`), and gives none to the node, nor what is not heard (`IsHeard`, `specs/Places`). A guard goes on
 //! by times and greetings as `admission` says, from its start and in each poll (`Ran`, `GoesOn`); a link is attached at a place only
 //! where the process was admitted so, by the answers of all that count or of most of them (`IsAdmitted`), and without a guard exactly
-//! where there are no places, or links only listen there (`MayAttach`). What follows for two processes
+//! where there are no places, or it only listens there (`MayAttach`). What follows for two processes
 //! under one number, and for what a link noted, say the laws `admitted_guards_are_one` and `links_keep_numbers`. The clock never falls,
 //! and where a reading fails it answers the last value (`later`). The contracts of std don't say what a socket carries or what a clock
 //! shows. So it is only tested that datagrams are sent and arrive whole, at the loopback address alone or at that of a place, how long
 //! a poll takes, and that the clock counts milliseconds.
 //!
-//! For others: `UdpPorts::new`, or `UdpPorts::at_hosts` with `Home` and `Place`; `UdpPorts::without_claims`; `UdpPorts::without_waits`,
+//! For others: `UdpPorts::new`, or `UdpPorts::at_hosts` with `Home` and `Place`; `UdpPorts::without_waits`,
 //! and the descriptors of links, for who waits for several devices at once; `SystemClock::new`, `is_part`, and the methods of the traits. Files, in reading
-//! order: `system_clock`; `places`; `socket`; `parts`; `flows`, the parts to all ports; `guard`, `laws`; `link`; `ports`; `tests`.
-//! Definitions: `specs/Turns`, `Places`, `Guards`. Tests of its public calls are in `socket_tests`.
+//! order: `system_clock`; `places`; `socket`; `parts`; `flows`, the parts to all ports; `guard`, `laws`; `link`; `ports`.
+//! Definitions: `specs/Turns`, `Places`, `Guards`, `Silence`. Tests are in `socket_tests`.
 #![tactic(auto)]
 
 mod flows;
@@ -41,8 +41,6 @@ mod places;
 mod ports;
 mod socket;
 mod system_clock;
-#[cfg(test)]
-mod tests;
 
 pub use guard::Home;
 pub use laws::{admitted_guards_are_one, links_keep_numbers};

@@ -13,15 +13,13 @@ use std::time::Clock;
 
 /// The ports of the loopback address, or those of a table of places, with a count of the attaches that failed. Of the links that are
 /// attached together only the first waits when it is polled, so a turn of a cluster waits once and not for each of its actors; and none
-/// where something else waits for what comes at them (`without_waits`). At a place of a table a number is claimed, unless links only
-/// listen there (`without_claims`).
+/// where something else waits for what comes at them (`without_waits`).
 #[derive(Drop)]
 pub struct UdpPorts<'a, R: Net + Clock> {
     net: &'a R,
     alloc: Global,
     homes: Option<&'a [Home<'a>]>,
     may_wait: bool,
-    claims: bool,
     attached: usize,
     detached: Vec<UdpLink<'a, R>>,
     faults: u64,
@@ -49,18 +47,17 @@ impl<'a, R: Net + Clock> UdpPorts<'a, R> {
             alloc,
             homes: None,
             may_wait: true,
-            claims: true,
             attached: 0,
             detached: Vec::new(alloc),
             faults: 0,
         }
     }
 
-    /// Nothing is attached. Only the ports of the own homes can be, each at the address that its table of places has for it, and only
-    /// where the others say that the process may have its number. The link takes only what comes from an address of the table.
+    /// Nothing is attached. Only the ports of the own homes can be, each at the address that its table of places has for it, and where
+    /// a number is claimed, only if the others say that the process may have it. The link takes only what comes from an address of the
+    /// table.
     pub fn at_hosts(net: &'a R, alloc: Global, homes: &'a [Home<'a>]) -> UdpPorts<'a, R>
         ensures homes { option_copied result.homes ≡ Some homes.entry.now }
-        ensures claims { result.claims ≡ true }
         ensures attached { result.attached ≡ 0 }
         ensures detached { result.detached.items ≡ [] }
         ensures faults { result.faults ≡ 0 }
@@ -70,7 +67,6 @@ impl<'a, R: Net + Clock> UdpPorts<'a, R> {
             alloc,
             homes: Some(homes),
             may_wait: true,
-            claims: true,
             attached: 0,
             detached: Vec::new(alloc),
             faults: 0,
@@ -81,28 +77,12 @@ impl<'a, R: Net + Clock> UdpPorts<'a, R> {
     pub fn without_waits(self) -> UdpPorts<'a, R>
         ensures waits { result.may_wait ≡ false }
         ensures homes { result.homes ≡ self.entry.homes }
-        ensures claims { result.claims ≡ self.entry.claims }
         ensures attached { result.attached ≡ self.entry.attached }
         ensures detached { result.detached.items ≡ self.entry.detached.items }
         ensures faults { result.faults ≡ self.entry.faults }
     {
         let mut ports = self;
         ports.may_wait = false;
-        ports
-    }
-
-    /// The same ports, at which links only listen: nobody is asked whether the process may have its number, so that none is used up,
-    /// and nothing is answered to who asks.
-    pub fn without_claims(self) -> UdpPorts<'a, R>
-        ensures claims { result.claims ≡ false }
-        ensures homes { result.homes ≡ self.entry.homes }
-        ensures waits { result.may_wait ≡ self.entry.may_wait }
-        ensures attached { result.attached ≡ self.entry.attached }
-        ensures detached { result.detached.items ≡ self.entry.detached.items }
-        ensures faults { result.faults ≡ self.entry.faults }
-    {
-        let mut ports = self;
-        ports.claims = false;
         ports
     }
 
@@ -117,10 +97,9 @@ impl<'a, R: Net + Clock> UdpPorts<'a, R> {
         }
     }
 
-    /// A socket at a port; at that of a home, where the process may have its number, or links only listen.
+    /// A socket at a port; at that of a home, where the process may have its number, or only listens.
     fn open(&self, port: u16) -> Result<(Socket<'a, R>, Option<Guard>), AttachError>
-        ensures { IfOk result (λ opened. MayAttach (option_copied self.now.homes) self.now.claims
-            port opened.1) }
+        ensures { IfOk result (λ opened. MayAttach (option_copied self.now.homes) port opened.1) }
     {
         let Some(homes) = self.homes else {
             return Ok((self.socket_at(None, port)?, None));
@@ -129,17 +108,17 @@ impl<'a, R: Net + Clock> UdpPorts<'a, R> {
             return Err(AttachError::Failed);
         };
         let mut socket = self.socket_at(Some(home.places), port)?;
-        if !self.claims {
+        let Some(own) = home.claims else {
             return Ok((socket, None));
-        }
-        let guard = admit(self.alloc, &mut socket, *home)?;
+        };
+        let guard = admit(self.alloc, &mut socket, home.places, own)?;
         Ok((socket, Some(guard)))
     }
 
     /// A link at a port; at that of a home, one of a process that was admitted, or one that only listens.
     fn link_at(&self, port: u16, waits: bool) -> Result<UdpLink<'a, R>, AttachError>
-        ensures guard { IfOk result (λ link. MayAttach (option_copied self.now.homes) self.now.claims
-            port link.guard) }
+        ensures guard { IfOk result (λ link. MayAttach (option_copied self.now.homes) port
+            link.guard) }
         ensures port { IfOk result (λ link. link.port ≡ port) }
         ensures faults { IfOk result (λ link. link.faults ≡ 0) }
         ensures losses { IfOk result (λ link. link.losses ≡ 0) }

@@ -1,5 +1,6 @@
 ghost use Rattle.std.specs.Prelude.{◌≡◌, ◌<◌, ◌≤◌, ◌/◌, ◌^◌, length, IfOk, IfSome, SomeIff};
 ghost use Rattle.std.specs.Duration.{as_nanos};
+ghost use Rattle.udp_ports.specs.Silence.{is_silence};
 ghost use Rattle.std.specs.Option.{option_copied};
 ghost use Rattle.std.specs.declared.net.socket_addr.SocketAddr.{SocketAddr};
 ghost use Rattle.udp_ports.specs.Places.{source_of};
@@ -51,8 +52,10 @@ pub(crate) struct Socket<'a, R: Clock> {
     space: Vec<u8>,
 }
 
-/// Whether a receive ended without a datagram, and nothing is wrong.
-pub(crate) fn is_silence(kind: ErrorKind) -> bool {
+/// Whether a receive ended for want of a datagram, or by a signal, and nothing is wrong.
+fn is_silence(kind: ErrorKind) -> bool
+    ensures { result ≡ is_silence kind }
+{
     matches!(
         kind,
         ErrorKind::WouldBlock | ErrorKind::TimedOut | ErrorKind::Interrupted

@@ -8,5 +8,5 @@ pub returns : goal.returns
 returns c =
     begins _ _ c.args.now _ refl
     (c.in_ok-new.ensures
-    ∙ ap (λ (xs : List Actor). opening c.args.home.own xs c.args.now) (c.deref.ensures.value ∙ c.in_ok-nodes.ensures))
+    ∙ ap (λ (xs : List Actor). opening c.args.own xs c.args.now) (c.deref.ensures.value ∙ c.in_ok-nodes.ensures))
     c.new.ensures
