@@ -11,23 +11,15 @@
 
 use kv_parts::ByKey;
 use linearize::{Status, run};
-use standard_io::{StandardIn, StandardOut};
-use std::io::ErrorKind;
+use standard_io::{StandardIn, StandardOut, arguments};
 use std::process::ExitCode;
 
 const USAGE_LINE: &str = "usage: kv_linearize [--most STEPS] < HISTORY";
 
 fn main(rt: HostRuntime) -> ExitCode {
-    let words = match std::env::args(&rt) {
-        Ok(args) => args.collect(rt.alloc()),
-        // A word that is no text: no words are taken.
-        Err(e) if e.kind() == ErrorKind::InvalidData => Ok(Vec::new(rt.alloc())),
-        Err(_) => return ExitCode::from(Status::NoMemory as u8),
-    };
-    let Ok(words) = words else {
+    let Ok(words) = arguments(&rt) else {
         return ExitCode::from(Status::NoMemory as u8);
     };
-    let words: Vec<String> = words;
     let mut source = StandardIn::new(rt.reader());
     let mut sink = StandardOut::new(std::io::writer(&rt));
     let status = run::<ByKey, _, _>(rt.alloc(), USAGE_LINE, &words, &mut source, &mut sink);

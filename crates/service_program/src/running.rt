@@ -2,8 +2,7 @@
 
 use commands::{Status, run};
 use nop_types::Host;
-use standard_io::{StandardIn, StandardOut};
-use std::io::ErrorKind;
+use standard_io::{StandardIn, StandardOut, arguments};
 use std::process::ExitCode;
 use udp_ports::{SystemClock, UdpPorts};
 
@@ -27,15 +26,8 @@ fn run_words<H: Host>(rt: &HostRuntime, program: &str, words: &[String]) -> Stat
 /// The program of a service: carries out the command that the command line asks for, and gives its
 /// status. Words that are not taken are answered by the usage line of a program with this name.
 pub fn run_service<H: Host>(rt: &HostRuntime, program: &str) -> ExitCode {
-    let words = match std::env::args(rt) {
-        Ok(args) => args.collect(rt.alloc()),
-        // A word that is no text: no words are taken.
-        Err(e) if e.kind() == ErrorKind::InvalidData => Ok(Vec::new(rt.alloc())),
-        Err(_) => return ExitCode::from(Status::NoMemory as u8),
-    };
-    let Ok(words) = words else {
+    let Ok(words) = arguments(rt) else {
         return ExitCode::from(Status::NoMemory as u8);
     };
-    let words: Vec<String> = words;
     ExitCode::from(run_words::<H>(rt, program, &words) as u8)
 }

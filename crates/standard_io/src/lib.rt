@@ -1,17 +1,20 @@
 //! Standard input as a `Source` and standard output as a `Sink`: `StandardIn` around any reader of
-//! std, `StandardOut` around any writer.
+//! std, `StandardOut` around any writer; and the words that a program was called with.
 //!
 //! Both meet the traits of `outside`. They pass on what std tells contracts of the content, and
 //! count errors; a write that takes nothing of a piece is one. docs/THEOREMS.md says under "A run
 //! in a shell" what std tells of the real standard input and output.
 //!
-//! Calls, for each `main`: `StandardIn::new`, `StandardOut::new`. It is all in this file.
+//! Calls, for each `main`: `StandardIn::new`, `StandardOut::new`, `arguments`. It is all in this
+//! file.
 #![tactic(auto)]
 
 ghost use Rattle.std.specs.Prelude.{◌≡◌};
 
+use nop_types::NoMemory;
 use outside::{Failed, Sink, Source, WriteError};
-use std::io::{Read, Write};
+use std::io::{ErrorKind, Read, Write};
+use std::rt::Env;
 
 /// A reader of std, with a count of its errors.
 #[derive(Drop)]
@@ -88,5 +91,15 @@ impl<W: Write + Drop> Sink for StandardOut<W> {
 
     fn faults(&self) -> u64 {
         self.faults
+    }
+}
+
+/// The words that the program was called with, its name first; none at all where one of them is no
+/// text.
+pub fn arguments<R: AllocGlobal + Env>(rt: &R) -> Result<Vec<String>, NoMemory> {
+    match std::env::args(rt) {
+        Ok(args) => Ok(args.collect(rt.alloc())?),
+        Err(e) if e.kind() == ErrorKind::InvalidData => Ok(Vec::new(rt.alloc())),
+        Err(_) => Err(NoMemory),
     }
 }
