@@ -1,18 +1,15 @@
 #!/bin/bash
 # Watches a cluster of real processes with `watch`: the state that it shows, the length of which an observer has; the line of the view change
 # after the leader was killed; what a screen shows; and each way in which it ends. Then one over a list of hosts, on addresses 127.0.1.1 to
-# 127.0.1.4, with `watch_hosts`. It takes some fifteen seconds, leaves nothing behind, and ends with status 1 at any difference.
+# 127.0.1.4. It takes some fifteen seconds, leaves nothing behind, and ends with status 1 at any difference.
 #
 #   checks/watch.sh              the nodes are those of crates/nopaxos/out/nopaxos, or of the file that NOPAXOS names
-#                                and it is crates/watch/out/watch, or the file that WATCH names; likewise nopaxos_hosts and HOSTS,
-#                                watch_hosts and WATCH_HOSTS
+#                                and it is crates/watch/out/watch, or the file that WATCH names; likewise nopaxos_hosts and HOSTS
 . "$(dirname "$0")/common.bash" || exit 2
 needs "${NOPAXOS:-}" nopaxos -- replay
 nopaxos=$program
 needs "${HOSTS:-}" nopaxos_hosts
 nopaxos_hosts=$program
-needs "${WATCH_HOSTS:-}" watch_hosts
-watch_hosts=$program
 needs "${WATCH:-}" watch
 . checks/nodes.bash
 finds_ports
@@ -57,7 +54,7 @@ has_line() {
 }
 
 # ---- what is not taken
-usage='usage: watch PORT REPLICAS OBSERVER [--once | --redraw] [--turns TURNS]'
+usage='usage: watch (PORT REPLICAS | LIST) OBSERVER [--once | --redraw] [--turns TURNS]'
 ends 2 "$usage"
 ends 2 "$usage" 1023 3 o0
 ends 2 "$usage" "$base" 4 o0
@@ -66,6 +63,8 @@ ends 2 "$usage" "$base" 3 r0
 ends 2 "$usage" "$base" 3 o0 --once --turns 0
 ends 2 "$usage" "$base" 3 o0 --turns 5 --once
 ends 2 "$usage" "$base" 3 o0 --once --redraw
+ends 2 "$usage" "$base" o0 o0
+ends 3 '' "$folder/none" o0 --once
 
 # ---- no cluster: nothing is told
 ends 7 '' "$base" 3 o0 --once --turns 100
@@ -127,11 +126,8 @@ made=$((made + 1))
 stop
 
 # ---- nodes on several hosts: what is not taken
-program=$watch_hosts
 hosts=$folder/list
 three_hosts 1 > "$hosts"
-usage='usage: watch_hosts LIST OBSERVER [--once | --redraw] [--turns TURNS]'
-ends 2 "$usage"
 ends 2 "$usage" "$hosts"
 ends 2 "$usage" "$hosts" o1
 ends 2 "$usage" "$hosts" r0

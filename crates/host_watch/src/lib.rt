@@ -1,18 +1,18 @@
-//! A watch at the place of an observer of a list of hosts, for programs: `watch_hosts`, and
-//! `status` of the tools in words.
+//! A watch at the place of an observer of a list of hosts, for programs: `watch`, `status` of the
+//! tools in words, and a gateway.
 //!
 //! `watch_at` makes the watch of `watching::watch_cluster` over the sockets, the clock and the
 //! standard output of the system. It asks each second every node of the list but clients and itself
-//! whether its own number is free (`roll_call`), which claims no number.
+//! whether its own number is free (`roll_call`), which claims no number: those of `roll_of`, at
+//! `listening_home`.
 //!
 //! Proved is what `watch_cluster` promises of the watch, since it is called as it is, and that the
 //! calls are safe and end. That sockets are what they should be is tested only, by
 //! `checks/watch.sh` and `checks/tool.sh`.
 //!
-//! Call: `watch_at`. It is all in this file.
+//! Calls: `watch_at`; `roll_of` and `listening_home`. It is all in this file.
 #![tactic(auto)]
 
-use admission::Own;
 use host_list::HostList;
 use host_places::{address_in, places_of};
 use nop_types::{Actor, NoMemory};
@@ -36,14 +36,28 @@ fn nodes_of(alloc: Global, places: &[Place], own: Actor) -> Result<Vec<Node>, No
     Ok(nodes)
 }
 
-/// Those who are asked, by the observer with this number.
-fn roll_of(alloc: Global, list: &HostList, places: &[Place], own: Actor) -> Result<Roll, NoMemory> {
+/// Those who are asked, by an observer.
+pub fn roll_of(
+    alloc: Global,
+    list: &HostList,
+    places: &[Place],
+    own: Actor,
+) -> Result<Roll, NoMemory> {
     let number = match own {
         Actor::Observer(i) => u32::from(i),
         _ => 0,
     };
     let nodes = nodes_of(alloc, places, own)?;
     Roll::new(alloc, list.digest(), number, &nodes)
+}
+
+/// The place of an observer, where no number is claimed.
+pub fn listening_home<'a>(places: &'a [Place], port: u16) -> Home<'a> {
+    Home {
+        places,
+        port,
+        claims: None,
+    }
 }
 
 /// Watches at the place of an observer, which is one of the list, and writes to standard output.
@@ -60,16 +74,8 @@ pub fn watch_at(
     let places = places_of(rt.alloc(), list, &at)?;
     let roll = roll_of(rt.alloc(), list, &places, own)?;
     let port = at.port_of(own);
-    let homes = [Home {
-        places: &places,
-        port,
-        own: Own {
-            actor: own,
-            digest: list.digest(),
-            process: 0,
-        },
-    }];
-    let mut ports = UdpPorts::at_hosts(rt, rt.alloc(), &homes).without_claims();
+    let homes = [listening_home(&places, port)];
+    let mut ports = UdpPorts::at_hosts(rt, rt.alloc(), &homes);
     let mut clock = SystemClock::new(rt);
     let mut sink = StandardOut::new(std::io::writer(rt));
     watch_cluster(

@@ -1,5 +1,5 @@
 -- The watch that arguments name.
-use Rattle.std.specs.Prelude.{ℕ, List, [], ◌∷◌, Option, Some, None, nat_le, ◌&&◌, if◌then◌else◌}
+use Rattle.std.specs.Prelude.{ℕ, List, [], ◌∷◌, Bool, false, not, is_some, Option, Some, None, nat_le, ◌&&◌, if◌then◌else◌}
 use Rattle.nop_types.specs.Configuration.{Configuration, is_configuration}
 use Rattle.nop_types.specs.declared.limits.TheConstants.{MAX_CONTROLLERS, MAX_OBSERVERS}
 use Rattle.nop_types.specs.declared.output.Actor.{Actor}
@@ -37,6 +37,11 @@ place_of port replicas observer = do
   base ← number_in 1024 65000 port
   config ← config_of replicas
   at_observer base config (actor_of config observer)
+
+-- the file of a list of hosts: behind it no number stands
+abbrev pub names_a_list : List (List ℕ) → Bool
+names_a_list (list ∷ word ∷ words) = not (is_some (number_of word))
+names_a_list words = false
 
 -- a port, a number of replicas, an observer, and what is asked
 abbrev pub call_of : List (List ℕ) → Option Call

@@ -15,7 +15,7 @@ use Rattle.watching.specs.declared.status.Status.TheVariants.{Usage}
 use Rattle.watch.specs.declared.call.Call.{Call}
 
 unfoldable pub usage_line : List ℕ
-usage_line = codes "usage: watch PORT REPLICAS OBSERVER [--once | --redraw] [--turns TURNS]" ++ 10 ∷ []
+usage_line = codes "usage: watch (PORT REPLICAS | LIST) OBSERVER [--once | --redraw] [--turns TURNS]" ++ 10 ∷ []
 
 -- no node is asked
 abbrev pub nobody : Rolled

@@ -1,7 +1,7 @@
 //! Which watch arguments name.
 
 ghost use Rattle.std.specs.Prelude.{◌≡◌, ◌≤◌, IfSome};
-ghost use Rattle.watch.specs.Arguments.{call_of, config_of, number_in, place_of};
+ghost use Rattle.watch.specs.Arguments.{call_of, config_of, names_a_list, number_in, place_of};
 
 use line_fields::{actor, number, small_number};
 use nop_types::{Actor, Bytes, Config, MAX_CONTROLLERS, MAX_OBSERVERS};
@@ -50,6 +50,16 @@ fn place_of(port: &[u8], replicas: &[u8], observer: &[u8]) -> Option<Address>
         }),
         _ => None,
     }
+}
+
+/// Whether arguments begin with the file of a list of hosts: behind it no number stands.
+pub fn names_a_list(arguments: &[Bytes]) -> bool
+    ensures { result ≡ names_a_list arguments.now }
+{
+    let [_list, word, ..] = arguments else {
+        return false;
+    };
+    number(word.as_slice()).is_none()
 }
 
 /// The watch that arguments name.

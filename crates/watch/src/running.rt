@@ -16,8 +16,8 @@ use roll_call::Roll;
 use std::alloc::Global;
 use watching::{Status, status_of, watch_cluster};
 
-const USAGE_LINE: &str =
-    "usage: watch PORT REPLICAS OBSERVER [--once | --redraw] [--turns TURNS]\n";
+pub(crate) const USAGE_LINE: &str =
+    "usage: watch (PORT REPLICAS | LIST) OBSERVER [--once | --redraw] [--turns TURNS]\n";
 
 #[tactic(auto, unfolding(crate::specs::Ending::usage_line))]
 fn write_usage<W: Sink>(sink: &mut W) -> Result<(), WriteError>

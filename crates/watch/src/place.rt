@@ -1,7 +1,7 @@
-//! At whose place the watch listens.
+//! At whose place a watch over a list of hosts listens.
 
 ghost use Rattle.std.specs.Prelude.{◌≡◌};
-ghost use Rattle.watch_hosts.specs.Places.{observer_in};
+ghost use Rattle.watch.specs.Places.{observer_in};
 
 use host_list::HostList;
 use line_fields::actor;

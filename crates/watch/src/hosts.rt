@@ -1,16 +1,15 @@
-//! Watches by the list in a file.
+//! A watch by the list of hosts in a file.
 
 use crate::place::observer_in;
+use crate::running::USAGE_LINE;
 use host_places::refusal_line;
 use host_watch::watch_at;
-use op_text::Words;
+use nop_types::Bytes;
 use outside::{WriteError, write_all};
 use standard_io::StandardOut;
 use std::fs;
 use std::io::ErrorKind;
 use watching::{Asked, Status, asked_of, status_of};
-
-const USAGE_LINE: &str = "usage: watch_hosts LIST OBSERVER [--once | --redraw] [--turns TURNS]\n";
 
 /// Writes a line, where nothing is watched.
 fn tell(rt: &HostRuntime, line: &[u8]) -> Status {
@@ -36,21 +35,15 @@ fn watch_by(rt: &HostRuntime, text: &[u8], observer: &[u8], asked: Asked) -> Sta
     }
 }
 
-/// Watches as the words ask; the first one is the program's name.
-pub(crate) fn run_words(rt: &HostRuntime, words: &[String]) -> Status {
-    let [_program, list, ..] = words else {
-        return tell(rt, USAGE_LINE.as_bytes());
-    };
-    let Ok(given) = Words::of_arguments(rt.alloc(), words) else {
-        return Status::NoMemory;
-    };
-    let [_list, observer, rest @ ..] = given.as_slice() else {
+/// Watches by the list in a file, as the words behind its name ask: at the place of which observer, and for how long.
+pub(crate) fn run_at_hosts(rt: &HostRuntime, list: &str, words: &[Bytes]) -> Status {
+    let [observer, rest @ ..] = words else {
         return tell(rt, USAGE_LINE.as_bytes());
     };
     let Some(asked) = asked_of(rest) else {
         return tell(rt, USAGE_LINE.as_bytes());
     };
-    match fs::read(rt, list.as_str()) {
+    match fs::read(rt, list) {
         Ok(text) => watch_by(rt, &text, observer.as_slice(), asked),
         Err(e) if e.kind() == ErrorKind::OutOfMemory => Status::NoMemory,
         Err(_) => Status::ReadFault,

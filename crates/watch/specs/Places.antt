@@ -1,4 +1,4 @@
--- At whose place the watch listens.
+-- At whose place a watch over a list of hosts listens.
 use Rattle.std.specs.Prelude.{ℕ, List, Option, Some, None}
 use Rattle.std.specs.declared.net.socket_addr.SocketAddr.{SocketAddr}
 use Rattle.nop_types.specs.declared.output.Actor.{Actor}
