@@ -3,8 +3,9 @@
 # requests sent at once, byte by byte, half, and not as the protocol has them; a user who never reads. Then the leader and the sequencer in
 # use are killed, and the same connection is answered. With one replica of three a user waits, and connections stay open. Reads of observers
 # see what their connection wrote, also where an observer is killed, and where the gateway has an observer's place of its own. INFO says what is seen at the gateway's own place, and nothing where it
-# has none. By a list of hosts a gateway is answered, and another one with its numbers is refused. It takes some twenty seconds, leaves
-# nothing behind, and ends with status 1 at any difference.
+# has none. By a list of hosts a gateway is answered, and another one with its numbers is refused; at the place of an observer of the list
+# INFO says which nodes answer, also once a replica and then the controller are killed, and another gateway takes the place later. It takes
+# some forty seconds, leaves nothing behind, and ends with status 1 at any difference.
 #
 #   checks/gate.sh               the programs are those of crates/*/out/, or the files that NOPAXOS, HOSTS and GATE name
 . "$(dirname "$0")/common.bash" || exit 2
@@ -176,6 +177,21 @@ def hosts(before, after):
     user = User()
     same('by a list', [user.ask('GET', 'k'), user.ask('SET', 'k', after), user.ask('GETAT', 'k')], [before or None, '+OK', after])
 
+def listed(value):
+    user = User()
+    for node in ('r0', 'r1', 'r2', 's0', 'ctl'): same(node, len(told(user, f'node {node} answers \\d+')[1]), 1)
+    same('none is silent', [line for line in user.ask('INFO').splitlines() if 'silent' in line], [])
+    same('read there', [user.ask('SET', 'k', value), user.ask('GETAT', 'k'), synced(user, 1) > 0], ['+OK', value, True])
+
+def silent(*pids):
+    user, names = User(), ('r0', 'r1', 'r2', 'ctl')
+    leader = told(user, r'view .* leader (r\d) .* synced .*')[1][0].group(1)
+    other = [i for i in range(3) if names[i] != leader][0]
+    for node, line in ((other, f'node {names[other]} silent'), (3, 'warning ctl silent')):
+        os.kill(int(pids[node]), signal.SIGKILL)
+        same(line, len(told(user, line + r' \d+')[1]), 1)
+    same('the others answer', [len(told(user, f'node {node} answers \\d+')[1]) for node in (leader, 's0')], [1, 1])
+
 globals()[sys.argv[1]](*sys.argv[2:])
 print(made, wrong, file=open(os.environ['COUNTS'], 'w'))
 END
@@ -213,14 +229,16 @@ ends() {
 }
 
 # ---- what is not taken
-usage='usage: kv_gate LISTEN (PORT REPLICAS SEQUENCERS [--observers M [--at K]] | LIST [--marks FOLDER]) FIRST COUNT'
+usage='usage: kv_gate LISTEN (PORT REPLICAS SEQUENCERS [--observers M [--at K]] | LIST [--marks FOLDER] [--at K]) FIRST COUNT'
 listen=127.0.0.1:$tcp
 for words in '' "$listen" "$listen $base 3 2 0" "$listen $base 3 2 0 0" "$listen $base 3 2 0 17" "$listen $base 3 2 4294967295 2" \
     "$listen $base 2 2 0 1" "$listen $base 3 0 0 1" "$listen 1023 3 2 0 1" "127.0.0.1 $base 3 2 0 1" "localhost:$base $base 3 2 0 1" \
     "$listen $base 3 2 -1 1" "$listen $folder/none 0" "$listen $folder/none --marks 0 1" "$listen $base 3 2 --observers 5 0 1" \
     "$listen $base 3 2 --observers x 0 1" "$listen $base 3 2 --observer 1 0 1" "$listen $base 3 2 --observers 0 1" \
     "$listen $base 3 2 --observers 2 --at 2 0 1" "$listen $base 3 2 --observers 2 --at x 0 1" "$listen $base 3 2 --at 0 0 1" \
-    "$listen $base 3 2 --observers 0 --at 0 0 1" "$listen $base 3 2 --observers 2 --on 1 0 1" "$listen $base 3 2 --observers 2 --at 1"; do
+    "$listen $base 3 2 --observers 0 --at 0 0 1" "$listen $base 3 2 --observers 2 --on 1 0 1" "$listen $base 3 2 --observers 2 --at 1" \
+    "$listen $folder/none --at 4 0 1" "$listen $folder/none --at x 0 1" "$listen $folder/none --at 0 0" "$listen $folder/none --marks $folder --at 4 0 1" \
+    "$listen $folder/none --marks $folder --on 0 0 1" "$listen $folder/none --at 0 --marks $folder 0 1"; do
     # shellcheck disable=SC2086
     ends 2 "$usage" $words
 done
@@ -285,4 +303,17 @@ gate gate "$folder/list" --marks "$folder/marks" 3 3
 users hosts first second
 [ "$(ls "$folder/marks" | xargs)" = '1-c3 1-c4 1-c5' ] || differs "the marks are '$(ls "$folder/marks")'"
 ends 5 '' "[::1]:$tcp" "$folder/list" --marks "$folder/marks" 5 1
+kills gate
+
+# ---- at the place of an observer of the list, which takes no number
+ends 2 "$usage" "$listen" "$folder/list" --at 1 6 1
+ends 5 '' "$listen" "$folder/list" --at 0 6 1
+kills o0
+gate gate "$folder/list" --marks "$folder/marks" --at 0 7 1
+users listed third
+ends 5 '' "[::1]:$tcp" "$folder/list" --at 0 8 1
+kills gate
+gate gate "$folder/list" --at 0 9 1
+users listed fourth
+users silent "${pids[r0]}" "${pids[r1]}" "${pids[r2]}" "${pids[ctl]}" 2> /dev/null
 concludes

@@ -18,7 +18,7 @@ use Rattle.gate_core.specs.declared.gate_state.GateState.{GateState}
 use Rattle.gate.specs.declared.errors.GateError.{GateError}
 use Rattle.gate.specs.declared.errors.GateError.TheVariants.{PortFault, LinkFault, UsersFault, NoMemory}
 use Rattle.gate.specs.Carrying.{Carried, Ended, Faultless, IsCause, IsInside, Makes, MakesAll, MakesFirst, OneFailed, Ran, Runs, Steps}
-use Rattle.gate.specs.Carrying.{Takes, Took, TookNone, TakesStep, TakesStepPartly, call_of, calls_of, came, came_in, packets_at, run_calls, user_event_in}
+use Rattle.gate.specs.Carrying.{Takes, Took, TookNone, TakesStep, TakesStepPartly, Untaken, call_of, calls_of, came, came_in, packets_at, run_calls, user_event_in}
 use Rattle.gate.specs.Sides.{LinksSeen, Side, UsersSeen, link_faults, seen}
 use Rattle.gate.proofs.Taking.{all_quiet, all_same, all_then, grows_same, grows_then, same_count, takes_same, takes_then}
 
@@ -103,6 +103,18 @@ ended_then e a b c h k = record {
 pub runs_then : {T : Type 0} (r : Result T GateError) (a b c : Side) → Ran a b → Runs r b c → Runs r a c
 runs_then (Ok t) a b c h k = ran_then a b c h k
 runs_then (Err e) a b c h k = ended_then e a b c h k
+
+-- nothing was taken over the links before, and nothing else was done
+pub runs_untaken : {T : Type 0} (r : Result T GateError) (g h : GateState) (us : UsersSeen) (xs ys : LinksSeen) (c : Side) → h ≡ g
+    → Untaken xs ys → Runs r (seen h us ys) c → Runs r (seen g us xs) c
+runs_untaken r g h us xs ys c same quiet runs = runs_then r (seen g us xs) (seen h us ys) c
+    (record {
+      events = [];
+      ends = same;
+      carried = record { calls = grows_same us.trace; users = takes_same came us.to_come; links = quiet.answers };
+      faults = record { users = refl; links = quiet.faults };
+    })
+    runs
 
 -- ---- a step
 

@@ -7,7 +7,7 @@ use Rattle.observer.specs.ObserverSteps as observers
 use Rattle.observer.specs.ObserverSteps.{Observer}
 use Rattle.outside.specs.declared.link.Link as link_trait
 use Rattle.outside.specs.declared.link.PollAnswer.{PollAnswer}
-use Rattle.roll_call.specs.Rolls as rolls
+use Rattle.roll_call.specs.Rolls.{Rolled}
 use Rattle.watching.specs.Watching as watching
 use Rattle.watching.specs.Watching.{Watching}
 use Rattle.gate_core.specs.declared.gate_state.GateState.{GateState}
@@ -23,10 +23,10 @@ IsUnattached (Err PortFault) = ⊤
 IsUnattached (Err NoMemory) = ⊤
 IsUnattached _ = ⊥
 
--- what a gateway watches at the place of an observer, if it has one: nothing is seen yet, and no node is asked
-abbrev pub watch_at : Option ℕ → Configuration → Option Watching
-watch_at None config = None
-watch_at (Some i) config = Some (watching.opening false config.replicas (rolls.opening (record { digest = 0; number = 0 }) []))
+-- what a gateway watches at the place of an observer, if it has one: nothing is seen yet, and nodes of a roll are to be asked
+abbrev pub watch_at : Option ℕ → Rolled → Configuration → Option Watching
+watch_at None roll config = None
+watch_at (Some i) roll config = Some (watching.opening false config.replicas roll)
 
 -- what is read at that place: an observer that has heard nothing yet, where observers have such numbers
 abbrev pub near_at : Option ℕ → Configuration → Option (Machine Observer)

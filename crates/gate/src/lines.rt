@@ -12,7 +12,9 @@ use crate::readers::ReadTimer;
 use crate::retry::RetryTimer;
 use nop_types::{Bytes, Dest, NoMemory};
 use outside::{Link, LinkError};
+use roll_call::Roll;
 use udp_node::{Address, poll_link, send_to};
+use watching::ask;
 
 /// The way out of a client core: its link, where it is, when it sends its requests again and when
 /// its read, and how many datagrams could not be sent.
@@ -54,6 +56,13 @@ impl<L: Link> Line<L> {
     {
         poll_link(&mut self.link, &mut self.lost)
     }
+
+    fn ask(&mut self, roll: &Roll, now: u64)
+        ensures answers { Stays (L.answers self.old.link) (L.answers self.new.link) }
+        ensures faults { L.fault_count self.new.link ≡ L.fault_count self.old.link }
+    {
+        ask(roll, now, &mut self.link);
+    }
 }
 
 impl<L: Link> Lines<L> {
@@ -66,6 +75,18 @@ impl<L: Link> Lines<L> {
         }
         let line = &mut self.lines[core];
         line.send(dest, bytes)
+    }
+
+    /// The nodes of a roll are asked over the link of the watch, where it is time for a round.
+    pub(crate) fn ask(&mut self, roll: &Roll, now: u64)
+        ensures { Untaken (links_seen L.Link self.old) (links_seen L.Link self.new) }
+    {
+        let place = self.cores;
+        if place >= self.lines.len() {
+            return;
+        }
+        let line = &mut self.lines[place];
+        line.ask(roll, now);
     }
 
     /// The core at a place submitted a request.

@@ -17,7 +17,7 @@ pub(crate) const REASSIGN_MILLIS: u64 = 1_000;
 const _: () = prove!(AGAIN_MILLIS == 10 && REASSIGN_MILLIS == 1_000);
 
 /// A user whose read waits, and from when on it is to be asked for.
-#[derive(Clone, Copy, Debug)]
+#[derive(Clone, Copy)]
 struct Later {
     user: u64,
     due: u64,

@@ -34,24 +34,25 @@ pub struct RoundTrip {
 }
 
 /// A request that was submitted: the how manieth of all cores, when, whether it was sent again
-/// since, and how many later ones were answered before that.
-#[derive(Clone, Copy, Debug)]
+/// since, how many later ones were answered before that, and whether those are so many that it is
+/// to be sent again at once.
+#[derive(Clone, Copy)]
 struct OpenRequest {
     id: u64,
     order: u64,
     since: u64,
     again: bool,
     passed: u8,
+    is_passed: bool,
 }
 
 /// The open requests of a core, and when they are sent again.
-#[derive(Debug, Drop)]
+#[derive(Drop)]
 pub struct RetryTimer {
     trip: RoundTrip,
     open: Vec<OpenRequest>,
     wait: u64,
     due: u64,
-    is_passed: bool,
 }
 
 impl RoundTrip {
@@ -105,7 +106,6 @@ impl RetryTimer {
             open: Vec::new(alloc),
             wait: FIRST_RETRY_MILLIS,
             due: 0,
-            is_passed: false,
         }
     }
 
@@ -125,6 +125,7 @@ impl RetryTimer {
             since: now,
             again: false,
             passed: 0,
+            is_passed: false,
         })?;
         Ok(())
     }
@@ -158,19 +159,22 @@ impl RetryTimer {
 
     /// The request with this order, of any core, was answered; so many are open, of all cores.
     pub fn passed(&mut self, order: u64, open: usize) {
-        let mut is_passed = false;
         for request in self.open.iter_mut() {
             if request.order < order && !request.again {
-                request.passed = request.passed.saturating_add(1);
-                let passed = request.passed;
-                is_passed = is_passed || (LEAST_PASSED <= passed && open <= usize::from(passed));
+                let passed = request.passed.saturating_add(1);
+                request.passed = passed;
+                request.is_passed = LEAST_PASSED <= passed && open <= usize::from(passed);
             }
         }
-        self.is_passed = self.is_passed || is_passed;
     }
 
     fn is_over(&self, now: u64) -> bool {
-        self.is_passed || self.due <= now
+        for request in self.open.iter() {
+            if request.is_passed && !request.again {
+                return true;
+            }
+        }
+        self.due <= now
     }
 
     /// Whether the open requests are to be sent again now; then the time after which they are again
@@ -182,7 +186,6 @@ impl RetryTimer {
         for request in self.open.iter_mut() {
             request.again = true;
         }
-        self.is_passed = false;
         self.wait = self.wait.saturating_mul(2).min(MOST_RETRY_MILLIS);
         self.due = now.saturating_add(self.wait);
         true

@@ -48,12 +48,17 @@ fn quiet_after(quiet: u32, some: bool) -> u32 {
     if some { 0 } else { quiet.saturating_add(1) }
 }
 
-/// A watch at the place of an observer, if there is one.
-fn watch_at(alloc: Global, config: Config, observer: Option<u8>) -> Result<Option<Watch>, NoMemory>
-    ensures { IfOk result (λ watch. watch ≡ watch_at observer config) }
+/// A watch at the place of an observer, if there is one, which asks the nodes of the roll.
+fn watch_at(
+    alloc: Global,
+    config: Config,
+    observer: Option<u8>,
+    roll: Roll,
+) -> Result<Option<Watch>, NoMemory>
+    ensures { IfOk result (λ watch. watch ≡ watch_at observer roll config) }
 {
     match observer {
-        Some(_) => Ok(Some(Watch::new(alloc, config, false, Roll::none(alloc))?)),
+        Some(_) => Ok(Some(Watch::new(alloc, config, false, roll)?)),
         None => Ok(None),
     }
 }
@@ -75,12 +80,17 @@ fn near_at(
 }
 
 /// The core before its first turn.
-fn first_state(alloc: Global, config: Config, seats: Seats) -> Result<GateState, NoMemory>
+fn first_state(
+    alloc: Global,
+    config: Config,
+    seats: Seats,
+    roll: Roll,
+) -> Result<GateState, NoMemory>
     requires { seats.first + seats.count ≤ 2 ^ 32 }
     ensures { IfOk result (λ g. g ≡ opening config seats.first seats.count
-        (watch_at seats.observer config) (near_at seats.observer config)) }
+        (watch_at seats.observer roll config) (near_at seats.observer config)) }
 {
-    let watch = watch_at(alloc, config, seats.observer)?;
+    let watch = watch_at(alloc, config, seats.observer, roll)?;
     let near = near_at(alloc, config, seats.observer)?;
     GateState::new(alloc, config, seats.first, seats.count, watch, near)
 }
@@ -196,12 +206,14 @@ fn serve_from<P: Ports, U: Users, C: Clock>(
 
 /// Serves users for so many turns, as clients of a service whose numbers were not used before, and
 /// watches it, and reads, at the place of an observer, where it has one, which no observer may have.
+/// From there it asks the nodes of the roll each second whether they are there.
 /// A turn in which nothing comes, and before which nothing came for a while, waits for a millisecond.
 /// At an error the gateway has ended: ops in flight may still be executed.
 pub fn serve<P: Ports, U: Users, C: Clock>(
     alloc: Global,
     service: &Service,
     seats: Seats,
+    roll: Roll,
     turns: u64,
     ports: &mut P,
     users: &mut U,
@@ -212,7 +224,7 @@ pub fn serve<P: Ports, U: Users, C: Clock>(
     // What came from users and over the links, and what was done for users, is a run of the core
     // over some events, in order; at an error its first part, and the cause.
     ensures serves { Serves P.L.Link (opening service.now.config seats.first seats.count
-        (watch_at seats.observer service.now.config) (near_at seats.observer service.now.config))
+        (watch_at seats.observer roll service.now.config) (near_at seats.observer service.now.config))
         seats.observer seats.count
         (P.to_come ports.old) result (users_seen U.Users users.old) (users_seen U.Users users.new)
         (P.detached ports.old) (P.detached ports.new) }
@@ -221,7 +233,7 @@ pub fn serve<P: Ports, U: Users, C: Clock>(
     ensures back { P.attached ports.new + length (P.detached ports.old)
         ≡ P.attached ports.old + length (P.detached ports.new) }
 {
-    match first_state(alloc, service.config, seats) {
+    match first_state(alloc, service.config, seats, roll) {
         Ok(state) => serve_from(alloc, state, service, seats, turns, ports, users, clock),
         Err(NoMemory) => Err(GateError::NoMemory),
     }

@@ -4,8 +4,8 @@ ghost use Rattle.std.specs.Prelude.{◌≡◌, ◌==◌, ◌∷◌, []};
 ghost use Rattle.gate_core.specs.declared.act.Event.TheVariants as events;
 ghost use Rattle.gate_core.specs.declared.gate_state.GateState.{GateState};
 ghost use Rattle.gate.specs.Carrying.{datagram_of, event_of, event_with};
-ghost use Rattle.gate.specs.Carrying.{Asks, IsInside, Runs, Took};
-ghost use Rattle.gate.specs.Sides.{seen, side, users_seen, LinksSeen, Side};
+ghost use Rattle.gate.specs.Carrying.{Asks, IsInside, Runs, Took, Untaken};
+ghost use Rattle.gate.specs.Sides.{links_seen, seen, side, users_seen, LinksSeen, Side};
 
 use crate::errors::{GateError, users_fault};
 use crate::site::Site;
@@ -455,11 +455,23 @@ impl<L: Link> Site<L> {
         }
     }
 
+    /// The nodes are asked whether they are there, if there is a watch and it is time for a round.
+    fn ask_nodes(&mut self)
+        ensures state { self.new.state ≡ self.old.state }
+        ensures links { Untaken (links_seen L.Link self.old.lines)
+            (links_seen L.Link self.new.lines) }
+    {
+        if let Some(watch) = &self.state.watch {
+            self.lines.ask(watch.roll(), self.now);
+        }
+    }
+
     /// It is so late for the watch, if there is one.
     fn tick<U: Users>(&mut self, users: &mut U) -> Result<bool, GateError>
         ensures { Runs result (side L.Link U.Users self.old users.old)
             (side L.Link U.Users self.new users.new) }
     {
+        self.ask_nodes();
         let due = self.state.watch.is_some();
         let event = Event::Watch {
             now: self.now,

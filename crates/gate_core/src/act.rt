@@ -2,7 +2,7 @@ use nop_types::{Bytes, Dest};
 use users::UserEvent;
 
 /// What the gateway takes in one step.
-#[derive(Debug, Drop)]
+#[derive(Drop)]
 pub enum Event {
     /// A datagram came to the core at this place.
     Datagram {
@@ -41,7 +41,7 @@ pub enum Event {
 }
 
 /// What is done in a step.
-#[derive(Debug, Drop)]
+#[derive(Drop)]
 pub enum Act {
     /// The core at this place sends a datagram.
     Send {

@@ -1,22 +1,25 @@
 //! What the gateway keeps, and its steps.
 
-ghost use Rattle.std.specs.Prelude.{◌≡◌, ◌≤◌, ◌+◌, ◌^◌, ◌==◌, ◌++◌, None, Some, IfOk, OnOk};
-ghost use Rattle.std.specs.Prelude.{option_map};
+ghost use Rattle.std.specs.Prelude.{◌≡◌, ◌≤◌, ◌+◌, ◌^◌, ◌==◌, ◌∷◌, ◌++◌, [], None, Some};
+ghost use Rattle.std.specs.Prelude.{option_map, IfOk, OnOk};
 ghost use Rattle.std.specs.FinMap as finite;
 ghost use Rattle.nop_types.specs.Given.{given};
 ghost use Rattle.resp.specs.Replies.{reply_bytes};
 ghost use Rattle.kv_resp.specs.Table as table;
 ghost use Rattle.kv_resp.specs.Table.{asked};
 ghost use Rattle.gate_core.specs.Gates.{answer, ask, ask_read, begin_read, busy, came_of, comes, demanded, end_read};
-ghost use Rattle.gate_core.specs.Gates.{ask_with, ended, idle_op, info, left_by, left_of, near_replied};
+ghost use Rattle.gate_core.specs.Gates.{ask_with, idle_op, left_by, left_of};
 ghost use Rattle.gate_core.specs.Gates.{near_user, next, read_from};
 ghost use Rattle.gate_core.specs.Gates.{no_observers, no_request, opened, opening, others_than, read};
 ghost use Rattle.gate_core.specs.Gates.{reassign, requested, sent_to, session_of, slot_in, tell};
 ghost use Rattle.gate_core.specs.Gates.{looked, tell_all, too_many, too_much, user_event, with_turn};
 ghost use Rattle.gate_core.specs.Gates.{without_reader, HasBytes};
+ghost use Rattle.gate_core.specs.declared.act.Act.TheVariants as acts_are;
 
 use crate::act::{Act, Event};
-use crate::in_flight::{answer_session, begin, end_near, end_reading, reads_at, wait_again};
+use crate::in_flight::{
+    answer_session, begin, end_reading, reads_at, reply_if_fresh, slot_in, wait_again,
+};
 use crate::limits::{MAX_USERS, MAX_WAITING_BYTES};
 use crate::near::{NearAnswer, hear, look};
 use crate::replying::{put_act, put_answer, put_end};
@@ -111,6 +114,22 @@ fn idle_op(alloc: Global) -> Result<Op, NoMemory>
     Op::new(alloc, &[GET, 0, 1, b'.'])
 }
 
+/// A user is replied to, and its connection ends.
+fn end(
+    sessions: &mut Sessions,
+    alloc: Global,
+    user: u64,
+    reply: Reply<'_>,
+    acts: &mut Vec<Act>,
+) -> Result<(), NoMemory>
+    ensures sessions { sessions.new ≡ finite.remove sessions.old user }
+    ensures acts { OnOk result (acts.new.items ≡ acts.old.items
+        ++ acts_are.Reply user (reply_bytes reply.entry) ∷ acts_are.Close user ∷ []) }
+{
+    let _session = sessions.take(user);
+    put_end(alloc, user, reply, acts)
+}
+
 impl GateState {
     /// A gateway without users, whose cores have the numbers from `first` on. None of these numbers
     /// was used before. Where it has a watch, that is at the place of one of the observers, and so
@@ -150,15 +169,15 @@ impl GateState {
     fn answer(
         &mut self,
         alloc: Global,
-        came: &[u8],
+        slot: u32,
         ticket: u64,
         bytes: &[u8],
         acts: &mut Vec<Act>,
     ) -> Result<(), NoMemory>
         ensures state { OnOk result (self.new
-            ≡ (answer (Some ticket) self.old (slot_in came.now) bytes.now).0) }
-        ensures acts { OnOk result (acts.new.items ≡ acts.old.items
-            ++ (answer (Some ticket) self.old (slot_in came.now) bytes.now).1) }
+            ≡ (answer (Some ticket) self.old slot bytes.now).0) }
+        ensures acts { OnOk result (acts.new.items
+            ≡ acts.old.items ++ (answer (Some ticket) self.old slot bytes.now).1) }
     {
         let Some(Some(user)) = self.owners.take(ticket) else {
             return Ok(());
@@ -166,15 +185,24 @@ impl GateState {
         let Some(session) = self.sessions.take(user) else {
             return Ok(());
         };
-        let mut session = session;
-        answer_session(alloc, user, came, &mut session, ticket, bytes, acts)?;
-        self.sessions.put(user, session)
+        answer_session(
+            &mut self.sessions,
+            alloc,
+            user,
+            slot,
+            session,
+            ticket,
+            bytes,
+            acts,
+        )
     }
 
-    /// A core accepted the result of a request, for whom the ticket says.
+    /// A core accepted the result of its request with this id, for whom the ticket says.
     fn accept(
         &mut self,
         alloc: Global,
+        core: usize,
+        id: u64,
         came: &[u8],
         ticket: Option<u64>,
         bytes: &[u8],
@@ -183,20 +211,31 @@ impl GateState {
         ensures state { OnOk result (self.new
             ≡ (answer ticket self.old (slot_in came.now) bytes.now).0) }
         ensures acts { OnOk result (acts.new.items ≡ acts.old.items
-            ++ (answer ticket self.old (slot_in came.now) bytes.now).1) }
+            ++ acts_are.Accepted core id ∷ (answer ticket self.old (slot_in came.now) bytes.now).1) }
     {
-        match ticket {
-            Some(ticket) => self.answer(alloc, came, ticket, bytes, acts),
-            None => Ok(()),
-        }
+        put_act(acts, Act::Accepted { core, id })?;
+        let Some(ticket) = ticket else {
+            return Ok(());
+        };
+        let slot = slot_in(alloc, came)?;
+        self.answer(alloc, slot, ticket, bytes, acts)
     }
 
     /// A core asked an observer for a key, for the user that it reads for.
     #[tactic(auto, using(crate::proofs::Entries::put_back))]
-    fn begin_read(&mut self, way: UnderWay, key: &Key) -> Result<(), NoMemory>
-        ensures { OnOk result (self.new
+    fn begin_read(&mut self, way: UnderWay, key: &Key, acts: &mut Vec<Act>) -> Result<(), NoMemory>
+        ensures state { OnOk result (self.new
             ≡ begin_read (finite.get self.old.readers way.core) self.old way key.now) }
+        ensures acts { OnOk result (acts.new.items
+            ≡ acts.old.items ++ acts_are.Reading way.core way.id ∷ []) }
     {
+        put_act(
+            acts,
+            Act::Reading {
+                core: way.core,
+                id: way.id,
+            },
+        )?;
         let Some(user) = self.readers.get(way.core) else {
             return Ok(());
         };
@@ -221,18 +260,33 @@ impl GateState {
         ensures state { OnOk result (self.new ≡ (end_read (finite.get self.old.readers way.core)
             (without_reader self.old way.core) position way bytes.now).0) }
         ensures acts { OnOk result (acts.new.items ≡ acts.old.items
-            ++ (end_read (finite.get self.old.readers way.core)
+            ++ acts_are.Answered way.core way.id
+            ∷ (end_read (finite.get self.old.readers way.core)
             (without_reader self.old way.core) position way bytes.now).1) }
     {
+        put_act(
+            acts,
+            Act::Answered {
+                core: way.core,
+                id: way.id,
+            },
+        )?;
         let Some(user) = self.readers.take(way.core) else {
             return Ok(());
         };
         let Some(session) = self.sessions.take(user) else {
             return Ok(());
         };
-        let mut session = session;
-        end_reading(alloc, user, position, &mut session, way, bytes, acts)?;
-        self.sessions.put(user, session)
+        end_reading(
+            &mut self.sessions,
+            alloc,
+            user,
+            position,
+            session,
+            way,
+            bytes,
+            acts,
+        )
     }
 
     /// Something that the desk told, where this datagram came.
@@ -258,18 +312,14 @@ impl GateState {
                 },
             ),
             Out::Accepted { id, result, .. } => {
-                put_act(acts, Act::Accepted { core, id })?;
-                self.accept(alloc, came, ticket, result.as_slice(), acts)
+                self.accept(alloc, core, id, came, ticket, result.as_slice(), acts)
             }
             Out::Reading {
                 id,
                 observer,
                 key,
                 ..
-            } => {
-                self.begin_read(UnderWay { core, id, observer }, &key)?;
-                put_act(acts, Act::Reading { core, id })
-            }
+            } => self.begin_read(UnderWay { core, id, observer }, &key, acts),
             Out::Answered {
                 id,
                 observer,
@@ -277,7 +327,6 @@ impl GateState {
                 result,
                 ..
             } => {
-                put_act(acts, Act::Answered { core, id })?;
                 let way = UnderWay { core, id, observer };
                 self.end_read(alloc, way, position, result.as_slice(), acts)
             }
@@ -318,23 +367,6 @@ impl GateState {
         self.tell_all(alloc, came_of(input), told, acts)
     }
 
-    /// A user is replied to, and its connection ends.
-    fn end(
-        &mut self,
-        alloc: Global,
-        user: u64,
-        reply: Reply<'_>,
-        acts: &mut Vec<Act>,
-    ) -> Result<(), NoMemory>
-        ensures state { OnOk result (self.new
-            ≡ (ended self.old user (reply_bytes reply.entry)).0) }
-        ensures acts { OnOk result (acts.new.items
-            ≡ acts.old.items ++ (ended self.old user (reply_bytes reply.entry)).1) }
-    {
-        let _session = self.sessions.take(user);
-        put_end(alloc, user, reply, acts)
-    }
-
     /// The op of a user's request.
     fn execute(
         &mut self,
@@ -352,15 +384,8 @@ impl GateState {
     {
         match self.desk.take(op) {
             Ok((ticket, told)) => {
-                let asked = Some(InFlight::Op(Asked { ticket, form }));
-                self.sessions.put(
-                    user,
-                    Session {
-                        waiting: session.waiting,
-                        asked,
-                        seen: session.seen,
-                    },
-                )?;
+                let asked = InFlight::Op(Asked { ticket, form });
+                self.sessions.put(user, session.with(asked))?;
                 self.owners.put(ticket, Some(user))?;
                 self.tell_all(alloc, &[], told, acts)
             }
@@ -370,26 +395,6 @@ impl GateState {
             }
             Err(DeskError::NoMemory) => Err(NoMemory),
         }
-    }
-
-    /// The read in flight of a user whose session was taken out is replied what the near observer
-    /// answered, or waits again.
-    fn reply_near(
-        &mut self,
-        alloc: Global,
-        user: u64,
-        session: Session,
-        answer: &NearAnswer,
-        acts: &mut Vec<Act>,
-    ) -> Result<(), NoMemory>
-        ensures state { OnOk result (self.new
-            ≡ (near_replied answer.now self.old user session).0) }
-        ensures acts { OnOk result (acts.new.items
-            ≡ acts.old.items ++ (near_replied answer.now self.old user session).1) }
-    {
-        let mut session = session;
-        end_near(alloc, user, &mut session, answer, acts)?;
-        self.sessions.put(user, session)
     }
 
     /// The read of a user's request, which waits for a core, where there are observers.
@@ -409,18 +414,11 @@ impl GateState {
             self.sessions.put(user, session)?;
             return put_answer(alloc, user, no_observers(), acts);
         }
-        let asked = Some(InFlight::Read(Reading {
+        let asked = InFlight::Read(Reading {
             key,
             under_way: None,
-        }));
-        self.sessions.put(
-            user,
-            Session {
-                waiting: session.waiting,
-                asked,
-                seen: session.seen,
-            },
-        )?;
+        });
+        self.sessions.put(user, session.with(asked))?;
         put_act(acts, Act::Waits { user, again: false })
     }
 
@@ -440,15 +438,21 @@ impl GateState {
     {
         match look(&mut self.near, &key)? {
             Some(answer) => {
-                let session = Session {
-                    waiting: session.waiting,
-                    asked: Some(InFlight::Read(Reading {
-                        key,
-                        under_way: None,
-                    })),
-                    seen: session.seen,
-                };
-                self.reply_near(alloc, user, session, &answer, acts)
+                let asked = InFlight::Read(Reading {
+                    key,
+                    under_way: None,
+                });
+                let session = session.with(asked);
+                let result = answer.result.as_slice();
+                reply_if_fresh(
+                    &mut self.sessions,
+                    alloc,
+                    user,
+                    answer.position,
+                    session,
+                    result,
+                    acts,
+                )
             }
             None => self.read_far(alloc, user, session, key, acts),
         }
@@ -479,7 +483,7 @@ impl GateState {
                 self.sessions.put(user, session)?;
                 put_answer(alloc, user, reply, acts)
             }
-            Demand::End(reply) => self.end(alloc, user, reply, acts),
+            Demand::End(reply) => end(&mut self.sessions, alloc, user, reply, acts),
         }
     }
 
@@ -514,7 +518,7 @@ impl GateState {
         match self.sessions.next_request(alloc, user)? {
             Some(Parsed::Complete(request)) => self.take_request(alloc, user, &request, acts),
             Some(Parsed::Incomplete) | None => Ok(()),
-            Some(Parsed::Broken(_)) => self.end(alloc, user, no_request(), acts),
+            Some(Parsed::Broken(_)) => end(&mut self.sessions, alloc, user, no_request(), acts),
         }
     }
 
@@ -636,7 +640,16 @@ impl GateState {
         let Some(session) = self.sessions.take(user) else {
             return Ok(());
         };
-        self.reply_near(alloc, user, session, answer, acts)
+        let result = answer.result.as_slice();
+        reply_if_fresh(
+            &mut self.sessions,
+            alloc,
+            user,
+            answer.position,
+            session,
+            result,
+            acts,
+        )
     }
 
     /// The key of a user's read is read at the near observer; where there is none, the core at a

@@ -1,27 +1,39 @@
 //! What becomes of a session, where a core gave something for it.
 
-ghost use Rattle.std.specs.Prelude.{◌≡◌, ◌++◌, nat_le, IfOk, IfSome, OnOk};
+ghost use Rattle.std.specs.Prelude.{◌≡◌, ◌++◌, nat_le, IfOk, OnOk, Result};
+ghost use Rattle.std.specs.FinMap as finite;
+ghost use Rattle.nop_types.specs.declared.datagram.Datagram.{Datagram};
+ghost use Rattle.oum_codec.specs.Reading.{Finds};
+ghost use Rattle.oum_codec.specs.declared.bad.Bad.{Bad};
 ghost use Rattle.gate_core.specs.Gates.{answered, begun, begun_if, fresh_if, is_at, is_way};
-ghost use Rattle.gate_core.specs.Gates.{near_read, op_of, read_answered, reads_at};
-ghost use Rattle.gate_core.specs.Gates.{reads_by, same_key, slot_in, unread};
+ghost use Rattle.gate_core.specs.Gates.{op_of, read_answered, reads_at, reads_by};
+ghost use Rattle.gate_core.specs.Gates.{reply_slot, same_key, slot_in, unread};
 
 use crate::act::Act;
-use crate::near::NearAnswer;
 use crate::replying::{put_act, put_answer};
 use crate::session::{Asked, InFlight, Reading, Session, UnderWay};
+use crate::tables::Sessions;
 use kv_resp::{Form, reply_to};
 use nop_types::{Datagram, Key, NoMemory};
 use oum_codec::read_datagram;
 use std::alloc::Global;
 
+/// The slot of a reply; 0 of anything else.
+fn reply_slot(datagram: &Option<Datagram>) -> u32
+    ensures { (read : Result Datagram Bad) → Finds datagram.now read → result ≡ reply_slot read }
+{
+    match datagram {
+        Some(Datagram::Reply(reply)) => reply.slot,
+        _ => 0,
+    }
+}
+
 /// The slot of the reply that a datagram is; 0 of any other bytes.
-fn slot_in(alloc: Global, came: &[u8]) -> Result<u32, NoMemory>
+pub(crate) fn slot_in(alloc: Global, came: &[u8]) -> Result<u32, NoMemory>
     ensures { IfOk result (λ slot. slot ≡ slot_in came.now) }
 {
-    match read_datagram(alloc, came)? {
-        Some(Datagram::Reply(reply)) => Ok(reply.slot),
-        _ => Ok(0),
-    }
+    let datagram = read_datagram(alloc, came)?;
+    Ok(reply_slot(&datagram))
 }
 
 /// The op in flight.
@@ -34,31 +46,30 @@ fn op_of(asked: &Option<InFlight>) -> Option<Asked>
     }
 }
 
-/// Answers a session whose op has this ticket, with the result that was accepted where this
-/// datagram came.
+/// A user whose session was taken out, and whose op has this ticket, is replied its result, which
+/// is from this slot.
 pub(crate) fn answer_session(
+    sessions: &mut Sessions,
     alloc: Global,
     user: u64,
-    came: &[u8],
-    session: &mut Session,
+    slot: u32,
+    session: Session,
     ticket: u64,
     answer: &[u8],
     acts: &mut Vec<Act>,
 ) -> Result<(), NoMemory>
-    ensures session { OnOk result (session.new
-        ≡ (answered user (slot_in came.now) session.old ticket answer.now).0) }
+    ensures sessions { OnOk result (sessions.new ≡ finite.insert sessions.old user
+        (answered user slot session ticket answer.now).0) }
     ensures acts { OnOk result (acts.new.items ≡ acts.old.items
-        ++ (answered user (slot_in came.now) session.old ticket answer.now).1) }
+        ++ (answered user slot session ticket answer.now).1) }
 {
     match op_of(&session.asked) {
         Some(asked) if asked.ticket == ticket => {
-            let slot = slot_in(alloc, came)?;
-            put_answer(alloc, user, reply_to(asked.form, answer), acts)?;
-            session.asked = None;
-            session.seen = session.seen.max(slot);
-            Ok(())
+            let seen = session.seen.max(slot);
+            sessions.put(user, session.replied(seen))?;
+            put_answer(alloc, user, reply_to(asked.form, answer), acts)
         }
-        _ => Ok(()),
+        _ => sessions.put(user, session),
     }
 }
 
@@ -132,72 +143,51 @@ pub(crate) fn reads_at(asked: &Option<InFlight>, core: usize) -> bool
     }
 }
 
-/// The read in flight is replied a result from this position, unless its session has seen a later
-/// state.
-fn reply_if_fresh(
+/// A user whose session was taken out, and whose read is in flight, is replied a result from this
+/// position, unless its session has seen a later state; then the read waits again.
+pub(crate) fn reply_if_fresh(
+    sessions: &mut Sessions,
     alloc: Global,
     user: u64,
     position: u32,
-    session: &mut Session,
+    session: Session,
     answer: &[u8],
     acts: &mut Vec<Act>,
 ) -> Result<(), NoMemory>
-    ensures session { OnOk result (session.new ≡ (fresh_if (nat_le session.old.seen position)
-        user position session.old answer.now).0) }
+    ensures sessions { OnOk result (sessions.new ≡ finite.insert sessions.old user
+        (fresh_if (nat_le session.seen position) user position session answer.now).0) }
     ensures acts { OnOk result (acts.new.items ≡ acts.old.items
-        ++ (fresh_if (nat_le session.old.seen position) user position session.old answer.now).1) }
+        ++ (fresh_if (nat_le session.seen position) user position session answer.now).1) }
 {
     if session.seen <= position {
-        session.asked = None;
-        session.seen = position;
-        put_answer(alloc, user, reply_to(Form::Value, answer), acts)
-    } else {
-        wait_again(&mut session.asked);
-        put_act(acts, Act::Waits { user, again: true })
+        sessions.put(user, session.replied(position))?;
+        return put_answer(alloc, user, reply_to(Form::Value, answer), acts);
     }
+    let mut session = session;
+    wait_again(&mut session.asked);
+    sessions.put(user, session)?;
+    put_act(acts, Act::Waits { user, again: true })
 }
 
-/// The near observer was looked at: the session whose read is in flight is replied the answer,
-/// unless it has seen a later state.
-pub(crate) fn end_near(
-    alloc: Global,
-    user: u64,
-    session: &mut Session,
-    answer: &NearAnswer,
-    acts: &mut Vec<Act>,
-) -> Result<(), NoMemory>
-    ensures session { OnOk result (session.new ≡ (near_read answer.now user session.old).0) }
-    ensures acts { OnOk result (acts.new.items
-        ≡ acts.old.items ++ (near_read answer.now user session.old).1) }
-{
-    reply_if_fresh(
-        alloc,
-        user,
-        answer.position,
-        session,
-        answer.result.as_slice(),
-        acts,
-    )
-}
-
-/// A core was answered: the session whose read this is is replied the result, unless it has seen a
-/// later state.
+/// A core was answered: a user whose session was taken out, and whose read this is, is replied the
+/// result, unless its session has seen a later state.
 pub(crate) fn end_reading(
+    sessions: &mut Sessions,
     alloc: Global,
     user: u64,
     position: u32,
-    session: &mut Session,
+    session: Session,
     way: UnderWay,
     answer: &[u8],
     acts: &mut Vec<Act>,
 ) -> Result<(), NoMemory>
-    ensures session { OnOk result (session.new
-        ≡ (read_answered user position session.old way answer.now).0) }
+    ensures sessions { OnOk result (sessions.new ≡ finite.insert sessions.old user
+        (read_answered user position session way answer.now).0) }
     ensures acts { OnOk result (acts.new.items ≡ acts.old.items
-        ++ (read_answered user position session.old way answer.now).1) }
+        ++ (read_answered user position session way answer.now).1) }
 {
     if !reads_by(&session.asked, way) {
-        return Ok(());
+        return sessions.put(user, session);
     }
-    reply_if_fresh(alloc, user, position, session, answer, acts)
+    reply_if_fresh(sessions, alloc, user, position, session, answer, acts)
 }

@@ -8,7 +8,7 @@ use near_observer::NearObserver;
 use nop_types::{Bytes, Key, NoMemory};
 
 /// What a near observer answers to the read of a key, and its position.
-#[derive(Debug, Drop)]
+#[derive(Drop)]
 pub struct NearAnswer {
     pub position: u32,
     pub result: Bytes,

@@ -13,7 +13,7 @@ use std::collections::BTreeMap;
 use std::marker::Model;
 
 /// The users that are connected, by number.
-#[derive(Debug, Drop)]
+#[derive(Drop)]
 pub struct Sessions {
     sessions: BTreeMap<u64, Session>,
 }
@@ -111,7 +111,7 @@ fn next_of(alloc: Global, session: &Session) -> Result<Option<Parsed>, NoMemory>
 }
 
 /// Whose the tickets are that are not answered yet: of a user, or of the gateway itself.
-#[derive(Debug, Drop)]
+#[derive(Drop)]
 pub struct Owners {
     owners: BTreeMap<u64, Option<u64>>,
 }
@@ -161,7 +161,7 @@ impl Owners {
 }
 
 /// The users for whom cores have reads under way, by the places of these cores.
-#[derive(Debug, Drop)]
+#[derive(Drop)]
 pub struct Readers {
     readers: BTreeMap<usize, u64>,
 }

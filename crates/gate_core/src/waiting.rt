@@ -11,7 +11,7 @@ const _: () = prove!(MANY_READ == 4096);
 
 /// Bytes of a user that are not read yet. Those that are read stay in front of them for a while, so that each byte is moved a few times
 /// at most.
-#[derive(Debug, Drop)]
+#[derive(Drop)]
 pub struct Waiting {
     bytes: Vec<u8>,
     at: usize,

@@ -14,10 +14,10 @@ use Rattle.gate_words.specs.declared.task.Site.{Site}
 use Rattle.gate_words.specs.declared.task.Site.TheVariants.{Near, Listed}
 use Rattle.gate_words.specs.declared.task.Task.{Task}
 
--- a service on this machine, and the observer at whose place it is watched, if it is; or the texts of a list's file and of a folder of marks
+-- a service on this machine, or the texts of a list's file and of a folder of marks; and the observer at whose place it is watched, if it is
 pub data Place : Type 0 where
   AtPorts : Service → (observer : Option ℕ) → Place
-  AtHosts : List ℕ → Option (List ℕ) → Place
+  AtHosts : List ℕ → Option (List ℕ) → (observer : Option ℕ) → Place
 
 pub record Asked : Type 0 where
   pub listen : SocketAddr
@@ -27,7 +27,7 @@ pub record Asked : Type 0 where
 -- a task, with its texts themselves
 abbrev pub place_seen : Site → Place
 place_seen (Near service observer) = AtPorts service observer
-place_seen (Listed list marks) = AtHosts list.now (option_copied marks)
+place_seen (Listed list marks observer) = AtHosts list.now (option_copied marks) observer
 
 abbrev pub seen : Task → Asked
 seen task = record { listen = task.listen; place = place_seen task.site; numbers = task.numbers }
@@ -80,6 +80,21 @@ watched_at listen service own first count = do
   w ← watched service own
   asked listen (AtPorts w.0 (Some w.1)) first count
 
+-- the number of an observer of a list of hosts
+abbrev pub listed_observer : List ℕ → Option ℕ
+listed_observer own = number_in 0 (MAX_OBSERVERS - 1) own
+
+-- where a list of hosts says, watched at the place of an observer
+abbrev pub asked_from : List ℕ → List ℕ → Option (List ℕ) → List ℕ → List ℕ → List ℕ → Option Asked
+asked_from listen list marks own first count = do
+  i ← listed_observer own
+  asked listen (AtHosts list marks (Some i)) first count
+
+-- the same, with a folder of marks
+abbrev pub marked_from : List ℕ → List ℕ → List ℕ → List ℕ → List ℕ → List ℕ → List ℕ → Option Asked
+marked_from listen list folder at own first count =
+    if is_text (codes "--at") at then asked_from listen list (Some folder) own first count else None
+
 -- a service on this machine, with observers
 abbrev pub of_eight : List ℕ → List ℕ → List ℕ → List ℕ → List ℕ → List ℕ → List ℕ → List ℕ → Option Asked
 of_eight listen port replicas sequencers option observers first count =
@@ -87,11 +102,17 @@ of_eight listen port replicas sequencers option observers first count =
     then asked_at listen (observed (service_of port replicas sequencers) observers) first count
     else None
 
+-- a list of hosts with a folder of marks, or a service on this machine
+unfoldable pub by_second : List ℕ → List ℕ → List ℕ → List ℕ → List ℕ → List ℕ → List ℕ → List ℕ → Option Asked
+by_second listen a b c option d first count =
+    if is_text (codes "--marks") b
+    then marked_from listen a c option d first count
+    else of_eight listen a b c option d first count
+
 -- the words after the first four
 abbrev pub observed_at : List ℕ → List ℕ → List ℕ → List ℕ → List (List ℕ) → Option Asked
-observed_at listen port replicas sequencers (option ∷ observers ∷ first ∷ count ∷ []) =
-    of_eight listen port replicas sequencers option observers first count
-observed_at listen port replicas sequencers words = None
+observed_at listen a b c (option ∷ d ∷ first ∷ count ∷ []) = by_second listen a b c option d first count
+observed_at listen a b c words = None
 
 -- eight words behind the program's name
 abbrev pub observed_task : List (List ℕ) → Option Asked
@@ -129,13 +150,21 @@ own_place_task (program ∷ listen ∷ port ∷ replicas ∷ sequencers ∷ rest
   own_place_at listen s rest
 own_place_task words = None
 
+-- a list of hosts at the place of an observer, or a service on this machine
+unfoldable pub of_six_unmarked : List ℕ → List ℕ → List ℕ → List ℕ → List ℕ → List ℕ → Option Asked
+of_six_unmarked listen a b c first count =
+    if is_text (codes "--at") b then asked_from listen a None c first count else asked_at listen (service_of a b c) first count
+
+unfoldable pub of_six : List ℕ → List ℕ → List ℕ → List ℕ → List ℕ → List ℕ → Option Asked
+of_six listen a b c first count =
+    if is_text (codes "--marks") b
+    then asked listen (AtHosts a (Some c) None) first count
+    else of_six_unmarked listen a b c first count
+
 -- six words behind the program's name, or four
 abbrev pub plain_task : List (List ℕ) → Option Asked
-plain_task (program ∷ listen ∷ a ∷ b ∷ c ∷ first ∷ count ∷ []) =
-    if is_text (codes "--marks") b
-    then asked listen (AtHosts a (Some c)) first count
-    else asked_at listen (service_of a b c) first count
-plain_task (program ∷ listen ∷ list ∷ first ∷ count ∷ []) = asked listen (AtHosts list None) first count
+plain_task (program ∷ listen ∷ a ∷ b ∷ c ∷ first ∷ count ∷ []) = of_six listen a b c first count
+plain_task (program ∷ listen ∷ list ∷ first ∷ count ∷ []) = asked listen (AtHosts list None None) first count
 plain_task words = None
 
 abbrev pub task_of : List (List ℕ) → Option Asked

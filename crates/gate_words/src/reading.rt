@@ -1,7 +1,9 @@
 //! The task that words ask for.
 
 ghost use Rattle.std.specs.Prelude.{◌≡◌, None, Some, IfSome, option_map, map, string_bytes};
-ghost use Rattle.gate_words.specs.Tasks.{AreBelow, AtHosts, asked, asked_at, ends_of, numbers_of, observed};
+ghost use Rattle.gate_words.specs.Tasks.{AreBelow, AtHosts, asked, asked_at, asked_from, by_second, ends_of};
+ghost use Rattle.gate_words.specs.Tasks.{listed_observer, marked_from, numbers_of, observed, of_six, of_six_unmarked};
+ghost use Rattle.std.specs.Option.{option_copied};
 ghost use Rattle.gate_words.specs.Tasks.{observed_at, observed_task, of_eight, of_place};
 ghost use Rattle.gate_words.specs.Tasks.{own_place_at, own_place_behind, own_place_by};
 ghost use Rattle.gate_words.specs.Tasks.{own_place_task, plain_task, seen, task_of, watched};
@@ -159,7 +161,7 @@ fn marked<'a>(
     count: &str,
 ) -> Option<Task<'a>>
     ensures task { option_map seen result
-        ≡ asked listen.now (AtHosts list.now (Some folder.now)) first.now count.now }
+        ≡ asked listen.now (AtHosts list.now (Some folder.now) None) first.now count.now }
     ensures below { IfSome result (λ task. AreBelow task.numbers) }
 {
     let (listen, numbers) = ends_of(listen, first, count)?;
@@ -168,6 +170,7 @@ fn marked<'a>(
         site: Site::Listed {
             list,
             marks: Some(folder),
+            observer: None,
         },
         numbers,
     })
@@ -176,15 +179,75 @@ fn marked<'a>(
 /// A task of a service where a list of hosts says.
 fn listed<'a>(listen: &str, list: &'a str, first: &str, count: &str) -> Option<Task<'a>>
     ensures task { option_map seen result
-        ≡ asked listen.now (AtHosts list.now None) first.now count.now }
+        ≡ asked listen.now (AtHosts list.now None None) first.now count.now }
     ensures below { IfSome result (λ task. AreBelow task.numbers) }
 {
     let (listen, numbers) = ends_of(listen, first, count)?;
     Some(Task {
         listen,
-        site: Site::Listed { list, marks: None },
+        site: Site::Listed {
+            list,
+            marks: None,
+            observer: None,
+        },
         numbers,
     })
+}
+
+/// The number of an observer of a list of hosts.
+fn listed_observer(own: &[u8]) -> Option<u8>
+    ensures { result ≡ listed_observer own.now }
+{
+    let own = number_in(0, u64::from(MAX_OBSERVERS - 1), own)?;
+    Some(own as u8)
+}
+
+/// A task of a service where a list of hosts says, watched at the place of an observer.
+fn asked_from<'a>(
+    listen: &str,
+    list: &'a str,
+    marks: Option<&'a str>,
+    own: &str,
+    first: &str,
+    count: &str,
+) -> Option<Task<'a>>
+    ensures task { option_map seen result ≡ asked_from listen.now list.now
+        (option_copied marks.entry) own.now first.now count.now }
+    ensures below { IfSome result (λ task. AreBelow task.numbers) }
+{
+    let own = listed_observer(own.as_bytes())?;
+    let (listen, numbers) = ends_of(listen, first, count)?;
+    Some(Task {
+        listen,
+        site: Site::Listed {
+            list,
+            marks,
+            observer: Some(own),
+        },
+        numbers,
+    })
+}
+
+/// A task of a service where a list of hosts says, with a folder of marks, watched at the place of
+/// an observer.
+fn marked_from<'a>(
+    listen: &str,
+    list: &'a str,
+    folder: &'a str,
+    at: &str,
+    own: &str,
+    first: &str,
+    count: &str,
+) -> Option<Task<'a>>
+    ensures task { option_map seen result ≡ marked_from listen.now list.now folder.now at.now
+        own.now first.now count.now }
+    ensures below { IfSome result (λ task. AreBelow task.numbers) }
+{
+    if is_word(at.as_bytes(), "--at") {
+        asked_from(listen, list, Some(folder), own, first, count)
+    } else {
+        None
+    }
 }
 
 /// A task of eight words.
@@ -209,28 +272,51 @@ fn of_eight<'a>(
     }
 }
 
+/// A task of eight words: a list of hosts with a folder of marks, or a service on this machine.
+#[tactic(auto, unfolding(crate::specs::Tasks::by_second))]
+fn by_second<'a>(
+    listen: &str,
+    a: &'a str,
+    b: &str,
+    c: &'a str,
+    option: &str,
+    d: &str,
+    first: &str,
+    count: &str,
+) -> Option<Task<'a>>
+    ensures task { option_map seen result ≡ by_second listen.now a.now b.now c.now option.now
+        d.now first.now count.now }
+    ensures below { IfSome result (λ task. AreBelow task.numbers) }
+{
+    if is_word(b.as_bytes(), "--marks") {
+        marked_from(listen, a, c, option, d, first, count)
+    } else {
+        of_eight(listen, a, b, c, option, d, first, count)
+    }
+}
+
 /// A task of eight words: those after the first four.
 fn observed_at<'a>(
     listen: &str,
-    port: &str,
-    replicas: &str,
-    sequencers: &str,
+    a: &'a str,
+    b: &str,
+    c: &'a str,
     rest: &[String],
 ) -> Option<Task<'a>>
-    ensures task { option_map seen result ≡ observed_at listen.now port.now replicas.now
-        sequencers.now (map string_bytes rest.now) }
+    ensures task { option_map seen result ≡ observed_at listen.now a.now b.now c.now
+        (map string_bytes rest.now) }
     ensures below { IfSome result (λ task. AreBelow task.numbers) }
 {
-    let [option, observers, first, count] = rest else {
+    let [option, d, first, count] = rest else {
         return None;
     };
-    of_eight(
+    by_second(
         listen,
-        port,
-        replicas,
-        sequencers,
+        a,
+        b,
+        c,
         option.as_str(),
-        observers.as_str(),
+        d.as_str(),
         first.as_str(),
         count.as_str(),
     )
@@ -307,7 +393,7 @@ fn own_place_at<'a>(listen: &str, service: Service, rest: &[String]) -> Option<T
 }
 
 /// A task of eight words behind the program's name.
-fn observed_task<'a>(words: &[String]) -> Option<Task<'a>>
+fn observed_task(words: &[String]) -> Option<Task<'_>>
     ensures task { option_map seen result ≡ observed_task (map string_bytes words.now) }
     ensures below { IfSome result (λ task. AreBelow task.numbers) }
 {
@@ -335,6 +421,48 @@ fn own_place_task<'a>(words: &[String]) -> Option<Task<'a>>
     own_place_at(listen.as_str(), service, rest)
 }
 
+/// A task of six words: a list of hosts at the place of an observer, or a service on this machine.
+#[tactic(auto, unfolding(crate::specs::Tasks::of_six_unmarked))]
+fn of_six_unmarked<'a>(
+    listen: &str,
+    a: &'a str,
+    b: &str,
+    c: &str,
+    first: &str,
+    count: &str,
+) -> Option<Task<'a>>
+    ensures task { option_map seen result
+        ≡ of_six_unmarked listen.now a.now b.now c.now first.now count.now }
+    ensures below { IfSome result (λ task. AreBelow task.numbers) }
+{
+    if is_word(b.as_bytes(), "--at") {
+        asked_from(listen, a, None, c, first, count)
+    } else {
+        near(listen, a, b, c, first, count)
+    }
+}
+
+/// A task of six words.
+#[tactic(auto, unfolding(crate::specs::Tasks::of_six))]
+fn of_six<'a>(
+    listen: &str,
+    a: &'a str,
+    b: &str,
+    c: &'a str,
+    first: &str,
+    count: &str,
+) -> Option<Task<'a>>
+    ensures task { option_map seen result
+        ≡ of_six listen.now a.now b.now c.now first.now count.now }
+    ensures below { IfSome result (λ task. AreBelow task.numbers) }
+{
+    if is_word(b.as_bytes(), "--marks") {
+        marked(listen, a, c, first, count)
+    } else {
+        of_six_unmarked(listen, a, b, c, first, count)
+    }
+}
+
 /// A task of six words behind the program's name, or of four.
 fn plain_task(words: &[String]) -> Option<Task<'_>>
     ensures task { option_map seen result ≡ plain_task (map string_bytes words.now) }
@@ -351,13 +479,14 @@ fn plain_task(words: &[String]) -> Option<Task<'_>>
     let [_, listen, a, b, c, first, count] = words else {
         return None;
     };
-    let (listen, a, b, c) = (listen.as_str(), a.as_str(), b.as_str(), c.as_str());
-    let (first, count) = (first.as_str(), count.as_str());
-    if is_word(b.as_bytes(), "--marks") {
-        marked(listen, a, c, first, count)
-    } else {
-        near(listen, a, b, c, first, count)
-    }
+    of_six(
+        listen.as_str(),
+        a.as_str(),
+        b.as_str(),
+        c.as_str(),
+        first.as_str(),
+        count.as_str(),
+    )
 }
 
 /// The task that words ask for; the first one is the program's name.

@@ -18,9 +18,11 @@ pub enum Site<'a> {
         observer: Option<u8>,
     },
     /// Where the list of hosts in a file says. With a folder, marks of the numbers are made there.
+    /// With an observer, the gateway watches the service at that one's place.
     Listed {
         list: &'a str,
         marks: Option<&'a str>,
+        observer: Option<u8>,
     },
 }
 

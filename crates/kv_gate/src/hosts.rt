@@ -9,11 +9,15 @@ use client_call::Service;
 use gate_words::Numbers;
 use host_list::HostList;
 use host_places::{address_in, has_clients, homes_of, is_marked, own_of, places_of};
-use nop_types::Actor;
+use host_watch::{listening_home, roll_of};
+use nop_types::{Actor, NoMemory};
+use roll_call::Roll;
+use std::alloc::Global;
 use std::fs;
 use std::io::ErrorKind;
 use std::net::SocketAddr;
-use udp_ports::UdpPorts;
+use udp_node::Address;
+use udp_ports::{Home, Place, UdpPorts};
 
 /// Makes the marks of the numbers. Whether each was made.
 fn have_marked(rt: &HostRuntime, folder: &str, cluster: u64, numbers: Numbers) -> bool {
@@ -29,6 +33,23 @@ fn have_marked(rt: &HostRuntime, folder: &str, cluster: u64, numbers: Numbers) -
     true
 }
 
+/// The place of the observer at which the gateway watches, behind the others, and those whom it asks there; nobody where there is none.
+fn add_watch<'a>(
+    alloc: Global,
+    list: &HostList,
+    places: &'a [Place],
+    at: &Address,
+    observer: Option<u8>,
+    homes: &mut Vec<Home<'a>>,
+) -> Result<Roll, NoMemory> {
+    let Some(observer) = observer else {
+        return Ok(Roll::none(alloc));
+    };
+    let own = Actor::Observer(observer);
+    homes.push(listening_home(places, at.port_of(own)))?;
+    roll_of(alloc, list, places, own)
+}
+
 /// Runs a gateway by a list that was read, once the marks of its numbers are made, where there are to be some.
 fn run_at(
     rt: &HostRuntime,
@@ -36,6 +57,7 @@ fn run_at(
     numbers: Numbers,
     list: &HostList,
     marks: Option<&str>,
+    observer: Option<u8>,
 ) -> Status
     requires { AreBelow numbers }
 {
@@ -47,7 +69,10 @@ fn run_at(
         return Status::NoMemory;
     };
     let homes = homes_of(rt.alloc(), &places, &at, own, numbers.first, numbers.count);
-    let Ok(homes) = homes else {
+    let Ok(mut homes) = homes else {
+        return Status::NoMemory;
+    };
+    let Ok(roll) = add_watch(rt.alloc(), list, &places, &at, observer, &mut homes) else {
         return Status::NoMemory;
     };
     if let Some(folder) = marks {
@@ -60,7 +85,15 @@ fn run_at(
         config: at.config,
     };
     let ports = UdpPorts::at_hosts(rt, rt.alloc(), &homes);
-    serve_over(rt, listen, numbers, None, &service, ports)
+    serve_over(rt, listen, numbers, observer, roll, &service, ports)
+}
+
+/// Whether the list has the observer at whose place the gateway is to watch, if it is to.
+fn has_observer(list: &HostList, observer: Option<u8>) -> bool {
+    match observer {
+        Some(observer) => list.address_of(Actor::Observer(observer)).is_some(),
+        None => true,
+    }
 }
 
 /// Runs a gateway by the list in a file.
@@ -70,6 +103,7 @@ pub(crate) fn run_at_hosts(
     numbers: Numbers,
     list: &str,
     marks: Option<&str>,
+    observer: Option<u8>,
 ) -> Status
     requires { AreBelow numbers }
 {
@@ -82,6 +116,7 @@ pub(crate) fn run_at_hosts(
     match host_list::read(&text) {
         Err(refusal) => write_refusal(rt.alloc(), &mut writer, refusal),
         Ok(list) if !has_clients(&list, numbers.first, numbers.count) => write_usage(&mut writer),
-        Ok(list) => run_at(rt, listen, numbers, &list, marks),
+        Ok(list) if !has_observer(&list, observer) => write_usage(&mut writer),
+        Ok(list) => run_at(rt, listen, numbers, &list, marks, observer),
     }
 }

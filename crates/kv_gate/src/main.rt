@@ -1,9 +1,10 @@
 //! The program `kv_gate`: a gateway to the key-value store, for users who speak the protocol of Redis (RESP 2).
 //!
 //!     kv_gate LISTEN PORT REPLICAS SEQUENCERS [--observers M [--at K]] FIRST COUNT
-//!         the nodes are on this machine; with `--at` it watches them at the place of observer K, and says in INFO what it sees
-//!     kv_gate LISTEN LIST [--marks FOLDER] FIRST COUNT
+//!         the nodes are on this machine
+//!     kv_gate LISTEN LIST [--marks FOLDER] [--at K] FIRST COUNT
 //!         they are where a list of hosts says
+//!     with `--at` it watches them at the place of observer K, and says in INFO what it sees
 //!
 //!     kv_gate 127.0.0.1:6379 47000 3 2 4 2
 //!     redis-cli set k v                                         OK
@@ -24,20 +25,13 @@ mod texts;
 mod waking;
 
 use running::run;
+use standard_io::arguments;
 use status::Status;
-use std::io::ErrorKind;
 use std::process::ExitCode;
 
 fn main(rt: HostRuntime) -> ExitCode {
-    let words = match std::env::args(&rt) {
-        Ok(args) => args.collect(rt.alloc()),
-        // A word that is no text: no words are taken.
-        Err(e) if e.kind() == ErrorKind::InvalidData => Ok(Vec::new(rt.alloc())),
-        Err(_) => return ExitCode::from(Status::NoMemory as u8),
-    };
-    let Ok(words) = words else {
+    let Ok(words) = arguments(&rt) else {
         return ExitCode::from(Status::NoMemory as u8);
     };
-    let words: Vec<String> = words;
     ExitCode::from(run(&rt, &words) as u8)
 }

@@ -9,17 +9,19 @@ use crate::waking::WakingPorts;
 use client_call::Service;
 use gate::{GateError, Seats, serve};
 use gate_words::{Numbers, Site, Task, task_of};
+use roll_call::Roll;
 use std::net::SocketAddr;
 use tcp_users::TcpUsers;
 use udp_ports::{SystemClock, UdpPorts};
 
-/// Answers users, and watches the service at the place of an observer, if it is to, until a device
-/// fails.
+/// Answers users, and watches the service at the place of an observer, if it is to, where it asks
+/// the nodes of the roll, until a device fails.
 pub(crate) fn serve_over(
     rt: &HostRuntime,
     listen: SocketAddr,
     numbers: Numbers,
     observer: Option<u8>,
+    roll: Roll,
     service: &Service,
     ports: UdpPorts<'_, HostRuntime>,
 ) -> Status
@@ -42,6 +44,7 @@ pub(crate) fn serve_over(
         rt.alloc(),
         service,
         seats,
+        roll,
         u64::MAX,
         &mut ports,
         &mut users,
@@ -67,8 +70,13 @@ pub(crate) fn run(rt: &HostRuntime, words: &[String]) -> Status {
     match site {
         Site::Near { service, observer } => {
             let ports = UdpPorts::new(rt, rt.alloc());
-            serve_over(rt, listen, numbers, observer, &service, ports)
+            let roll = Roll::none(rt.alloc());
+            serve_over(rt, listen, numbers, observer, roll, &service, ports)
         }
-        Site::Listed { list, marks } => run_at_hosts(rt, listen, numbers, list, marks),
+        Site::Listed {
+            list,
+            marks,
+            observer,
+        } => run_at_hosts(rt, listen, numbers, list, marks, observer),
     }
 }

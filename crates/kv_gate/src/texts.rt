@@ -8,7 +8,7 @@ use std::alloc::Global;
 use std::io::Write;
 
 const USAGE_LINE: &str =
-    "usage: kv_gate LISTEN (PORT REPLICAS SEQUENCERS [--observers M [--at K]] | LIST [--marks FOLDER]) FIRST COUNT\n";
+    "usage: kv_gate LISTEN (PORT REPLICAS SEQUENCERS [--observers M [--at K]] | LIST [--marks FOLDER] [--at K]) FIRST COUNT\n";
 
 /// A line, and then that the words ask for nothing; else that it could not be written.
 fn write<W: Write>(writer: &mut W, line: &[u8]) -> Status {

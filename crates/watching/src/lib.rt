@@ -13,7 +13,8 @@
 //! last state, and nothing else.
 //! That a length which a leader tells is synchronised is a fact of runs (`observer_laws`); here forged messages may come as well.
 //!
-//! Calls: `watch_cluster`, for programs; `Watch` with `hear`, `round` and `tick`, and `put_last_lines`; `state_line` and `change_line`.
+//! Calls: `watch_cluster`, for programs; `Watch` with `hear`, `round` and `tick`, `ask` before a round, and
+//! `put_last_lines`; `state_line` and `change_line`.
 //!
 //! Files: `telling` (messages), `seen` (what is kept of them), `watch`, `lines`, `turns`, `running`; `asked` and `status`,
 //! of programs; `laws`. Definitions: `specs/Tellings`, `Watching`, `Lines`, `Screens`, `Turns`, `Laws`; `Asked`, `Statuses`.
@@ -38,5 +39,5 @@ pub use lines::{Change, State, change_line, state_line};
 pub use running::{WatchError, watch_cluster};
 pub use status::{Status, status_of};
 pub use telling::Telling;
-pub use turns::put_last_lines;
+pub use turns::{ask, put_last_lines};
 pub use watch::Watch;

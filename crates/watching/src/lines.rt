@@ -31,7 +31,7 @@ pub struct Change {
 }
 
 /// The controller that gave out the session in use does not answer.
-#[derive(Clone, Copy, Debug, PartialEq, Eq)]
+#[derive(Clone, Copy)]
 pub struct Warning {
     /// Its number.
     pub controller: u8,

@@ -44,6 +44,16 @@ fn telling_of(config: Config, message: &Peer) -> Option<Telling>
     })
 }
 
+/// What a message tells that was joined of the fragments of a replica: it has to be of that replica.
+fn told_of(config: Config, replica: u8, message: &Peer) -> Option<Telling>
+    ensures { result ≡ tellings.read config.replicas replica (Ok message.now) }
+{
+    if message.sender != replica {
+        return None;
+    }
+    telling_of(config, message)
+}
+
 /// What bytes tell that were joined of the fragments of a replica.
 fn joined(
     alloc: Global,
@@ -55,12 +65,7 @@ fn joined(
         ≡ tellings.read config.replicas replica (peers.reading bytes.now)) }
 {
     match decode_peer(alloc, bytes.as_slice()) {
-        Ok(message) => {
-            if message.sender != replica {
-                return Ok(None);
-            }
-            Ok(telling_of(config, &message))
-        }
+        Ok(message) => Ok(told_of(config, replica, &message)),
         Err(BadPeer::NoMemory) => Err(NoMemory),
         Err(_) => Ok(None),
     }

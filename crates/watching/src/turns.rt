@@ -179,14 +179,14 @@ fn text_of(
     alloc: Global,
     watch: &mut Watch,
     now: u64,
-    datagram: Option<&Bytes>,
+    datagram: Option<Bytes>,
 ) -> Result<Vec<u8>, NoMemory>
-    ensures watch { OnOk result (watch.new ≡ (after_turn watch.old
-        (record { now = now; datagram = option_map (λ d. d.now) datagram.entry })).0) }
-    ensures text { IfOk result (λ text. text.items ≡ (after_turn watch.old
-        (record { now = now; datagram = option_map (λ d. d.now) datagram.entry })).1) }
+    ensures watch { OnOk result (watch.new
+        ≡ (after_turn watch.old (record { now = now; datagram = datagram })).0) }
+    ensures text { IfOk result (λ text. text.items
+        ≡ (after_turn watch.old (record { now = now; datagram = datagram })).1) }
 {
-    let lines = news_of(alloc, watch, now, datagram)?;
+    let lines = news_of(alloc, watch, now, datagram.as_ref())?;
     drawn(alloc, watch, lines)
 }
 
@@ -213,8 +213,8 @@ fn ask_all<L: Link>(roll: &Roll, link: &mut L)
     }
 }
 
-/// Sends the questions of a round, where it is time for one.
-fn ask<L: Link>(roll: &Roll, now: u64, link: &mut L)
+/// Sends each node of the roll its question, where it is time for a round.
+pub fn ask<L: Link>(roll: &Roll, now: u64, link: &mut L)
     ensures answers { Stays (L.answers link.old) (L.answers link.new) }
     ensures faults { L.fault_count link.new ≡ L.fault_count link.old }
     ensures port { L.own_port link.new ≡ L.own_port link.old }
@@ -257,7 +257,7 @@ pub(crate) fn take_turn<L: Link, W: Sink>(
         Err(LinkError::Failed) => return Err(WatchError::LinkFault),
         Err(LinkError::NoMemory) => return Err(WatchError::NoMemory),
     };
-    let text = text_of(alloc, watch, now, datagram.as_ref())?;
+    let text = text_of(alloc, watch, now, datagram)?;
     match write_all(sink, &text) {
         Ok(()) => Ok(()),
         Err(WriteError::Failed) => Err(WatchError::WriteFault),
