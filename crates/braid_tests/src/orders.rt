@@ -137,22 +137,31 @@ in r0 packet 01
 in r1 packet 01
 ";
 
+/// Traces are written in this order.
+fn check_order(rt: &impl Abort, alloc: Global, given: &str, wanted: &str) {
+    check(rt, &of_text(rt, alloc, given, &[], &[]), Ok(()), wanted);
+}
+
 /// A row without its last end says the same.
-fn rows_hold(rt: &impl Abort, alloc: Global) {
+fn check_row(rt: &impl Abort, alloc: Global, row: &str) {
+    let (given, wanted) = row.split_once("=>\n").expect(rt, "row");
+    check_order(rt, alloc, given, wanted);
+    let torn = given.strip_suffix("\n").expect(rt, "end");
+    check_order(rt, alloc, torn, wanted);
+}
+
+fn check_rows(rt: &impl Abort, alloc: Global) {
     for row in ROWS.split("----\n") {
-        let (given, wanted) = row.split_once("=>\n").expect(rt, "row");
-        check(rt, &of_text(rt, alloc, given, &[], &[]), Ok(()), wanted);
-        let torn = given.strip_suffix("\n").expect(rt, "end");
-        check(rt, &of_text(rt, alloc, torn, &[], &[]), Ok(()), wanted);
+        check_row(rt, alloc, row);
     }
 }
 
 #[test]
 fn rows(rt: HostRuntime) {
-    rows_hold(&rt, rt.alloc());
+    check_rows(&rt, rt.alloc());
 }
 
 #[test]
 fn nothing(rt: HostRuntime) {
-    check(&rt, &of_text(&rt, rt.alloc(), "", &[], &[]), Ok(()), "");
+    check_order(&rt, rt.alloc(), "", "");
 }

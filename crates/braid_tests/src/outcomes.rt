@@ -48,11 +48,13 @@ pub fn of_text(
     outcome_of(rt, alloc, bytes, 16, reads, writes)
 }
 
+/// Fails with the text where it does not hold.
+pub fn check_that(rt: &impl Abort, holds: bool, text: &str) {
+    assert!(rt; holds, "{text}");
+}
+
 /// The outcome is this answer and this text.
 pub fn check(rt: &impl Abort, given: &Outcome, answer: Result<(), BraidError>, text: &str) {
-    assert_eq!(rt;
-        std::str::from_utf8(&given.written).expect(rt, "text"),
-        text
-    );
-    assert!(rt; given.answer == answer);
+    let is_so = given.answer == answer && given.written.as_slice() == text.as_bytes();
+    check_that(rt, is_so, text);
 }

@@ -1,6 +1,6 @@
 ghost use Rattle.nop_types.specs.Ranges.{DatagramFits};
 
-use crate::rows::{bytes_of, check_text, is_expected, text};
+use crate::rows::{bytes_of, check, check_text, is_expected, text};
 use nop_types::Datagram;
 use oum_codec::{decode, encode, read_request, read_u16, read_u32, read_u64, read_view};
 use std::alloc::Global;
@@ -98,13 +98,13 @@ const REFUSALS: &str = "\
 4e4f030a 00 00000000 00000000 0000000000000001 0002 3d = Short
 4e4f030a 00 00000000 00000000 0000000000000001 0004 6e6f6e65 00 = Trailing";
 
-/// The bytes that a datagram is written as.
-fn spelled(rt: &impl Abort, alloc: Global, datagram: &Datagram) -> Vec<u8>
+/// Whether a datagram is written as these bytes.
+fn is_spelled(rt: &impl Abort, alloc: Global, datagram: &Datagram, bytes: &[u8]) -> bool
     requires { DatagramFits datagram.now }
 {
     let mut to = Vec::new(alloc);
     encode(alloc, datagram, &mut to).expect(rt, "memory");
-    to
+    to.as_slice() == bytes
 }
 
 /// What the bytes spell, or the test that they fail. What is spelled is written as the same bytes.
@@ -112,7 +112,7 @@ fn shown(rt: &impl Abort, alloc: Global, bytes: &[u8]) -> String {
     match decode(alloc, bytes) {
         Err(bad) => text(rt, alloc, &bad),
         Ok(datagram) => {
-            assert!(rt; spelled(rt, alloc, &datagram).as_slice() == bytes);
+            check(rt, is_spelled(rt, alloc, &datagram, bytes), "spelled");
             text(rt, alloc, &datagram)
         }
     }
@@ -121,7 +121,7 @@ fn shown(rt: &impl Abort, alloc: Global, bytes: &[u8]) -> String {
 fn check_row(rt: &impl Abort, alloc: Global, row: &str) {
     let (bytes, expected) = row.split_once("= ").expect(rt, "a row");
     let given = shown(rt, alloc, &bytes_of(rt, alloc, bytes));
-    assert!(rt; is_expected(&given, expected), "{row}");
+    check(rt, is_expected(&given, expected), row);
 }
 
 fn check_rows(rt: &impl Abort, alloc: Global, rows: &str) {
@@ -137,22 +137,40 @@ fn rows(rt: HostRuntime) {
     check_rows(&rt, rt.alloc(), REFUSALS);
 }
 
+const REQUEST: &str = "4e4f0301 00000002 0000000000000001 0002 6b30";
+
+fn are_numbers(bytes: &[u8]) -> bool {
+    read_u16(bytes, 16) == Some(2)
+        && read_u32(bytes, 0) == Some(0x4e4f_0301)
+        && read_u64(bytes, 8) == Some(1)
+        && read_u64(bytes, 13) == None
+}
+
+/// The view that begins at this byte.
+fn view_at(rt: &impl Abort, alloc: Global, bytes: &[u8], at: usize) -> String {
+    text(rt, alloc, &read_view(bytes, at))
+}
+
+/// The request that begins at this byte.
+fn request_at(rt: &impl Abort, alloc: Global, bytes: &[u8], at: usize) -> String {
+    text(
+        rt,
+        alloc,
+        &read_request(alloc, bytes, at).expect(rt, "memory"),
+    )
+}
+
+fn check_fields(rt: &impl Abort, alloc: Global, bytes: &[u8]) {
+    check(rt, are_numbers(bytes), "numbers");
+    let view = "Some(View { leader: 1313800961, session: 8589934592 })";
+    check_text(rt, &view_at(rt, alloc, bytes, 0), view);
+    check_text(rt, &view_at(rt, alloc, bytes, 9), "None");
+    let request = "Some(Request { client: 2, id: 1, op: Op { bytes: [107, 48] } })";
+    check_text(rt, &request_at(rt, alloc, bytes, 4), request);
+}
+
 #[test]
 fn fields(rt: HostRuntime) {
-    let alloc = rt.alloc();
-    let bytes = bytes_of(&rt, alloc, "4e4f0301 00000002 0000000000000001 0002 6b30");
-    assert!(rt; read_u16(&bytes, 16) == Some(2));
-    assert!(rt; read_u32(&bytes, 0) == Some(0x4e4f_0301));
-    assert!(rt; read_u64(&bytes, 8) == Some(1));
-    assert!(rt; read_u64(&bytes, 13) == None);
-    let view = text(&rt, alloc, &read_view(&bytes, 0));
-    check_text(
-        &rt,
-        &view,
-        "Some(View { leader: 1313800961, session: 8589934592 })",
-    );
-    assert!(rt; read_view(&bytes, 9) == None);
-    let request = read_request(alloc, &bytes, 4).expect(&rt, "memory");
-    let expected = "Some(Request { client: 2, id: 1, op: Op { bytes: [107, 48] } })";
-    check_text(&rt, &text(&rt, alloc, &request), expected);
+    let bytes = bytes_of(&rt, rt.alloc(), REQUEST);
+    check_fields(&rt, rt.alloc(), &bytes);
 }

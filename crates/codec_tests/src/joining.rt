@@ -1,5 +1,5 @@
 use crate::peers::shown;
-use crate::rows::bytes_of;
+use crate::rows::{bytes_of, check, put};
 use fragments::{CutError, Reassembly, cut};
 use nop_types::{Bytes, Datagram, Dest, Fragment, Out, Outbox};
 use oum_codec::decode;
@@ -13,7 +13,7 @@ type Arrival = (u8, u64, u16, u16, u32, usize);
 /// Two messages of one sender and one of another. Then fragments that change nothing: an index that is there, other counts, a count
 /// of 0, an index at the count, a count above the limit, payloads that are empty, short and long. At the end four unfinished messages,
 /// where a whole one drops none and a fifth drops the first.
-const ARRIVALS: [Arrival; 24] = [
+static ARRIVALS: [Arrival; 24] = [
     (0, 7, 0, 2, 1400, 0),
     (0, 8, 1, 2, 10, 0),
     (1, 7, 1, 2, 20, 0),
@@ -72,39 +72,58 @@ fn fragment_of(rt: &impl Abort, alloc: Global, datagram: &[u8]) -> Fragment {
     }
 }
 
-/// Takes the fragments that were sent from the last to the first, and gives the bytes that they complete.
-fn joined(rt: &impl Abort, alloc: Global, sent: &[Out]) -> Vec<u8> {
+/// The bytes that a fragment completes, as it was sent.
+fn received(rt: &impl Abort, alloc: Global, kept: &mut Reassembly, out: &Out) -> Option<Bytes> {
+    taken(rt, kept, &fragment_of(rt, alloc, datagram_of(rt, out)))
+}
+
+/// Takes the fragments that were sent from the last to the first, and says whether they complete the message.
+fn is_joined(rt: &impl Abort, alloc: Global, sent: &[Out], message: &[u8]) -> bool {
     let mut kept = Reassembly::new(alloc, 3).expect(rt, "memory");
     let mut whole = Vec::new(alloc);
     for out in sent.iter().rev() {
-        let fragment = fragment_of(rt, alloc, datagram_of(rt, out));
-        if let Some(bytes) = taken(rt, &mut kept, &fragment) {
-            whole
-                .extend_from_slice(bytes.as_slice())
-                .expect(rt, "memory");
+        if let Some(bytes) = received(rt, alloc, &mut kept, out) {
+            put(rt, bytes.as_slice(), &mut whole);
         }
     }
-    whole
+    whole.as_slice() == message
+}
+
+/// The datagrams of a message's fragments.
+fn cut_up(rt: &impl Abort, alloc: Global, message: &[u8]) -> Outbox {
+    let mut out = Outbox::new(alloc);
+    cut(alloc, 2, 5, message, &mut out, Dest::Replicas).expect(rt, "cut");
+    out
+}
+
+fn first<'a>(rt: &impl Abort, out: &'a Outbox) -> &'a Out {
+    out.as_slice().first().expect(rt, "a datagram")
+}
+
+fn last<'a>(rt: &impl Abort, out: &'a Outbox) -> &'a Out {
+    out.as_slice().last().expect(rt, "a datagram")
 }
 
 /// A message is cut into so many fragments, the last of a datagram of that length, and joined again.
-pub fn check_cut(rt: &impl Abort, alloc: Global, message: &[u8], count: usize, last: usize) {
-    let mut out = Outbox::new(alloc);
-    cut(alloc, 2, 5, message, &mut out, Dest::Replicas).expect(rt, "cut");
-    let sent = out.as_slice();
-    let last_sent = sent.last().expect(rt, "a datagram");
-    assert!(rt;
-        sent.len() == count && datagram_of(rt, last_sent).len() == last,
-        "{count} with {last}"
+pub fn check_cut(rt: &impl Abort, alloc: Global, message: &[u8], count: usize, length: usize) {
+    let out = cut_up(rt, alloc, message);
+    check(rt, out.as_slice().len() == count, "how many");
+    check(
+        rt,
+        datagram_of(rt, last(rt, &out)).len() == length,
+        "the last",
     );
-    assert!(rt;
-        joined(rt, alloc, sent).as_slice() == message,
-        "{count} with {last}"
-    );
+    check(rt, is_joined(rt, alloc, out.as_slice(), message), "joined");
 }
 
-fn check_length(rt: &impl Abort, alloc: Global, len: u32, count: usize, last: usize) {
-    check_cut(rt, alloc, &filled(rt, alloc, len), count, last);
+fn check_length(rt: &impl Abort, alloc: Global, len: u32, count: usize, length: usize) {
+    check_cut(rt, alloc, &filled(rt, alloc, len), count, length);
+}
+
+fn is_start_view(rt: &impl Abort, alloc: Global, bytes: &[u8]) -> bool {
+    shown(rt, alloc, bytes).starts_with(
+        "Peer { sender: 1, view: View { leader: 1, session: 1 }, body: StartView {",
+    )
 }
 
 /// A StartView of three requests: ops of 640 bytes and of 640, and the last one with its length.
@@ -113,29 +132,33 @@ fn start_view(rt: &impl Abort, alloc: Global, last: &str) -> Vec<u8> {
         "16 01 00000001 0000000000000001 0000000000000004 00000000 00000003 01 00000000 0000000000000001 0280 78*640 01 00000000 0000000000000002 0280 78*640 01 00000000 0000000000000003 {last}"
     );
     let bytes = bytes_of(rt, alloc, &row.expect(rt, "memory"));
-    let expected = shown(rt, alloc, &bytes);
-    assert!(rt;
-        expected.starts_with(
-            "Peer { sender: 1, view: View { leader: 1, session: 1 }, body: StartView {"
-        )
-    );
+    check(rt, is_start_view(rt, alloc, &bytes), last);
     bytes
+}
+
+fn is_whole(bytes: Option<Bytes>, message: &[u8]) -> bool {
+    match bytes {
+        Some(bytes) => bytes.as_slice() == message,
+        None => false,
+    }
+}
+
+/// The second fragment completes nothing, the first the message, and the first once more nothing.
+fn are_joined(rt: &impl Abort, alloc: Global, first: &Out, second: &Out, message: &[u8]) -> bool {
+    let mut kept = Reassembly::new(alloc, 3).expect(rt, "memory");
+    received(rt, alloc, &mut kept, second).is_none()
+        && is_whole(received(rt, alloc, &mut kept, first), message)
+        && received(rt, alloc, &mut kept, first).is_none()
 }
 
 /// A message of two fragments: the second completes nothing, the first the message, and the first once more nothing.
 fn check_two(rt: &impl Abort, alloc: Global, message: &[u8]) {
     let mut out = Outbox::new(alloc);
     cut(alloc, 1, 1, message, &mut out, Dest::Replicas).expect(rt, "cut");
-    let first = datagram_of(rt, out.as_slice().first().expect(rt, "a datagram"));
-    let second = datagram_of(rt, out.as_slice().last().expect(rt, "a datagram"));
-    assert!(rt; first.len() == 1417 && second.len() == 18);
-    let first = fragment_of(rt, alloc, first);
-    let second = fragment_of(rt, alloc, second);
-    let mut kept = Reassembly::new(alloc, 3).expect(rt, "memory");
-    assert!(rt; taken(rt, &mut kept, &second).is_none());
-    let whole = taken(rt, &mut kept, &first).expect(rt, "a message");
-    assert!(rt; whole.as_slice() == message);
-    assert!(rt; taken(rt, &mut kept, &first).is_none());
+    let (first, second) = (first(rt, &out), last(rt, &out));
+    check(rt, datagram_of(rt, first).len() == 1417, "the first");
+    check(rt, datagram_of(rt, second).len() == 18, "the second");
+    check(rt, are_joined(rt, alloc, first, second, message), "joined");
 }
 
 /// One byte decides whether a message needs a second fragment.
@@ -165,25 +188,36 @@ fn is_cut(rt: &impl Abort, alloc: Global, len: u32) -> Result<(), CutError> {
 
 #[test]
 fn messages_that_are_not_cut(rt: HostRuntime) {
-    assert!(rt; is_cut(&rt, rt.alloc(), 0) == Err(CutError::Size));
-    assert!(rt; is_cut(&rt, rt.alloc(), 5_734_401) == Err(CutError::Size));
+    let shortest = is_cut(&rt, rt.alloc(), 0);
+    check(&rt, shortest == Err(CutError::Size), "no byte");
+    let longest = is_cut(&rt, rt.alloc(), 5_734_401);
+    check(&rt, longest == Err(CutError::Size), "too many");
+}
+
+fn arriving(rt: &impl Abort, alloc: Global, arrival: &Arrival) -> Fragment {
+    let (replica, message, index, count, len, _gives) = *arrival;
+    Fragment {
+        replica,
+        message,
+        index,
+        count,
+        payload: Bytes::from_vec(filled(rt, alloc, len)),
+    }
+}
+
+/// How many bytes a fragment completes.
+fn completed(rt: &impl Abort, kept: &mut Reassembly, fragment: &Fragment) -> usize {
+    match taken(rt, kept, fragment) {
+        Some(bytes) => bytes.as_slice().len(),
+        None => 0,
+    }
 }
 
 /// Takes fragments in order, and compares what each of them completes.
 fn arrive(rt: &impl Abort, alloc: Global, kept: &mut Reassembly, arrivals: &[Arrival]) {
-    for (replica, message, index, count, len, gives) in arrivals {
-        let fragment = Fragment {
-            replica: *replica,
-            message: *message,
-            index: *index,
-            count: *count,
-            payload: Bytes::from_vec(filled(rt, alloc, *len)),
-        };
-        let given = match taken(rt, kept, &fragment) {
-            Some(bytes) => bytes.as_slice().len(),
-            None => 0,
-        };
-        assert!(rt; given == *gives, "{index} of {count} with {len} bytes");
+    for (row, arrival) in arrivals.iter().enumerate() {
+        let given = completed(rt, kept, &arriving(rt, alloc, arrival));
+        assert!(rt; given == arrival.5, "fragment {row}");
     }
 }
 
@@ -194,7 +228,7 @@ fn fragments_that_arrive(rt: HostRuntime) {
 }
 
 /// Five messages that begin, of which the first is dropped, and that one once more, which drops the second.
-const DROPPED: [Arrival; 7] = [
+static DROPPED: [Arrival; 7] = [
     (1, 1, 0, 2, 1400, 0),
     (1, 2, 0, 2, 1400, 0),
     (1, 3, 0, 2, 1400, 0),
@@ -208,6 +242,7 @@ const DROPPED: [Arrival; 7] = [
 fn unfinished_messages_are_few(rt: HostRuntime) {
     let mut kept = Reassembly::new(rt.alloc(), 3).expect(&rt, "memory");
     arrive(&rt, rt.alloc(), &mut kept, &DROPPED);
-    assert!(rt; kept.held(1) == 4200);
-    assert!(rt; kept.held(0) == 0 && kept.held(3) == 0);
+    check(&rt, kept.held(1) == 4200, "of sender 1");
+    check(&rt, kept.held(0) == 0, "of sender 0");
+    check(&rt, kept.held(3) == 0, "of none");
 }

@@ -2,7 +2,7 @@ ghost use Rattle.nop_types.specs.Checkpoints.{CheckpointFits};
 ghost use Rattle.nop_types.specs.Ranges.{PeerFits};
 
 use crate::joining::check_cut;
-use crate::rows::{bytes_of, is_expected, text};
+use crate::rows::{bytes_of, check, is_expected, put, put_times, text};
 use nop_types::{Answered, Bytes, Checkpoint, Entry, LogRef, Peer, SavedClient, View};
 use peer_codec::{EncodedPeer, LogBody, decode_peer, encode_peer, encode_with_log, read_peer};
 use std::alloc::Global;
@@ -91,13 +91,13 @@ const REFUSALS: &str = "\
 17 00 00000000 0000000000000001 00000001 00000000 00000001 00000000 0000000000000002 03 0000000000000002 0000 = Short
 17 00 00000000 0000000000000001 00000001 00000000 00000001 00000000 ffffffffffffffff 02 ffffffffffffffff 0000 ffffffffffffffff = Field";
 
-/// The bytes that a message is written as.
-fn spelled(rt: &impl Abort, alloc: Global, message: &Peer) -> Vec<u8>
+/// Whether a message is written as these bytes.
+fn is_spelled(rt: &impl Abort, alloc: Global, message: &Peer, bytes: &[u8]) -> bool
     requires { PeerFits message.now }
 {
     let mut to = Vec::new(alloc);
     encode_peer(alloc, message, &mut to).expect(rt, "memory");
-    to
+    to.as_slice() == bytes
 }
 
 /// What the bytes spell, or the test that they fail. What is spelled is written as the same bytes.
@@ -105,29 +105,39 @@ pub fn shown(rt: &impl Abort, alloc: Global, bytes: &[u8]) -> String {
     match decode_peer(alloc, bytes) {
         Err(bad) => text(rt, alloc, &bad),
         Ok(message) => {
-            assert!(rt; spelled(rt, alloc, &message).as_slice() == bytes);
+            check(rt, is_spelled(rt, alloc, &message, bytes), "spelled");
             text(rt, alloc, &message)
         }
     }
 }
 
+fn is_shown(rt: &impl Abort, alloc: Global, bytes: &[u8], expected: &str) -> bool {
+    is_expected(&shown(rt, alloc, bytes), expected)
+}
+
+/// Whether the bytes are a message.
+fn is_read(rt: &impl Abort, alloc: Global, bytes: &[u8]) -> bool {
+    read_peer(alloc, bytes).expect(rt, "memory").is_some()
+}
+
 fn check_row(rt: &impl Abort, alloc: Global, row: &str) {
     let (bytes, expected) = row.split_once("= ").expect(rt, "a row");
     let bytes = bytes_of(rt, alloc, bytes);
-    let given = shown(rt, alloc, &bytes);
-    assert!(rt; is_expected(&given, expected), "{row}");
-    let read = read_peer(alloc, &bytes).expect(rt, "memory");
-    assert!(rt; read.is_some() == expected.starts_with("Peer"), "{row}");
+    check(rt, is_shown(rt, alloc, &bytes, expected), row);
+    let is_message = expected.starts_with("Peer");
+    check(rt, is_read(rt, alloc, &bytes) == is_message, row);
+}
+
+fn check_rows(rt: &impl Abort, alloc: Global, rows: &str) {
+    for row in rows.lines() {
+        check_row(rt, alloc, row);
+    }
 }
 
 #[test]
 fn rows(rt: HostRuntime) {
-    for row in EXAMPLES.lines() {
-        check_row(&rt, rt.alloc(), row);
-    }
-    for row in REFUSALS.lines() {
-        check_row(&rt, rt.alloc(), row);
-    }
+    check_rows(&rt, rt.alloc(), EXAMPLES);
+    check_rows(&rt, rt.alloc(), REFUSALS);
 }
 
 /// The entries of a log of two NO-OPs, which messages borrow.
@@ -143,81 +153,95 @@ const SECOND: View = View {
     session: 1,
 };
 
+fn client(rt: &impl Abort, alloc: Global) -> SavedClient {
+    let result = Bytes::new(alloc, b"=v").expect(rt, "memory");
+    let kept = vec![in alloc; Answered { id: 2, result }].expect(rt, "memory");
+    SavedClient {
+        client: 7,
+        greatest: 2,
+        kept,
+    }
+}
+
 /// A checkpoint of a host's state of two bytes and a client.
 fn saved(rt: &impl Abort, alloc: Global) -> Checkpoint
     ensures { CheckpointFits result }
 {
-    let answered = Answered {
-        id: 2,
-        result: Bytes::new(alloc, b"=v").expect(rt, "memory"),
-    };
-    let client = SavedClient {
-        client: 7,
-        greatest: 2,
-        kept: vec![in alloc; answered].expect(rt, "memory"),
-    };
     let host = Bytes::new(alloc, b"kv").expect(rt, "memory");
-    let clients = vec![in alloc; client].expect(rt, "memory");
+    let clients = vec![in alloc; client(rt, alloc)].expect(rt, "memory");
     let checkpoint = Checkpoint::new(host, clients).expect(rt, "within the limits");
     let _host = checkpoint.host();
     checkpoint
 }
 
-#[test]
-fn spells_a_borrowed_change(rt: HostRuntime) {
-    let checkpoint = saved(&rt, rt.alloc());
+const CHANGE: &str =
+    "15 02 00000001 0000000000000001 00000000 0000000000000001 0000000000000003 00000001 00000002 6b76 00000001 00000007 0000000000000002 01 0000000000000002 0002 3d76 00000002 00 00";
+
+const START: &str =
+    "16 01 00000001 0000000000000001 0000000000000003 00000002 00000002 6b76 00000001 00000007 0000000000000002 01 0000000000000002 0002 3d76 00000002 00 00";
+
+/// A ViewChange of replica 2, whose log borrows.
+fn change(rt: &impl Abort, alloc: Global, checkpoint: &Checkpoint) -> EncodedPeer
+    requires { CheckpointFits checkpoint.now }
+{
+    let log = LogRef {
+        sync_point: 1,
+        checkpoint: Some(checkpoint),
+        entries: &NO_OPS,
+    };
     let body = LogBody::ViewChange {
         last_normal: FIRST,
         next: 3,
-        log: LogRef {
-            sync_point: 1,
-            checkpoint: Some(&checkpoint),
-            entries: &NO_OPS,
-        },
+        log,
     };
-    let change = EncodedPeer::with_log(rt.alloc(), 2, SECOND, body).expect(&rt, "memory");
-    let bytes = bytes_of(
-        &rt,
-        rt.alloc(),
-        "15 02 00000001 0000000000000001 00000000 0000000000000001 0000000000000003 00000001 00000002 6b76 00000001 00000007 0000000000000002 01 0000000000000002 0002 3d76 00000002 00 00",
-    );
-    assert!(rt; change.sender() == 2);
-    assert!(rt; change.as_slice() == bytes.as_slice());
+    EncodedPeer::with_log(alloc, 2, SECOND, body).expect(rt, "memory")
+}
+
+/// A StartView of replica 1, whose log borrows.
+fn start(rt: &impl Abort, alloc: Global, checkpoint: &Checkpoint) -> EncodedPeer
+    requires { CheckpointFits checkpoint.now }
+{
+    let log = LogRef {
+        sync_point: 2,
+        checkpoint: Some(checkpoint),
+        entries: &NO_OPS,
+    };
+    let body = LogBody::StartView { next: 3, log };
+    EncodedPeer::with_log(alloc, 1, SECOND, body).expect(rt, "memory")
+}
+
+fn check_message(rt: &impl Abort, alloc: Global, message: &EncodedPeer, sender: u8, row: &str) {
+    check(rt, message.sender() == sender, row);
+    let bytes = bytes_of(rt, alloc, row);
+    check(rt, message.as_slice() == bytes.as_slice(), row);
 }
 
 #[test]
-fn spells_a_borrowed_start(rt: HostRuntime) {
+fn spells_borrowed_logs(rt: HostRuntime) {
     let checkpoint = saved(&rt, rt.alloc());
-    let body = LogBody::StartView {
-        next: 3,
-        log: LogRef {
-            sync_point: 2,
-            checkpoint: Some(&checkpoint),
-            entries: &NO_OPS,
-        },
+    let change = change(&rt, rt.alloc(), &checkpoint);
+    check_message(&rt, rt.alloc(), &change, 2, CHANGE);
+    let start = start(&rt, rt.alloc(), &checkpoint);
+    check_message(&rt, rt.alloc(), &start, 1, START);
+}
+
+/// Appends a SyncPrepare of replica 0, whose log borrows.
+fn append_log(rt: &impl Abort, alloc: Global, to: &mut Vec<u8>) {
+    let log = LogRef {
+        sync_point: 0,
+        checkpoint: None,
+        entries: &NO_OPS,
     };
-    let start = EncodedPeer::with_log(rt.alloc(), 1, SECOND, body).expect(&rt, "memory");
-    let bytes = bytes_of(
-        &rt,
-        rt.alloc(),
-        "16 01 00000001 0000000000000001 0000000000000003 00000002 00000002 6b76 00000001 00000007 0000000000000002 01 0000000000000002 0002 3d76 00000002 00 00",
-    );
-    assert!(rt; start.sender() == 1);
-    assert!(rt; start.as_slice() == bytes.as_slice());
+    encode_with_log(alloc, 0, FIRST, LogBody::SyncPrepare(log), to).expect(rt, "memory");
 }
 
 #[test]
 fn appends_a_borrowed_log(rt: HostRuntime) {
-    let alloc = rt.alloc();
-    let mut to = Vec::from_slice(alloc, b"before").expect(&rt, "memory");
-    let body = LogBody::SyncPrepare(LogRef {
-        sync_point: 0,
-        checkpoint: None,
-        entries: &NO_OPS,
-    });
-    encode_with_log(alloc, 0, FIRST, body, &mut to).expect(&rt, "memory");
+    let mut to = Vec::new(rt.alloc());
+    put(&rt, b"before", &mut to);
+    append_log(&rt, rt.alloc(), &mut to);
     let bytes = b"before\x17\0\0\0\0\0\0\0\0\0\0\0\0\x01\0\0\0\0\0\0\0\x02\0\0";
-    assert!(rt; to.as_slice() == bytes.as_slice());
+    check(&rt, to.as_slice() == bytes.as_slice(), "appended");
 }
 
 /// The parts of a ViewChange with the greatest log: all fields before its host's state, its clients without their numbers, and its
@@ -230,38 +254,45 @@ const OF_CLIENT: &str =
 
 const OF_ENTRY: &str = "01 ffffffff ffffffffffffffff 0280 ff*640";
 
-fn put(rt: &impl Abort, bytes: &[u8], to: &mut Vec<u8>) {
-    to.extend_from_slice(bytes).expect(rt, "memory");
+/// The clients of the longest message, each with eight results.
+fn put_clients(rt: &impl Abort, alloc: Global, to: &mut Vec<u8>) {
+    put(rt, b"\0\0\x01\0", to);
+    let of_client = bytes_of(rt, alloc, OF_CLIENT);
+    check(rt, of_client.len() == 2145, "a client");
+    for client in 0..256u32 {
+        put(rt, &client.to_be_bytes(), to);
+        put(rt, &of_client, to);
+    }
 }
 
-/// The longest message. Its clients, with eight results each, have 550,148 bytes.
+fn put_entries(rt: &impl Abort, alloc: Global, to: &mut Vec<u8>) {
+    put(rt, b"\0\0\x10\0", to);
+    put_times(rt, &bytes_of(rt, alloc, OF_ENTRY), 4096, to);
+}
+
+/// The longest message. Its clients have 550,148 bytes.
 fn longest(rt: &impl Abort, alloc: Global) -> Vec<u8> {
     let mut to = bytes_of(rt, alloc, BEFORE_HOST);
-    for _ in 0..1_400_000u32 {
-        put(rt, b"h", &mut to);
-    }
+    put_times(rt, b"h", 1_400_000, &mut to);
     let before = to.len();
-    put(rt, b"\0\0\x01\0", &mut to);
-    let of_client = bytes_of(rt, alloc, OF_CLIENT);
-    for client in 0..256u32 {
-        put(rt, &client.to_be_bytes(), &mut to);
-        put(rt, &of_client, &mut to);
-    }
-    assert!(rt; of_client.len() == 2145 && to.len().saturating_sub(before) == 550_148);
-    put(rt, b"\0\0\x10\0", &mut to);
-    let entry = bytes_of(rt, alloc, OF_ENTRY);
-    for _ in 0..4096u32 {
-        put(rt, &entry, &mut to);
-    }
+    put_clients(rt, alloc, &mut to);
+    check(rt, to.len().saturating_sub(before) == 550_148, "clients");
+    put_entries(rt, alloc, &mut to);
     to
+}
+
+/// Whether the bytes are a message that is written as them.
+fn is_whole(rt: &impl Abort, alloc: Global, bytes: &[u8]) -> bool {
+    match decode_peer(alloc, bytes) {
+        Ok(message) => is_spelled(rt, alloc, &message, bytes),
+        Err(_) => false,
+    }
 }
 
 #[test]
 fn longest_message(rt: HostRuntime) {
-    let alloc = rt.alloc();
-    let bytes = longest(&rt, alloc);
-    assert!(rt; bytes.len() == 4_633_074);
-    let message = decode_peer(alloc, &bytes).expect(&rt, "a message");
-    assert!(rt; spelled(&rt, alloc, &message) == bytes);
-    check_cut(&rt, alloc, &bytes, 3310, 491);
+    let bytes = longest(&rt, rt.alloc());
+    check(&rt, bytes.len() == 4_633_074, "its length");
+    check(&rt, is_whole(&rt, rt.alloc(), &bytes), "a message");
+    check_cut(&rt, rt.alloc(), &bytes, 3310, 491);
 }

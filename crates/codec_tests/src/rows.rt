@@ -3,12 +3,35 @@ use std::alloc::Global;
 use std::fmt::Debug;
 use std::process::Abort;
 
+/// Ends the test where this does not hold, with what it is about.
+pub fn check(rt: &impl Abort, holds: bool, told: &str) {
+    assert!(rt; holds, "{told}");
+}
+
+/// What stands before the next `|` of a row, and what stands behind it.
+pub fn cut_once<'a>(rt: &impl Abort, row: &'a str) -> (&'a str, &'a str) {
+    row.split_once('|').expect(rt, "a part of a row")
+}
+
+pub fn number(rt: &impl Abort, digits: &str) -> u32 {
+    digits.parse::<u32>().expect(rt, "a number")
+}
+
+pub fn put(rt: &impl Abort, bytes: &[u8], to: &mut Vec<u8>) {
+    to.extend_from_slice(bytes).expect(rt, "memory");
+}
+
+/// Puts the bytes so many times.
+pub fn put_times(rt: &impl Abort, bytes: &[u8], count: u32, to: &mut Vec<u8>) {
+    for _ in 0..count {
+        put(rt, bytes, to);
+    }
+}
+
 fn put_bytes(rt: &impl Abort, alloc: Global, word: &str, bytes: &mut Vec<u8>) {
     let (digits, count) = word.split_once('*').unwrap_or((word, "1"));
     let piece = hex::decode(alloc, digits).expect(rt, "hexadecimal");
-    for _ in 0..count.parse::<u32>().expect(rt, "a number") {
-        bytes.extend_from_slice(&piece).expect(rt, "memory");
-    }
+    put_times(rt, &piece, number(rt, count), bytes);
 }
 
 /// The bytes of a row: words of two digits for each byte, where `ff*640` has its bytes 640 times.
@@ -23,11 +46,8 @@ pub fn bytes_of(rt: &impl Abort, alloc: Global, row: &str) -> Vec<u8> {
 /// The request of a client with this id and this op.
 pub fn request(rt: &impl Abort, alloc: Global, client: u32, id: u64, op: &[u8]) -> Request {
     assert!(rt; op.len() <= MAX_OP_BYTES);
-    Request {
-        client,
-        id,
-        op: Op::new(alloc, op).expect(rt, "memory"),
-    }
+    let op = Op::new(alloc, op).expect(rt, "memory");
+    Request { client, id, op }
 }
 
 /// Whether a text is the one that is told, or begins so where that ends in two dots.
@@ -44,5 +64,5 @@ pub fn text<T: Debug>(rt: &impl Abort, alloc: Global, value: &T) -> String {
 }
 
 pub fn check_text(rt: &impl Abort, given: &str, expected: &str) {
-    assert!(rt; given == expected, "{given}");
+    check(rt, given == expected, given);
 }

@@ -1,4 +1,6 @@
-use crate::rows::{check_text, request};
+ghost use Rattle.schedule_text.specs.EventText.{HasLine};
+
+use crate::rows::{check, check_text, cut_once, number, put, request};
 use nop_types::Dest::One;
 use nop_types::{Actor, Bytes, Config, Dest, Entry, Key, Phase, View};
 use outside::ReadMem;
@@ -159,23 +161,22 @@ fn put_plain(rt: &impl Abort, written: &str, count: u32, text: &mut Vec<u8>) {
 
 /// The text of a row, without the letters that it gives.
 fn text_of(rt: &impl Abort, alloc: Global, row: &str) -> Vec<u8> {
-    let (first, row) = row.split_once('|').expect(rt, "a first line");
-    let (prefix, row) = row.split_once('|').expect(rt, "a front");
-    let (byte, count) = row.split_once('|').expect(rt, "a byte");
+    let (first, row) = cut_once(rt, row);
+    let (prefix, row) = cut_once(rt, row);
+    let (byte, count) = cut_once(rt, row);
     let mut text = Vec::new(alloc);
     if first == "+" {
-        text.extend_from_slice(FIRST).expect(rt, "memory");
+        put(rt, FIRST, &mut text);
     }
     put_plain(rt, prefix, 1, &mut text);
-    let count = count.parse::<u32>().expect(rt, "a number");
-    put_plain(rt, byte, count, &mut text);
+    put_plain(rt, byte, number(rt, count), &mut text);
     text
 }
 
 fn check_row(rt: &impl Abort, alloc: Global, row: &str, most: usize) {
     let (row, expected) = row.rsplit_once('|').expect(rt, "letters");
     let given = letters(rt, alloc, text_of(rt, alloc, row), most, 4);
-    assert!(rt; given.as_slice() == expected.as_bytes(), "{row}");
+    check(rt, given.as_slice() == expected.as_bytes(), row);
 }
 
 #[test]
@@ -187,11 +188,11 @@ fn lines_that_are_read(rt: HostRuntime) {
     }
 }
 
-/// What the next line orders: the controller, and the sequencer to move to.
-fn next_install(rt: &impl Abort, reader: &mut Reader, source: &mut ReadMem) -> (u8, u8) {
+/// Whether the next line orders that: the controller, and the sequencer to move to.
+fn installs(reader: &mut Reader, source: &mut ReadMem, expected: (u8, u8)) -> bool {
     match reader.next(source) {
-        Ok(Some(Event::Install(controller, sequencer))) => (controller, sequencer),
-        _ => panic!(rt; "no install"),
+        Ok(Some(Event::Install(controller, sequencer))) => (controller, sequencer) == expected,
+        _ => false,
     }
 }
 
@@ -202,30 +203,34 @@ install s1
 install s0 ctl
 ";
 
-#[test]
-fn installs_that_are_read(rt: HostRuntime) {
-    let text = Vec::from_slice(rt.alloc(), INSTALLS).expect(&rt, "memory");
-    let mut source = ReadMem::with_limit(text, 4096);
-    let mut reader = Reader::new(rt.alloc());
-    assert!(rt; reader.form() == 0);
-    assert!(rt; next_install(&rt, &mut reader, &mut source) == (2, 1));
-    assert!(rt; next_install(&rt, &mut reader, &mut source) == (0, 1));
-    assert!(rt; next_install(&rt, &mut reader, &mut source) == (0, 0));
-    assert!(rt; reader.form() == 2);
+/// A source of these bytes.
+fn source_of(rt: &impl Abort, alloc: Global, bytes: &[u8]) -> ReadMem {
+    let text = Vec::from_slice(alloc, bytes).expect(rt, "memory");
+    ReadMem::with_limit(text, 4096)
 }
 
-/// What the next line asks: whether it is the key, and the client and the observer.
-fn next_read(
-    rt: &impl Abort,
-    reader: &mut Reader,
-    source: &mut ReadMem,
-    key: &[u8],
-) -> (bool, u32, u8) {
+fn are_installs(reader: &mut Reader, source: &mut ReadMem) -> bool {
+    reader.form() == 0
+        && installs(reader, source, (2, 1))
+        && installs(reader, source, (0, 1))
+        && installs(reader, source, (0, 0))
+        && reader.form() == 2
+}
+
+#[test]
+fn installs_that_are_read(rt: HostRuntime) {
+    let mut source = source_of(&rt, rt.alloc(), INSTALLS);
+    let mut reader = Reader::new(rt.alloc());
+    check(&rt, are_installs(&mut reader, &mut source), "installs");
+}
+
+/// Whether the next line asks that: the key, the client and the observer.
+fn asks(reader: &mut Reader, source: &mut ReadMem, key: &[u8], expected: (u32, u8)) -> bool {
     match reader.next(source) {
         Ok(Some(Event::Read(client, observer, asked))) => {
-            (asked.as_slice() == key, client, observer)
+            asked.as_slice() == key && (client, observer) == expected
         }
-        _ => panic!(rt; "no read"),
+        _ => false,
     }
 }
 
@@ -235,34 +240,42 @@ read c2 o3 6bFf
 read c0 o0 00
 ";
 
+fn are_reads(reader: &mut Reader, source: &mut ReadMem) -> bool {
+    asks(reader, source, b"k\xff", (2, 3))
+        && asks(reader, source, b"\0", (0, 0))
+        && reader.form() == 3
+        && reader.config().map(Config::observers) == Some(4)
+}
+
 #[test]
 fn reads_that_are_read(rt: HostRuntime) {
-    let text = Vec::from_slice(rt.alloc(), READS).expect(&rt, "memory");
-    let mut source = ReadMem::with_limit(text, 4096);
+    let mut source = source_of(&rt, rt.alloc(), READS);
     let mut reader = Reader::new(rt.alloc());
-    assert!(rt; next_read(&rt, &mut reader, &mut source, b"k\xff") == (true, 2, 3));
-    assert!(rt; next_read(&rt, &mut reader, &mut source, b"\0") == (true, 0, 0));
-    assert!(rt; reader.form() == 3);
-    let config = reader.config().expect(&rt, "a first line");
-    assert!(rt; config.observers() == 4);
+    check(&rt, are_reads(&mut reader, &mut source), "reads");
+}
+
+fn put_event(rt: &impl Abort, event: &Event, to: &mut Vec<u8>)
+    requires { HasLine event.now }
+{
+    event_line(event, to).expect(rt, "memory");
 }
 
 #[test]
 fn reads_that_are_written(rt: HostRuntime) {
     let mut to = Vec::new(rt.alloc());
     let key = Key::new(rt.alloc(), b"k\xff").expect(&rt, "memory");
-    event_line(&Event::Read(2, 3, key), &mut to).expect(&rt, "memory");
-    let text = std::str::from_utf8(&to).expect(&rt, "text");
-    check_text(&rt, text, "read c2 o3 6bff\n");
+    put_event(&rt, &Event::Read(2, 3, key), &mut to);
+    let expected = b"read c2 o3 6bff\n";
+    check(&rt, to.as_slice() == expected.as_slice(), "a read");
 }
 
 #[test]
 fn installs_that_are_written(rt: HostRuntime) {
     let mut to = Vec::new(rt.alloc());
-    event_line(&Event::Install(2, 1), &mut to).expect(&rt, "memory");
-    event_line(&Event::Install(0, 1), &mut to).expect(&rt, "memory");
-    let text = std::str::from_utf8(&to).expect(&rt, "text");
-    check_text(&rt, text, "install s1 ctl2\ninstall s1\n");
+    put_event(&rt, &Event::Install(2, 1), &mut to);
+    put_event(&rt, &Event::Install(0, 1), &mut to);
+    let expected = b"install s1 ctl2\ninstall s1\n";
+    check(&rt, to.as_slice() == expected.as_slice(), "installs");
 }
 
 const LINES: &str = "\
@@ -301,8 +314,8 @@ error line 1000001 rule 10
 error line 5 rule 8 index 7 sent 2
 ";
 
-/// The lines of requests and of what clients do.
-fn put_requests(rt: &impl Abort, alloc: Global, to: &mut Vec<u8>) {
+/// First lines.
+fn put_headers(rt: &impl Abort, to: &mut Vec<u8>) {
     let one = Config::new(3, 2, 16, 1, 0).expect(rt, "limits");
     transcript_line(1, one, to).expect(rt, "memory");
     let four = Config::new(3, 2, 16, 4, 0).expect(rt, "limits");
@@ -310,10 +323,18 @@ fn put_requests(rt: &impl Abort, alloc: Global, to: &mut Vec<u8>) {
     let watched = Config::new(7, 1, 2, 3, 4).expect(rt, "limits");
     transcript_line(3, watched, to).expect(rt, "memory");
     transcript_line(3, one, to).expect(rt, "memory");
+}
+
+/// The lines of dead actors.
+fn put_dead(rt: &impl Abort, to: &mut Vec<u8>) {
     dead_line(Actor::Controller(0), to).expect(rt, "memory");
     dead_line(Actor::Controller(3), to).expect(rt, "memory");
     dead_line(Actor::Client(15), to).expect(rt, "memory");
     dead_line(Actor::Observer(2), to).expect(rt, "memory");
+}
+
+/// The lines of requests and of what clients do.
+fn put_requests(rt: &impl Abort, alloc: Global, to: &mut Vec<u8>) {
     let empty = request(rt, alloc, u32::MAX, u64::MAX, b"");
     submit_line(&empty, to).expect(rt, "memory");
     let none = Bytes::new(alloc, b"none").expect(rt, "memory");
@@ -332,7 +353,7 @@ fn put_reads(rt: &impl Abort, alloc: Global, to: &mut Vec<u8>) {
 }
 
 /// Datagrams: an index, from whom, to whom, a kind and a length.
-const SENDS: [(u64, Actor, Dest, u8, usize); 10] = [
+static SENDS: [(u64, Actor, Dest, u8, usize); 10] = [
     (0, Actor::Client(0), Dest::Sequencers, 1, 25),
     (1, Actor::Sequencer(0), Dest::Replicas, 2, 41),
     (2, Actor::Replica(0), One(Actor::Client(0)), 3, 40),
@@ -345,40 +366,62 @@ const SENDS: [(u64, Actor, Dest, u8, usize); 10] = [
     (u64::MAX, Actor::Replica(1), One(Actor::Replica(2)), 8, 35),
 ];
 
+/// A datagram of this kind and length, with zeros behind its kind.
+fn datagram(rt: &impl Abort, alloc: Global, kind: u8, len: usize) -> Vec<u8> {
+    let mut bytes = Vec::from_slice(alloc, &[0x4e, 0x4f, 3, kind]).expect(rt, "memory");
+    bytes.resize(len, 0).expect(rt, "memory");
+    bytes
+}
+
 /// The lines of sends.
 fn put_sends(rt: &impl Abort, alloc: Global, to: &mut Vec<u8>) {
     for (index, from, dest, kind, len) in &SENDS {
-        let mut datagram = Vec::from_slice(alloc, &[0x4e, 0x4f, 3, *kind]).expect(rt, "memory");
-        datagram.resize(*len, 0).expect(rt, "memory");
+        let datagram = datagram(rt, alloc, *kind, *len);
         send_line(*index, *from, *dest, &datagram, to).expect(rt, "memory");
     }
 }
 
-/// The lines of a state, and of the end.
+const VIEW: View = View {
+    leader: u32::MAX,
+    session: u64::MAX,
+};
+
+/// The lines of a replica's state.
 fn put_state(rt: &impl Abort, alloc: Global, to: &mut Vec<u8>) {
-    let view = View {
-        leader: u32::MAX,
-        session: u64::MAX,
-    };
-    replica_line(6, true, Phase::Change, view, 4096, 7, to).expect(rt, "memory");
+    replica_line(6, true, Phase::Change, VIEW, 4096, 7, to).expect(rt, "memory");
     entry_line(0, 1, &Entry::NoOp, to).expect(rt, "memory");
     let entry = Entry::Req(request(rt, alloc, 7, 9, b"\x00\xff\x1a"));
     entry_line(2, 4096, &entry, to).expect(rt, "memory");
+}
+
+/// The lines of observers and of the end.
+fn put_end(rt: &impl Abort, alloc: Global, to: &mut Vec<u8>) {
     observer_line(3, true, u32::MAX, to).expect(rt, "memory");
     observer_line(0, false, 0, to).expect(rt, "memory");
     let last = request(rt, alloc, 7, 9, b"\x00\xff\x1a");
     history_line(4096, &last, to).expect(rt, "memory");
     end_line(to).expect(rt, "memory");
+}
+
+fn put_errors(rt: &impl Abort, to: &mut Vec<u8>) {
     error_line(1_000_001, 10, None, to).expect(rt, "memory");
     error_line(5, 8, Some((7, 2)), to).expect(rt, "memory");
+}
+
+fn put_lines(rt: &impl Abort, alloc: Global, to: &mut Vec<u8>) {
+    put_headers(rt, to);
+    put_dead(rt, to);
+    put_requests(rt, alloc, to);
+    put_reads(rt, alloc, to);
+    put_sends(rt, alloc, to);
+    put_state(rt, alloc, to);
+    put_end(rt, alloc, to);
+    put_errors(rt, to);
 }
 
 #[test]
 fn lines_that_are_written(rt: HostRuntime) {
     let mut to = Vec::new(rt.alloc());
-    put_requests(&rt, rt.alloc(), &mut to);
-    put_reads(&rt, rt.alloc(), &mut to);
-    put_sends(&rt, rt.alloc(), &mut to);
-    put_state(&rt, rt.alloc(), &mut to);
+    put_lines(&rt, rt.alloc(), &mut to);
     check_text(&rt, std::str::from_utf8(&to).expect(&rt, "text"), LINES);
 }

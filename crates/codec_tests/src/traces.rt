@@ -1,4 +1,4 @@
-use crate::rows::{bytes_of, is_expected, request, text};
+use crate::rows::{bytes_of, check, cut_once, is_expected, number, put, put_times, request, text};
 use nop_types::{Actor, Bytes, Config, Dest, Input, Key, Op, Out, Tick};
 use std::alloc::Global;
 use std::process::Abort;
@@ -78,22 +78,20 @@ in s0 packet -~|0|0|None
 |0|0|None
 in c|9|4093|None";
 
-fn put_times(rt: &impl Abort, piece: &str, count: &str, line: &mut Vec<u8>) {
-    let byte = piece.as_bytes().first().expect(rt, "a byte");
-    for _ in 0..count.parse::<u32>().expect(rt, "a number") {
-        line.push(*byte).expect(rt, "memory");
-    }
+/// The row of a line, or none, as its derive shows it.
+fn shown(rt: &impl Abort, alloc: Global, line: &[u8]) -> String {
+    text(rt, alloc, &read_row(alloc, line).expect(rt, "memory"))
 }
 
 fn check_line(rt: &impl Abort, alloc: Global, row: &str) {
-    let (front, row) = row.split_once('|').expect(rt, "a line");
-    let (piece, row) = row.split_once('|').expect(rt, "a byte");
-    let (count, expected) = row.split_once('|').expect(rt, "a count");
-    let mut line = Vec::from_slice(alloc, front.as_bytes()).expect(rt, "memory");
-    put_times(rt, piece, count, &mut line);
-    let read = read_row(alloc, &line).expect(rt, "memory");
-    let shown = text(rt, alloc, &read);
-    assert!(rt; is_expected(&shown, expected), "{front}: {shown}");
+    let (front, row) = cut_once(rt, row);
+    let (piece, row) = cut_once(rt, row);
+    let (count, expected) = cut_once(rt, row);
+    let mut line = Vec::new(alloc);
+    put(rt, front.as_bytes(), &mut line);
+    put_times(rt, piece.as_bytes(), number(rt, count), &mut line);
+    let shown = shown(rt, alloc, &line);
+    check(rt, is_expected(&shown, expected), &shown);
 }
 
 #[test]
@@ -132,7 +130,7 @@ fn check_step(
 ) {
     let mut to = Vec::new(alloc);
     trace_step(actor, input, outs, &mut to).expect(rt, "memory");
-    assert!(rt; to.as_slice() == expected.as_bytes());
+    check(rt, to.as_slice() == expected.as_bytes(), expected);
 }
 
 const BEGUN: &str = "\
@@ -146,60 +144,90 @@ in s0 packet 4e4f030100000000000000000000000100075000016b000176
 out s0 send r* 4e4f03020000000000000001000000000000000100000000000000000000000100075000016b000176
 ";
 
-#[test]
-fn steps_as_lines(rt: HostRuntime) {
-    let alloc = rt.alloc();
-    let op = op(&rt, alloc);
-    let begun = begun(&rt, alloc);
+/// The steps of client 0, where it submits its first op.
+fn check_submit(rt: &impl Abort, alloc: Global, op: &Op, begun: &[Out]) {
     let client = Actor::Client(0);
-    check_step(&rt, alloc, client, Input::Submit(&op), &begun, BEGUN);
-    check_step(&rt, alloc, client, Input::Tick(Tick::Next), &begun, BEGUN);
-    check_step(&rt, alloc, client, Input::Tick(Tick::Next), &[], "");
-    let packet = bytes_of(&rt, alloc, REQUEST);
-    let stamps = [sent(&rt, alloc, Dest::Replicas, STAMPED)];
-    let sequencer = Actor::Sequencer(0);
-    check_step(
-        &rt,
-        alloc,
-        sequencer,
-        Input::Packet(&packet),
-        &stamps,
-        STAMPS,
-    );
+    check_step(rt, alloc, client, Input::Submit(op), begun, BEGUN);
+    check_step(rt, alloc, client, Input::Tick(Tick::Next), begun, BEGUN);
+    check_step(rt, alloc, client, Input::Tick(Tick::Next), &[], "");
 }
 
 #[test]
-fn steps_of_readers_and_controllers(rt: HostRuntime) {
-    let alloc = rt.alloc();
-    let key = Key::new(alloc, b"k").expect(&rt, "memory");
-    let asked = [Out::Reading {
+fn steps_of_a_client(rt: HostRuntime) {
+    let op = op(&rt, rt.alloc());
+    let begun = begun(&rt, rt.alloc());
+    check_submit(&rt, rt.alloc(), &op, &begun);
+}
+
+fn check_stamps(rt: &impl Abort, alloc: Global, packet: &[u8], stamps: &[Out]) {
+    let sequencer = Actor::Sequencer(0);
+    let packet = Input::Packet(packet);
+    check_step(rt, alloc, sequencer, packet, stamps, STAMPS);
+}
+
+#[test]
+fn a_step_of_a_sequencer(rt: HostRuntime) {
+    let packet = bytes_of(&rt, rt.alloc(), REQUEST);
+    let stamps = [sent(&rt, rt.alloc(), Dest::Replicas, STAMPED)];
+    check_stamps(&rt, rt.alloc(), &packet, &stamps);
+}
+
+fn key(rt: &impl Abort, alloc: Global) -> Key {
+    Key::new(alloc, b"k").expect(rt, "memory")
+}
+
+/// What client 2 gives where it asks observer 1.
+fn asked(rt: &impl Abort, alloc: Global) -> Out {
+    Out::Reading {
         client: 2,
         id: 3,
         observer: 1,
-        key: Key::new(alloc, b"k").expect(&rt, "memory"),
-    }];
-    let reads = "in c2 read o1 6b\nout c2 read 3 o1 6b\n";
+        key: key(rt, alloc),
+    }
+}
+
+/// The steps of client 2, where it asks observer 1.
+fn check_asks(rt: &impl Abort, alloc: Global, key: &Key, asked: &[Out]) {
     let client = Actor::Client(2);
-    check_step(&rt, alloc, client, Input::Read(1, &key), &asked, reads);
-    check_step(&rt, alloc, client, Input::Tick(Tick::Retry), &asked, reads);
-    let retries = Input::Tick(Tick::Retry);
-    check_step(
-        &rt,
-        alloc,
-        client,
-        retries,
-        &[Out::Busy(2)],
-        "in c2 tick retry\n",
-    );
-    let answered = [Out::Answered {
+    let reads = "in c2 read o1 6b\nout c2 read 3 o1 6b\n";
+    check_step(rt, alloc, client, Input::Read(1, key), asked, reads);
+    check_step(rt, alloc, client, Input::Tick(Tick::Retry), asked, reads);
+}
+
+#[test]
+fn steps_of_a_reader(rt: HostRuntime) {
+    let key = key(&rt, rt.alloc());
+    let asked = [asked(&rt, rt.alloc())];
+    check_asks(&rt, rt.alloc(), &key, &asked);
+}
+
+/// What client 2 gives where observer 1 answers.
+fn answered(alloc: Global) -> Out {
+    Out::Answered {
         client: 2,
         id: 3,
         observer: 1,
         position: 7,
         result: Bytes::from_vec(Vec::new(alloc)),
-    }];
+    }
+}
+
+#[test]
+fn a_step_of_a_reader_that_is_answered(rt: HostRuntime) {
+    let alloc = rt.alloc();
+    let client = Actor::Client(2);
+    let answered = [answered(alloc)];
     let answers = "in c2 packet -\nout c2 answer 3 o1 7 -\n";
     check_step(&rt, alloc, client, Input::Packet(&[]), &answered, answers);
+}
+
+#[test]
+fn ticks_that_give_no_line_of_their_own(rt: HostRuntime) {
+    let alloc = rt.alloc();
+    let busy = [Out::Busy(2)];
+    let retry = Input::Tick(Tick::Retry);
+    let retries = "in c2 tick retry\n";
+    check_step(&rt, alloc, Actor::Client(2), retry, &busy, retries);
     let install = Input::Tick(Tick::Install(3));
     let ordered = "in ctl1 install s3\n";
     check_step(&rt, alloc, Actor::Controller(1), install, &[], ordered);
@@ -210,7 +238,7 @@ fn check_header(rt: &impl Abort, alloc: Global, form: u8, counts: [u8; 5], expec
     let config = Config::new(n, s, c, k, o).expect(rt, "a configuration");
     let mut to = Vec::new(alloc);
     header_line(form, config, &mut to).expect(rt, "memory");
-    assert!(rt; to.as_slice() == expected.as_bytes());
+    check(rt, to.as_slice() == expected.as_bytes(), expected);
 }
 
 #[test]

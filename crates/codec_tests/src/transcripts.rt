@@ -1,4 +1,4 @@
-use crate::rows::check_text;
+use crate::rows::{check, cut_once, number};
 use outside::ReadMem;
 use std::alloc::Global;
 use std::process::Abort;
@@ -59,18 +59,27 @@ fn answer(rt: &impl Abort, alloc: Global, text: Vec<u8>) -> (u32, u32) {
     }
 }
 
-fn check_row(rt: &impl Abort, alloc: Global, row: &str) {
-    let (lines, expected) = row.rsplit_once('|').expect(rt, "an answer");
-    let (first, lines) = lines.split_once('|').expect(rt, "a first line");
+/// The first line, if it is told, and these lines.
+fn text_of(rt: &impl Abort, alloc: Global, first: &str, lines: &str) -> Vec<u8> {
     let mut text = Vec::new(alloc);
     if first == "+" {
         put_lines(rt, FIRST, &mut text);
     }
     put_lines(rt, lines, &mut text);
+    text
+}
+
+/// The line and the clause that a row tells.
+fn expected_of(rt: &impl Abort, expected: &str) -> (u32, u32) {
     let (line, clause) = expected.split_once('.').unwrap_or((expected, "0"));
-    let line = line.parse::<u32>().expect(rt, "a number");
-    let clause = clause.parse::<u32>().expect(rt, "a number");
-    assert!(rt; answer(rt, alloc, text) == (line, clause), "{row}");
+    (number(rt, line), number(rt, clause))
+}
+
+fn check_row(rt: &impl Abort, alloc: Global, row: &str) {
+    let (first, rest) = cut_once(rt, row);
+    let (lines, expected) = cut_once(rt, rest);
+    let given = answer(rt, alloc, text_of(rt, alloc, first, lines));
+    check(rt, given == expected_of(rt, expected), row);
 }
 
 #[test]
@@ -80,19 +89,24 @@ fn transcripts_that_are_read(rt: HostRuntime) {
     }
 }
 
-#[test]
-fn an_observer_as_a_row(rt: HostRuntime) {
+const WATCHING: &[u8] = b"observer o3 crashed 7";
+
+/// Whether the row of observer 3 is written as its line.
+fn is_written(rt: &impl Abort, alloc: Global) -> bool {
     let row = Row::Watching {
         observer: 3,
         crashed: true,
         position: 7,
     };
-    let mut to = Vec::new(rt.alloc());
-    write_row(&row, &mut to).expect(&rt, "memory");
-    let text = std::str::from_utf8(&to).expect(&rt, "text");
-    check_text(&rt, text, "observer o3 crashed 7\n");
-    let mut scratch = Vec::new(rt.alloc());
-    match read_row(rt.alloc(), b"observer o3 crashed 7", &mut scratch) {
+    let mut to = Vec::new(alloc);
+    write_row(&row, &mut to).expect(rt, "memory");
+    to.as_slice() == b"observer o3 crashed 7\n".as_slice()
+}
+
+/// Whether the row of observer 3 is read from its line.
+fn is_read(alloc: Global) -> bool {
+    let mut scratch = Vec::new(alloc);
+    match read_row(alloc, WATCHING, &mut scratch) {
         Ok(
             Some(
                 Row::Watching {
@@ -101,7 +115,13 @@ fn an_observer_as_a_row(rt: HostRuntime) {
                     position,
                 },
             ),
-        ) => assert!(rt; observer == 3 && crashed && position == 7),
-        _ => panic!(rt; "no row"),
+        ) => observer == 3 && crashed && position == 7,
+        _ => false,
     }
+}
+
+#[test]
+fn an_observer_as_a_row(rt: HostRuntime) {
+    check(&rt, is_written(&rt, rt.alloc()), "written");
+    check(&rt, is_read(rt.alloc()), "read");
 }

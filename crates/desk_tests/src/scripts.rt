@@ -5,18 +5,21 @@ use nop_types::{Config, Input, MAX_OP_BYTES, Op, Out, Tick};
 use std::alloc::Global;
 use std::process::Abort;
 
-/// A reply of view (0, 1), whose leader is replica 0, in hexadecimal: replica, client, id and slot, and with tag 1 the result `x`.
-fn reply(rt: &impl Abort, alloc: Global, words: &str) -> Vec<u8> {
-    let (replica, words) = words.split_once(' ').expect(rt, "a replica");
-    let (client, id) = words.split_once(' ').expect(rt, "a client");
-    let replica = replica.parse::<u8>().expect(rt, "a number");
-    let client = client.parse::<u32>().expect(rt, "a number");
-    // The request is at the slot of its id.
-    let slot = id.parse::<u32>().expect(rt, "a number");
-    let id = u64::from(slot);
+/// What stands before the first blank, and what behind it.
+fn cut<'a>(rt: &impl Abort, words: &'a str) -> (&'a str, &'a str) {
+    words.split_once(' ').expect(rt, "two words")
+}
+
+fn number(rt: &impl Abort, word: &str) -> usize {
+    word.parse::<usize>().expect(rt, "a number")
+}
+
+/// A reply of view (0, 1), whose leader is replica 0, in hexadecimal: replica, client and id, which is the request's slot too, and with
+/// tag 1 the result `x`.
+fn reply(rt: &impl Abort, alloc: Global, replica: usize, client: usize, id: usize) -> Vec<u8> {
     let end = if replica == 0 { "01000178" } else { "000000" };
     let digits = format!(in alloc;
-        "4e4f0303{replica:02x}000000000000000000000001{slot:08x}{client:08x}{id:016x}{end}"
+        "4e4f0303{replica:02x}000000000000000000000001{id:08x}{client:08x}{id:016x}{end}"
     );
     hex::decode(alloc, digits.expect(rt, "memory").as_str()).expect(rt, "hexadecimal")
 }
@@ -63,44 +66,62 @@ fn take(rt: &impl Abort, alloc: Global, desk: &mut Desk, word: &str, to: &mut St
     }
 }
 
-/// A line of a script: `take OP`, `leave TICKET`, `retry CORE`, or `reply REPLICA CLIENT ID`, which comes to the core with the place of the
-/// client's number.
+/// A core is told to send again what is open.
+fn retry(rt: &impl Abort, alloc: Global, desk: &mut Desk, core: usize, to: &mut String) {
+    let told = desk
+        .comes(core, Input::Tick(Tick::Retry))
+        .expect(rt, "memory");
+    let line = format!(in alloc; "  {} sent\n", told.len()).expect(rt, "memory");
+    put_text(rt, line.as_str(), to);
+}
+
+/// A reply `REPLICA CLIENT ID` comes to the core with the place of the client's number.
+fn hear(rt: &impl Abort, alloc: Global, desk: &mut Desk, words: &str, to: &mut String) {
+    let (replica, words) = cut(rt, words);
+    let (client, id) = cut(rt, words);
+    let core = number(rt, client);
+    let bytes = reply(rt, alloc, number(rt, replica), core, number(rt, id));
+    let told = desk.comes(core, Input::Packet(&bytes)).expect(rt, "memory");
+    put_all(rt, alloc, &told, to);
+}
+
+/// A line of a script: `take OP`, `leave TICKET`, `retry CORE`, or `reply REPLICA CLIENT ID`.
 fn turn(rt: &impl Abort, alloc: Global, desk: &mut Desk, line: &str, to: &mut String) {
-    let (kind, rest) = line.split_once(' ').expect(rt, "a word");
+    let (kind, rest) = cut(rt, line);
     match kind {
         "take" => take(rt, alloc, desk, rest, to),
-        "leave" => desk.leave(rest.parse::<u64>().expect(rt, "a ticket")),
-        "retry" => {
-            let core = rest.parse::<usize>().expect(rt, "a core");
-            let told = desk
-                .comes(core, Input::Tick(Tick::Retry))
-                .expect(rt, "memory");
-            let line = format!(in alloc; "  {} sent\n", told.len()).expect(rt, "memory");
-            put_text(rt, line.as_str(), to);
-        }
-        _ => {
-            let bytes = reply(rt, alloc, rest);
-            let (_, client) = rest.split_once(' ').expect(rt, "a client");
-            let (client, _) = client.split_once(' ').expect(rt, "an id");
-            let core = client.parse::<usize>().expect(rt, "a number");
-            let told = desk.comes(core, Input::Packet(&bytes)).expect(rt, "memory");
-            put_all(rt, alloc, &told, to);
-        }
+        "leave" => desk.leave(number(rt, rest) as u64),
+        "retry" => retry(rt, alloc, desk, number(rt, rest), to),
+        _ => hear(rt, alloc, desk, rest, to),
     }
 }
 
-/// A desk of so many cores takes the lines of a script that are not indented; those that are say what it told.
-pub fn play(rt: &impl Abort, alloc: Global, cores: usize, script: &str) {
-    let config = Config::new(3, 1, 1, 1, 0).expect(rt, "a group");
-    assert!(rt; cores <= 16);
-    let mut desk = Desk::new(alloc, config, 0, cores).expect(rt, "memory");
+/// The lines of a script that are not indented, and below each what the desk tells.
+fn told(rt: &impl Abort, alloc: Global, desk: &mut Desk, script: &str) -> String {
     let mut given = String::new(alloc);
     for line in script.lines() {
         if !line.starts_with("  ") {
             put_text(rt, line, &mut given);
             put_text(rt, "\n", &mut given);
-            turn(rt, alloc, &mut desk, line, &mut given);
+            turn(rt, alloc, desk, line, &mut given);
         }
     }
-    assert!(rt; given.as_str() == script, "{given}");
+    given
+}
+
+fn check(rt: &impl Abort, given: &str, script: &str) {
+    assert!(rt; given == script, "{given}");
+}
+
+/// A desk of so many cores, over three replicas.
+fn new_desk(rt: &impl Abort, alloc: Global, cores: usize) -> Desk {
+    let config = Config::new(3, 1, 1, 1, 0).expect(rt, "a group");
+    assert!(rt; cores <= 16);
+    Desk::new(alloc, config, 0, cores).expect(rt, "memory")
+}
+
+/// A desk of so many cores takes the lines of a script that are not indented; those that are say what it told.
+pub fn play(rt: &impl Abort, alloc: Global, cores: usize, script: &str) {
+    let mut desk = new_desk(rt, alloc, cores);
+    check(rt, &told(rt, alloc, &mut desk, script), script);
 }

@@ -4,7 +4,7 @@ use std::alloc::Global;
 use std::process::Abort;
 
 /// Three replicas, a sequencer, a controller, an observer and a place of clients.
-const NODES: [Actor; 7] = [
+static NODES: [Actor; 7] = [
     Actor::Replica(0),
     Actor::Replica(1),
     Actor::Replica(2),
@@ -31,29 +31,42 @@ fn asker(rt: &impl Abort, alloc: Global, actor: Actor) -> Admission {
     Admission::new(alloc, own, &NODES, 1_000_000).expect(rt, "memory")
 }
 
-fn check(rt: &impl Abort, asker: &mut Admission, number: u32, rows: &[Row]) {
-    for (row, step) in rows.iter().enumerate() {
-        match step {
-            At(now, word, standing) => {
-                assert!(rt; asker.turn(*now) == *word, "row {row}");
-                assert!(rt; asker.standing() == *standing, "row {row}");
-            }
-            Hears(from, word, standing) => {
-                let greeting = Greeting {
-                    word: *word,
-                    digest: 77,
-                    number,
-                    process: 9,
-                };
-                asker.hear(*from, greeting);
-                assert!(rt; asker.standing() == *standing, "row {row}");
-            }
+/// Whether what happens goes as the row says.
+fn goes(asker: &mut Admission, number: u32, row: &Row) -> bool {
+    match row {
+        At(now, word, standing) => asker.turn(*now) == *word && asker.standing() == *standing,
+        Hears(from, word, standing) => {
+            let greeting = Greeting {
+                word: *word,
+                digest: 77,
+                number,
+                process: 9,
+            };
+            asker.hear(*from, greeting);
+            asker.standing() == *standing
         }
     }
 }
 
+fn check_rows(rt: &impl Abort, asker: &mut Admission, number: u32, rows: &[Row]) {
+    for (row, step) in rows.iter().enumerate() {
+        assert!(rt; goes(asker, number, step), "row {row}");
+    }
+}
+
+fn check(rt: &impl Abort, alloc: Global, actor: Actor, number: u32, rows: &[Row]) {
+    let mut asker = asker(rt, alloc, actor);
+    check_rows(rt, &mut asker, number, rows);
+}
+
+/// The actor asks so many nodes.
+fn check_others(rt: &impl Abort, alloc: Global, actor: Actor, count: usize) {
+    let asker = asker(rt, alloc, actor);
+    assert!(rt; asker.others().len() == count, "not {count} others");
+}
+
 /// A client: replicas count. All answer at once, then two of three, after 0.3 s; then it reminds the others, until all have noted it.
-const CLIENT: [Row; 27] = [
+static CLIENT: [Row; 27] = [
     At(1_000_000, Some(Word::Ask), Standing::Going),
     At(1_019_999, None, Standing::Going),
     At(1_020_000, Some(Word::Ask), Standing::Going),
@@ -86,7 +99,7 @@ const CLIENT: [Row; 27] = [
 ];
 
 /// A replica: two of the four that count are half, which is not enough, however long; an observer doesn't count.
-const REPLICA: [Row; 9] = [
+static REPLICA: [Row; 9] = [
     At(1_000_000, Some(Word::Ask), Standing::Going),
     Hears(Actor::Replica(1), Word::Free, Standing::Going),
     Hears(Actor::Controller(0), Word::Free, Standing::Going),
@@ -99,37 +112,30 @@ const REPLICA: [Row; 9] = [
 ];
 
 /// A refusal ends it, of one that doesn't count too, but not of a place that was not asked.
-const REFUSED: [Row; 4] = [
+static REFUSED: [Row; 4] = [
     At(1_000_000, Some(Word::Ask), Standing::Going),
     Hears(Actor::Client(5), Word::Taken, Standing::Going),
     Hears(Actor::Observer(0), Word::Foreign, Standing::Refused),
     At(2_000_000, None, Standing::Refused),
 ];
 
+/// An answer to another process is none.
+static OTHERS: [Row; 1] = [Hears(Actor::Replica(0), Word::Taken, Standing::Going)];
+
 #[test]
 fn a_client_is_admitted(rt: HostRuntime) {
-    let mut client = asker(&rt, rt.alloc(), Actor::Client(21));
-    assert_eq!(rt; client.others().len(), 6);
-    check(&rt, &mut client, 21, &CLIENT);
+    check_others(&rt, rt.alloc(), Actor::Client(21), 6);
+    check(&rt, rt.alloc(), Actor::Client(21), 21, &CLIENT);
 }
 
 #[test]
 fn half_is_not_enough(rt: HostRuntime) {
-    let mut replica = asker(&rt, rt.alloc(), Actor::Replica(0));
-    assert_eq!(rt; replica.others().len(), 5);
-    check(&rt, &mut replica, 0, &REPLICA);
+    check_others(&rt, rt.alloc(), Actor::Replica(0), 5);
+    check(&rt, rt.alloc(), Actor::Replica(0), 0, &REPLICA);
 }
 
 #[test]
 fn a_refusal_ends_it(rt: HostRuntime) {
-    let mut sequencer = asker(&rt, rt.alloc(), Actor::Sequencer(0));
-    check(&rt, &mut sequencer, 0, &REFUSED);
-    // An answer to another process is none.
-    let mut other = asker(&rt, rt.alloc(), Actor::Sequencer(0));
-    check(
-        &rt,
-        &mut other,
-        1,
-        &[Hears(Actor::Replica(0), Word::Taken, Standing::Going)],
-    );
+    check(&rt, rt.alloc(), Actor::Sequencer(0), 0, &REFUSED);
+    check(&rt, rt.alloc(), Actor::Sequencer(0), 1, &OTHERS);
 }

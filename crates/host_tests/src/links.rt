@@ -1,5 +1,6 @@
 use admission::{Greeting, Registry, Word};
 use nop_types::Actor;
+use std::alloc::Global;
 use std::process::Abort;
 
 /// The digest of the list of the link, and of another one.
@@ -10,7 +11,7 @@ const OTHER: u64 = 78;
 /// A greeting from an address: the actor there, its word, digest, number and process, and the word of the answer.
 type Row = (Actor, Word, u64, u32, u64, Option<Word>);
 
-const NODES: [Row; 16] = [
+static NODES: [Row; 16] = [
     (Actor::Replica(1), Word::Ask, DIGEST, 1, 5, Some(Word::Free)),
     (Actor::Replica(1), Word::Ask, DIGEST, 1, 6, Some(Word::Free)),
     (
@@ -96,7 +97,7 @@ const NODES: [Row; 16] = [
 ];
 
 /// Two client numbers are noted at most.
-const CLIENTS: [Row; 10] = [
+static CLIENTS: [Row; 10] = [
     (
         Actor::Client(5),
         Word::Claim,
@@ -151,53 +152,64 @@ const CLIENTS: [Row; 10] = [
     ),
 ];
 
-fn check(rt: &impl Abort, link: &mut Registry, rows: &[Row]) {
-    for (row, (source, word, digest, number, process, expected)) in rows.iter().enumerate() {
-        let greeting = Greeting {
-            word: *word,
-            digest: *digest,
-            number: *number,
-            process: *process,
-        };
-        let answer = link.answer(*source, greeting).expect(rt, "memory");
-        let expected = match expected {
-            Some(word) => {
-                Some(Greeting {
-                    word: *word,
-                    ..greeting
-                })
-            }
-            None => None,
-        };
-        assert!(rt; answer == expected, "row {row}");
+/// The greeting with the word of the answer.
+fn answer_of(greeting: Greeting, word: Option<Word>) -> Option<Greeting> {
+    match word {
+        Some(word) => Some(Greeting { word, ..greeting }),
+        None => None,
     }
+}
+
+/// Whether the link answers as the row says.
+fn answers(rt: &impl Abort, link: &mut Registry, row: &Row) -> bool {
+    let (source, word, digest, number, process, expected) = *row;
+    let greeting = Greeting {
+        word,
+        digest,
+        number,
+        process,
+    };
+    let answer = link.answer(source, greeting).expect(rt, "memory");
+    answer == answer_of(greeting, expected)
+}
+
+fn check(rt: &impl Abort, link: &mut Registry, rows: &[Row]) {
+    for (number, row) in rows.iter().enumerate() {
+        assert!(rt; answers(rt, link, row), "row {number}");
+    }
+}
+
+fn check_links(rt: &impl Abort, alloc: Global) {
+    let mut link = Registry::new(alloc, DIGEST, 2);
+    check(rt, &mut link, &NODES);
+    check(rt, &mut link, &CLIENTS);
 }
 
 #[test]
 fn links_answer(rt: HostRuntime) {
-    let mut link = Registry::new(rt.alloc(), DIGEST, 2);
-    check(&rt, &mut link, &NODES);
-    check(&rt, &mut link, &CLIENTS);
+    check_links(&rt, rt.alloc());
 }
 
-#[test]
-fn client_numbers_are_bounded(rt: HostRuntime) {
-    let mut link = Registry::new(rt.alloc(), DIGEST, 256);
+/// Whether the claim of a client number is answered by this word.
+fn is_answered(rt: &impl Abort, link: &mut Registry, number: u32, word: Word) -> bool {
+    let source = Actor::Client(number % 16);
+    let row = (source, Word::Claim, DIGEST, number, 9, Some(word));
+    answers(rt, link, &row)
+}
+
+fn check_numbers(rt: &impl Abort, alloc: Global) {
+    let mut link = Registry::new(alloc, DIGEST, 256);
     for number in 0..257u32 {
-        let greeting = Greeting {
-            word: Word::Claim,
-            digest: DIGEST,
-            number,
-            process: 9,
-        };
-        let answer = link
-            .answer(Actor::Client(number % 16), greeting)
-            .expect(&rt, "memory");
         let word = if number < 256 {
             Word::Noted
         } else {
             Word::Taken
         };
-        assert!(rt; answer == Some(Greeting { word, ..greeting }));
+        assert!(rt; is_answered(rt, &mut link, number, word), "client {number}");
     }
+}
+
+#[test]
+fn client_numbers_are_bounded(rt: HostRuntime) {
+    check_numbers(&rt, rt.alloc());
 }

@@ -34,54 +34,97 @@ const SAME: &str =
 c0 10.0.0.9:41016\nr2 [fd00:0:0:0:0:0:0:3]:41000#r9\n#cluster 9\ns0 10.0.0.1:41008\nr1 10.0.0.2:41000\nr0 10.0.0.1:41000
 cluster 18446744073709551615\n";
 
+fn check(rt: &impl Abort, holds: bool, text: &str) {
+    assert!(rt; holds, "{text}");
+}
+
 fn list(rt: &impl Abort, text: &str) -> HostList {
     read(text.as_bytes()).expect(rt, "a list")
 }
 
-fn address(rt: &impl Abort, text: &str) -> Option<SocketAddr> {
-    Some(SocketAddr::parse_ascii(text.as_bytes()).expect(rt, "an address"))
+fn address(rt: &impl Abort, text: &str) -> SocketAddr {
+    SocketAddr::parse_ascii(text.as_bytes()).expect(rt, "an address")
+}
+
+fn is_least(list: &HostList) -> bool {
+    list.cluster() == 7
+        && Config::new(1, 1, 1, 1, 0) == Some(list.config())
+        && list.digest() == 0x71db_e6f2_4c3e_d4d0
+}
+
+fn is_full(list: &HostList) -> bool {
+    list.cluster() == u64::MAX
+        && Config::new(3, 2, 6, 2, 1) == Some(list.config())
+        && list.digest() == 0x99db_13df_9881_5324
+}
+
+fn is_same(list: &HostList, other: &HostList) -> bool {
+    list.config() == other.config() && list.digest() == other.digest()
+}
+
+fn check_full(rt: &impl Abort, full: &HostList) {
+    check(rt, is_full(full), "the full list");
+    check(rt, is_same(&list(rt, SAME), full), "the same list");
 }
 
 #[test]
 fn lists_are_read(rt: HostRuntime) {
-    let least = list(&rt, LEAST);
-    assert_eq!(rt; least.cluster(), 7);
-    assert!(rt; Config::new(1, 1, 1, 1, 0) == Some(least.config()));
-    assert_eq!(rt; least.digest(), 0x71db_e6f2_4c3e_d4d0);
-    let full = list(&rt, FULL);
-    assert_eq!(rt; full.cluster(), u64::MAX);
-    assert!(rt; Config::new(3, 2, 6, 2, 1) == Some(full.config()));
-    assert_eq!(rt; full.digest(), 0x99db_13df_9881_5324);
-    let same = list(&rt, SAME);
-    assert!(rt; same.config() == full.config());
-    assert_eq!(rt; same.digest(), full.digest());
+    check(&rt, is_least(&list(&rt, LEAST)), "the least list");
+    check_full(&rt, &list(&rt, FULL));
+}
+
+/// Actors, and their addresses in the full list. A client is at the place of its number.
+static ADDRESSES: [(Actor, &str); 7] = [
+    (Actor::Replica(0), "10.0.0.1:41000"),
+    (Actor::Replica(2), "[fd00::3]:41000"),
+    (Actor::Sequencer(1), "10.0.0.2:41008"),
+    (Actor::Controller(1), "10.0.0.2:41012"),
+    (Actor::Observer(0), "10.0.0.3:41032"),
+    (Actor::Client(16), "10.0.0.9:41016"),
+    (Actor::Client(5), "[fe80::9%2]:41021"),
+];
+
+fn check_addresses(rt: &impl Abort, list: &HostList) {
+    for (actor, text) in &ADDRESSES {
+        let address = Some(address(rt, text));
+        check(rt, list.address_of(*actor) == address, text);
+    }
+}
+
+static UNLISTED: [Actor; 3] = [Actor::Client(1), Actor::Replica(3), Actor::Replica(8)];
+
+fn check_unlisted(rt: &impl Abort, list: &HostList) {
+    for (row, actor) in UNLISTED.iter().enumerate() {
+        assert!(rt; list.address_of(*actor).is_none(), "row {row}");
+    }
+}
+
+/// Addresses, and their actors in the full list.
+static ACTORS: [(&str, Option<Actor>); 3] = [
+    ("10.0.0.1:41001", None),
+    ("10.0.0.2:41008", Some(Actor::Sequencer(1))),
+    ("[fe80::9%2]:41021", Some(Actor::Client(5))),
+];
+
+fn check_actors(rt: &impl Abort, list: &HostList) {
+    for (text, actor) in &ACTORS {
+        check(rt, list.actor_of(address(rt, text)) == *actor, text);
+    }
+}
+
+fn check_places(rt: &impl Abort, list: &HostList) {
+    check_addresses(rt, list);
+    check_unlisted(rt, list);
+    check_actors(rt, list);
 }
 
 #[test]
 fn actors_have_addresses(rt: HostRuntime) {
-    let list = list(&rt, FULL);
-    let leader = address(&rt, "10.0.0.1:41000");
-    assert!(rt; list.address_of(Actor::Replica(0)) == leader);
-    assert!(rt; list.address_of(Actor::Replica(2)) == address(&rt, "[fd00::3]:41000"));
-    assert!(rt; list.address_of(Actor::Sequencer(1)) == address(&rt, "10.0.0.2:41008"));
-    assert!(rt; list.address_of(Actor::Controller(1)) == address(&rt, "10.0.0.2:41012"));
-    assert!(rt; list.address_of(Actor::Observer(0)) == address(&rt, "10.0.0.3:41032"));
-    // A client is at the place of its number.
-    assert!(rt; list.address_of(Actor::Client(16)) == address(&rt, "10.0.0.9:41016"));
-    assert!(rt; list.address_of(Actor::Client(5)) == address(&rt, "[fe80::9%2]:41021"));
-    assert!(rt; list.address_of(Actor::Client(1)).is_none());
-    assert!(rt; list.address_of(Actor::Replica(3)).is_none());
-    assert!(rt; list.address_of(Actor::Replica(8)).is_none());
-    let unlisted = SocketAddr::parse_ascii(b"10.0.0.1:41001").expect(&rt, "an address");
-    assert!(rt; list.actor_of(unlisted).is_none());
-    let sequencer = SocketAddr::parse_ascii(b"10.0.0.2:41008").expect(&rt, "an address");
-    assert!(rt; list.actor_of(sequencer) == Some(Actor::Sequencer(1)));
-    let client = SocketAddr::parse_ascii(b"[fe80::9%2]:41021").expect(&rt, "an address");
-    assert!(rt; list.actor_of(client) == Some(Actor::Client(5)));
+    check_places(&rt, &list(&rt, FULL));
 }
 
 /// A text, the line at which it is refused, and the number of the rule.
-const REFUSED: [(&str, usize, u8); 43] = [
+static REFUSED: [(&str, usize, u8); 43] = [
     // words
     ("cluster", 1, 1),
     ("r0 10.0.0.1:1 x", 1, 1),
@@ -138,15 +181,21 @@ const REFUSED: [(&str, usize, u8); 43] = [
     ),
 ];
 
+/// Whether the text is refused at this line by this rule.
+fn is_refused(text: &str, line: usize, rule: u8) -> bool {
+    match read(text.as_bytes()) {
+        Ok(_) => false,
+        Err(refusal) => refusal.line == line && refusal.rule.number() == rule,
+    }
+}
+
+fn check_refused(rt: &impl Abort) {
+    for (row, (text, line, rule)) in REFUSED.iter().enumerate() {
+        assert!(rt; is_refused(text, *line, *rule), "row {row}");
+    }
+}
+
 #[test]
 fn lists_are_refused(rt: HostRuntime) {
-    for (row, (text, line, rule)) in REFUSED.iter().enumerate() {
-        match read(text.as_bytes()) {
-            Ok(_) => assert!(rt; false, "row {row} is a list"),
-            Err(refusal) => {
-                assert_eq!(rt; refusal.line, *line, "row {row}");
-                assert_eq!(rt; refusal.rule.number(), *rule, "row {row}");
-            }
-        }
-    }
+    check_refused(&rt);
 }

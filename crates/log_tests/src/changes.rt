@@ -23,7 +23,9 @@ fn change(rt: &impl Abort, alloc: Global, row: &Row) -> Change {
 }
 
 /// Senders of changes with their logs, and the merge of the logs.
-const MERGES: [(&[(u8, &[u64])], &[u64]); 6] = [
+type Merge = (&'static [(u8, &'static [u64])], &'static [u64]);
+
+static MERGES: [Merge; 6] = [
     (
         &[(1, &[1, 2]), (2, &[1, 0, 3]), (4, &[1, 2, 4, 5])],
         &[1, 0, 3, 5],
@@ -57,26 +59,40 @@ fn changes_of(rt: &impl Abort, alloc: Global, row: &[(u8, &'static [u64])]) -> V
 /// A change of another view, of which neither the sync point nor the entries count.
 const OTHER: Row = (0, 1, 1, 1, (5, 9, &[0, 0, 0, 0, 0]));
 
-/// The log of the changes, and that of those and one of another view.
-fn merged(rt: &impl Abort, alloc: Global, mut changes: Vec<Change>) -> (Log, Log) {
-    let view = View {
-        leader: 0,
-        session: 1,
-    };
-    let first = merge_of_view(alloc, &changes, view).expect(rt, "memory");
-    let other = change(rt, alloc, &OTHER);
-    changes.push(other).expect(rt, "memory");
-    let second = merge_of_view(alloc, &changes, view).expect(rt, "memory");
-    (first, second)
+const VIEW: View = View {
+    leader: 0,
+    session: 1,
+};
+
+/// The log of the changes of the view.
+fn merged(rt: &impl Abort, alloc: Global, changes: &[Change]) -> Log {
+    merge_of_view(alloc, changes, VIEW).expect(rt, "memory")
+}
+
+/// Adds the change of another view.
+fn push_other(rt: &impl Abort, alloc: Global, changes: &mut Vec<Change>) {
+    changes.push(change(rt, alloc, &OTHER)).expect(rt, "memory");
+}
+
+/// The log of the changes has these entries.
+fn is_merged(rt: &impl Abort, alloc: Global, changes: &[Change], ids: &'static [u64]) -> bool {
+    is_expected(merged(rt, alloc, changes).as_ref(), (0, 0, ids))
+}
+
+/// Whether the changes have that merge, alone and beside one of another view.
+fn merges_to(rt: &impl Abort, alloc: Global, row: &Merge) -> bool {
+    let mut changes = changes_of(rt, alloc, row.0);
+    if !is_merged(rt, alloc, &changes, row.1) {
+        return false;
+    }
+    push_other(rt, alloc, &mut changes);
+    is_merged(rt, alloc, &changes, row.1)
 }
 
 #[test]
 fn merges(rt: HostRuntime) {
-    for (row, (changes, log)) in MERGES.iter().enumerate() {
-        let changes = changes_of(&rt, rt.alloc(), changes);
-        let (first, second) = merged(&rt, rt.alloc(), changes);
-        check_row(&rt, is_expected(first.as_ref(), (0, 0, log)), row);
-        check_row(&rt, is_expected(second.as_ref(), (0, 0, log)), row);
+    for (row, merge) in MERGES.iter().enumerate() {
+        check_row(&rt, merges_to(&rt, rt.alloc(), merge), row);
     }
 }
 
@@ -88,7 +104,7 @@ type Case = (u32, u64, u8, &'static [Row], u64, Ids);
 /// the greatest sync point is not merged. Of three: in one session next is the greater one; in a new session numbers begin at 1;
 /// sessions rank before leader numbers; in a session the greater leader number ranks higher; of equal sync points the lower sender's
 /// checkpoint is taken. Then a leader alone.
-const STARTS: [Case; 9] = [
+static STARTS: [Case; 9] = [
     (
         2,
         1,
@@ -161,6 +177,15 @@ const STARTS: [Case; 9] = [
     (1, 2, 0, &[(0, 0, 1, 3, (1, 7, &[0]))], 1, (1, 7, &[0])),
 ];
 
+/// What a view is started with by this change, if it is.
+fn started_at(rt: &impl Abort, alloc: Global, changes: &mut Changes, row: &Row) -> Option<Start> {
+    let change = change(rt, alloc, row);
+    match changes.on_change(change).expect(rt, "memory") {
+        Step::Started(start) => Some(start),
+        Step::Waiting => None,
+    }
+}
+
 /// What a view is started with by the last of these changes, of which the first is the leader's own; none before it starts the view.
 fn started(rt: &impl Abort, alloc: Global, view: View, f: u8, row: &[Row]) -> Option<Start> {
     let [own, waiting @ .., last] = row else {
@@ -169,16 +194,11 @@ fn started(rt: &impl Abort, alloc: Global, view: View, f: u8, row: &[Row]) -> Op
     let own = change(rt, alloc, own);
     let mut changes = Changes::enter(alloc, view, f, own).expect(rt, "memory");
     for row in waiting {
-        let change = change(rt, alloc, row);
-        if let Step::Started(_) = changes.on_change(change).expect(rt, "memory") {
+        if started_at(rt, alloc, &mut changes, row).is_some() {
             return None;
         }
     }
-    let change = change(rt, alloc, last);
-    match changes.on_change(change).expect(rt, "memory") {
-        Step::Started(start) => Some(start),
-        Step::Waiting => None,
-    }
+    started_at(rt, alloc, &mut changes, last)
 }
 
 /// What a leader alone starts its view with.
@@ -214,18 +234,36 @@ fn starts(rt: HostRuntime) {
     }
 }
 
-/// Full logs of two changes, of which a third one has less, are merged.
+/// The change of this sender, with a full log.
+fn full_change(rt: &impl Abort, alloc: Global, sender: u8) -> Change {
+    Change {
+        sender,
+        last_normal: VIEW,
+        next: 1,
+        log: full(rt, alloc),
+    }
+}
+
+/// Full logs of two changes, and a shorter one of a third.
+fn full_changes(rt: &impl Abort, alloc: Global) -> Vec<Change> {
+    let mut changes = changes_of(rt, alloc, &[(0, &[1])]);
+    for sender in 1..3u8 {
+        let change = full_change(rt, alloc, sender);
+        changes.push(change).expect(rt, "memory");
+    }
+    changes
+}
+
+fn is_full_merge(rt: &impl Abort, alloc: Global, changes: &[Change]) -> bool {
+    is_full(merged(rt, alloc, changes).entries())
+}
+
 #[test]
 fn full_logs_are_merged(rt: HostRuntime) {
-    let mut changes = Vec::new(rt.alloc());
-    for sender in 0..3 {
-        let mut change = change(&rt, rt.alloc(), &(sender, 0, 1, 1, (0, 0, &[1])));
-        if sender > 0 {
-            change.log = full(&rt, rt.alloc());
-        }
-        changes.push(change).expect(&rt, "memory");
-    }
-    let (first, second) = merged(&rt, rt.alloc(), changes);
-    check(&rt, is_full(first.entries()), "of one view");
-    check(&rt, is_full(second.entries()), "beside another one");
+    let mut changes = full_changes(&rt, rt.alloc());
+    let of_one_view = is_full_merge(&rt, rt.alloc(), &changes);
+    check(&rt, of_one_view, "of one view");
+    push_other(&rt, rt.alloc(), &mut changes);
+    let beside_another = is_full_merge(&rt, rt.alloc(), &changes);
+    check(&rt, beside_another, "beside another one");
 }

@@ -39,17 +39,20 @@ pub fn log_of(rt: &impl Abort, alloc: Global, expected: Ids) -> Log {
     Log::new(sync_point, checkpoint(rt, alloc, name), entries)
 }
 
+fn is_entry(entry: &Entry, id: u64) -> bool {
+    match entry {
+        Entry::NoOp => id == 0,
+        Entry::Req(request) => request.id == id,
+    }
+}
+
 /// The entries have these ids, 0 for a NO-OP.
 pub fn is_log(entries: &[Entry], ids: &[u64]) -> bool {
     if entries.len() != ids.len() {
         return false;
     }
     for (entry, id) in entries.iter().zip(ids) {
-        let same = match entry {
-            Entry::NoOp => *id == 0,
-            Entry::Req(request) => request.id == *id,
-        };
-        if !same {
+        if !is_entry(entry, *id) {
             return false;
         }
     }
@@ -85,36 +88,43 @@ fn adopted(rt: &impl Abort, alloc: Global, expected: Ids) -> ReplicaLog {
     log
 }
 
+/// A log of five slots, two of them synchronised, with a NO-OP in place of the request of slot 4.
+fn log_of_five(rt: &impl Abort, alloc: Global) -> ReplicaLog {
+    let mut log = adopted(rt, alloc, (2, 5, &[3, 4]));
+    check(rt, log.has_room(), "room for one more");
+    log.append(entry(rt, alloc, 6)).expect(rt, "memory");
+    check(rt, log.len() == 5, "five slots");
+    check(rt, log.sync_point() == 2, "two are synchronised");
+    log.put_noop(4);
+    log
+}
+
+/// Slots 3 and 4 are there, and none below or above the five.
+fn has_slots(log: &ReplicaLog) -> bool {
+    log.at(0).is_none()
+        && log.at(2).is_none()
+        && matches!(log.at(3), Some(Entry::Req(_)))
+        && matches!(log.at(4), Some(Entry::NoOp))
+        && log.at(6).is_none()
+}
+
+/// What is synchronised of the five slots, and their front.
+fn has_fronts(log: &ReplicaLog) -> bool {
+    log.sync_point() == 2
+        && log.len() == 5
+        && is_expected(log.first(2), (2, 5, &[]))
+        && is_expected(log.first(4), (2, 5, &[3, 0]))
+}
+
 #[test]
 fn entries(rt: HostRuntime) {
-    let mut log = adopted(&rt, rt.alloc(), (2, 5, &[3, 4]));
-    check(&rt, log.has_room(), "room for one more");
-    log.append(entry(&rt, rt.alloc(), 6)).expect(&rt, "memory");
-    check(&rt, log.len() == 5, "five slots");
-    check(&rt, log.sync_point() == 2, "two are synchronised");
-    log.put_noop(4);
-    check(&rt, log.at(0).is_none(), "there is no slot 0");
-    check(&rt, log.at(2).is_none(), "slot 2 is not kept");
-    check(&rt, matches!(log.at(3), Some(Entry::Req(_))), "slot 3");
-    check(&rt, matches!(log.at(4), Some(Entry::NoOp)), "slot 4");
-    check(&rt, log.at(6).is_none(), "there is no slot 6");
-    check(
-        &rt,
-        is_expected(log.as_ref(), (2, 5, &[3, 0, 6])),
-        "by reference",
-    );
-    check(
-        &rt,
-        is_expected(log.first(2), (2, 5, &[])),
-        "what is synchronised",
-    );
-    check(&rt, is_expected(log.first(4), (2, 5, &[3, 0])), "its front");
+    let log = log_of_five(&rt, rt.alloc());
+    check(&rt, has_slots(&log), "slots");
+    check(&rt, has_fronts(&log), "fronts");
+    let expected = (2, 5, [3, 0, 6].as_slice());
+    check(&rt, is_expected(log.as_ref(), expected), "by reference");
     let copy = log.copy().expect(&rt, "memory");
-    check(
-        &rt,
-        is_expected(copy.as_ref(), (2, 5, &[3, 0, 6])),
-        "its copy",
-    );
+    check(&rt, is_expected(copy.as_ref(), expected), "its copy");
 }
 
 #[test]
@@ -131,34 +141,27 @@ fn raised(rt: &impl Abort, log: &mut ReplicaLog, slot: u32, name: u8, alloc: Glo
     log.raise(slot, checkpoint).expect(rt, "memory")
 }
 
+/// A sync point, the name of its checkpoint, the ids that are passed, and the ids that are kept.
+type Rise = (u32, u8, &'static [u64], &'static [u64]);
+
+/// The sync point rises from 2 on: to 4, to 4 with another checkpoint, and to the end.
+static RISES: [Rise; 3] = [(4, 7, &[3, 0], &[6]), (4, 8, &[], &[6]), (5, 9, &[6], &[])];
+
+/// Whether the sync point rises so, and the log stays as long as before.
+fn rises(rt: &impl Abort, alloc: Global, log: &mut ReplicaLog, rise: &Rise) -> bool {
+    let (slot, name, passed, kept) = *rise;
+    let out = raised(rt, log, slot, name, alloc);
+    is_expected(out.as_ref(), (0, 0, passed))
+        && is_expected(log.as_ref(), (slot, name, kept))
+        && log.len() == 5
+}
+
 #[test]
 fn sync_points_rise(rt: HostRuntime) {
     let mut log = adopted(&rt, rt.alloc(), (2, 5, &[3, 0, 6]));
-    let passed = raised(&rt, &mut log, 4, 7, rt.alloc());
-    check(
-        &rt,
-        is_expected(passed.as_ref(), (0, 0, &[3, 0])),
-        "what moved out",
-    );
-    check(&rt, is_expected(log.as_ref(), (4, 7, &[6])), "what is kept");
-    check(&rt, log.len() == 5, "as long as before");
-    let passed = raised(&rt, &mut log, 4, 8, rt.alloc());
-    check(
-        &rt,
-        is_expected(passed.as_ref(), (0, 0, &[])),
-        "nothing moves out",
-    );
-    let passed = raised(&rt, &mut log, 5, 9, rt.alloc());
-    check(
-        &rt,
-        is_expected(passed.as_ref(), (0, 0, &[6])),
-        "the last one",
-    );
-    check(
-        &rt,
-        is_expected(log.as_ref(), (5, 9, &[])),
-        "nothing is kept",
-    );
+    for (row, rise) in RISES.iter().enumerate() {
+        check_row(&rt, rises(&rt, rt.alloc(), &mut log, rise), row);
+    }
 }
 
 /// An own log, another one, and what the own log is after the other was adopted, and after it was laid over.
@@ -166,7 +169,7 @@ type Taking = (Ids, Ids, Ids, Ids);
 
 /// The other sync point is smaller, or as great: the own checkpoint stays, and what stands above the own sync point is taken. Then it
 /// is greater: the other log is taken whole; laid over, the own entries above its end stay.
-const TAKINGS: [Taking; 10] = [
+static TAKINGS: [Taking; 10] = [
     (
         (0, 0, &[1]),
         (0, 0, &[4, 5]),
@@ -237,7 +240,7 @@ fn name(answer: Answer<'_>) -> &'static str {
 
 /// The slot that is asked for, the answer with two slots that are synchronised and two above, and the answer where votes for a gap are
 /// waited for.
-const LOOKUPS: [(u32, &str, &str); 6] = [
+static LOOKUPS: [(u32, &str, &str); 6] = [
     (0, "below", "below"),
     (2, "below", "below"),
     (3, "found", "found"),
@@ -284,16 +287,20 @@ pub fn is_full(entries: &[Entry]) -> bool {
     entries.len() == MAX_SLOTS && is_log(&entries[MAX_SLOTS - 1..], &[MAX_SLOTS as u64])
 }
 
+/// A log that is full, and asked for a slot past its last one.
+fn has_no_room(log: &ReplicaLog) -> bool {
+    is_full(log.entries())
+        && !log.has_room()
+        && name(answer(log, false, MAX_SLOTS as u32 + 1)) == "nothing"
+}
+
 #[test]
 fn full_logs(rt: HostRuntime) {
     let mut log = full_log(&rt, rt.alloc());
-    check(&rt, is_full(log.entries()), "full");
-    check(&rt, !log.has_room(), "without room");
-    let other = full(&rt, rt.alloc());
-    let added = overlay(&rt, &mut log, other);
+    check(&rt, has_no_room(&log), "full");
+    let added = overlay(&rt, &mut log, full(&rt, rt.alloc()));
     check(&rt, added == 0, "no slot is appended");
-    let asked = answer(&log, false, MAX_SLOTS as u32 + 1);
-    check(&rt, name(asked) == "nothing", "past the last slot");
+    check(&rt, has_no_room(&log), "full as before");
 }
 
 #[test]

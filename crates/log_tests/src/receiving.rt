@@ -84,9 +84,12 @@ const LAST: u64 = 281_474_976_710_655;
 /// The session of the second epoch whose count is 2.
 const SECOND: u64 = 4_294_967_298;
 
-/// A call, and the session, the next number and the front then: in order, out of order with a packet that comes twice, other sessions,
+/// A call, and the session, the next number and the front then.
+type Row = (Call, u64, u64, Option<u64>);
+
+/// Calls and what they lead to: in order, out of order with a packet that comes twice, other sessions,
 /// a drop, down and up past some of what is queued, another session, the last number.
-const CALLS: [(Call, u64, u64, Option<u64>); 32] = [
+static CALLS: [Row; 32] = [
     (Call::Message, 2, 1, None),
     (Call::Offer(2, 1, Verdict::Queued), 2, 1, Some(1)),
     (Call::Front, 2, 2, None),
@@ -136,23 +139,32 @@ fn is_at(receiver: &Receiver, session: u64, next: u64, expected: Option<u64>) ->
     receiver.session() == session && receiver.next() == next && front(receiver) == expected
 }
 
+/// A call, and whether the receiver is then as the row says.
+fn does(rt: &impl Abort, alloc: Global, receiver: &mut Receiver, row: &Row) -> bool {
+    let (call, session, next, expected) = *row;
+    carry_out(rt, alloc, receiver, call) && is_at(receiver, session, next, expected)
+}
+
 #[test]
 fn calls(rt: HostRuntime) {
     let mut receiver = Receiver::new(rt.alloc(), 2, 1).expect(&rt, "memory");
-    for (row, (call, session, next, expected)) in CALLS.iter().enumerate() {
-        let holds = carry_out(&rt, rt.alloc(), &mut receiver, *call);
-        check_row(&rt, holds, row);
-        check_row(&rt, is_at(&receiver, *session, *next, *expected), row);
+    for (number, row) in CALLS.iter().enumerate() {
+        check_row(&rt, does(&rt, rt.alloc(), &mut receiver, row), number);
+    }
+}
+
+/// Fills the queue behind the packet 1, which is missing.
+fn fill(rt: &impl Abort, alloc: Global, receiver: &mut Receiver) {
+    for i in 0..MAX_QUEUED as u64 {
+        let verdict = offer(rt, alloc, receiver, 1, i + 2);
+        check(rt, verdict == Verdict::Queued, "queued");
     }
 }
 
 #[test]
 fn a_full_queue(rt: HostRuntime) {
     let mut receiver = Receiver::new(rt.alloc(), 1, 1).expect(&rt, "memory");
-    for i in 0..MAX_QUEUED as u64 {
-        let verdict = offer(&rt, rt.alloc(), &mut receiver, 1, i + 2);
-        check(&rt, verdict == Verdict::Queued, "queued");
-    }
+    fill(&rt, rt.alloc(), &mut receiver);
     let verdict = offer(&rt, rt.alloc(), &mut receiver, 1, 1);
     check(&rt, verdict == Verdict::Full, "one too many");
     let verdict = offer(&rt, rt.alloc(), &mut receiver, 1, 2);

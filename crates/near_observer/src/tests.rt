@@ -7,7 +7,7 @@ use std::alloc::Global;
 use std::process::Abort;
 
 /// A leader tells its log: client 0 puts v at k. The message is one fragment.
-const PREPARE: &[u8] = &[
+static PREPARE: &[u8] = &[
     78, 79, 3, 8, 0, 0, 0, 0, 0, 0, 0, 0, 1, 0, 0, 0, 1, // the fragment of replica 0
     23, 0, 0, 0, 0, 0, 0, 0, 0, 0, 0, 0, 0, 1, // a SyncPrepare of view (0, 1)
     0, 0, 0, 0, 0, 0, 0, 1, 1, // one request above the sync point 0
@@ -15,39 +15,54 @@ const PREPARE: &[u8] = &[
 ];
 
 /// It commits one slot.
-const COMMIT: &[u8] = &[
+static COMMIT: &[u8] = &[
     78, 79, 3, 8, 0, 0, 0, 0, 0, 0, 0, 0, 2, 0, 0, 0, 1, // its next fragment
     25, 0, 0, 0, 0, 0, 0, 0, 0, 0, 0, 0, 0, 1, // a SyncCommit
     0, 0, 0, 1,
 ];
 
 /// Client 0 asks for k.
-const READ: &[u8] = &[78, 79, 3, 9, 0, 0, 0, 0, 0, 0, 0, 0, 0, 0, 0, 2, 0, 1, b'k'];
+static READ: &[u8] = &[78, 79, 3, 9, 0, 0, 0, 0, 0, 0, 0, 0, 0, 0, 0, 2, 0, 1, b'k'];
 
-fn check_read(
+fn check(rt: &impl Abort, holds: bool, text: &str) {
+    assert!(rt; holds, "{text}");
+}
+
+fn hear(rt: &impl Abort, near: &mut NearObserver<KvHost>, bytes: &[u8]) {
+    near.hear(bytes).expect(rt, "memory");
+}
+
+/// Whether this is read at the key.
+fn reads(
     rt: &impl Abort,
     alloc: Global,
     near: &mut NearObserver<KvHost>,
     key: u8,
     expected: &[u8],
-) {
+) -> bool {
     let key = Key::new(alloc, &[key]).expect(rt, "memory");
-    let given = near.read(&key).expect(rt, "memory");
-    assert!(rt; given.as_slice() == expected);
+    near.read(&key).expect(rt, "memory").as_slice() == expected
+}
+
+fn check_reads(rt: &impl Abort, alloc: Global, near: &mut NearObserver<KvHost>) {
+    hear(rt, near, PREPARE);
+    check(rt, reads(rt, alloc, near, b'k', b"none"), "k, prepared");
+    check(rt, near.position() == 0, "position 0");
+    hear(rt, near, COMMIT);
+    hear(rt, near, READ);
+    hear(rt, near, b"no datagram");
+    check(rt, reads(rt, alloc, near, b'k', b"=v"), "k, committed");
+    check(rt, reads(rt, alloc, near, b'j', b"none"), "j");
+    check(rt, near.position() == 1, "position 1");
+}
+
+fn new_observer(rt: &impl Abort, alloc: Global) -> NearObserver<KvHost> {
+    let config = Config::new(3, 1, 1, 1, 1).expect(rt, "a group");
+    NearObserver::new(alloc, config, 0).expect(rt, "memory")
 }
 
 #[test]
 fn reads_what_is_synchronised(rt: HostRuntime) {
-    let alloc = rt.alloc();
-    let config = Config::new(3, 1, 1, 1, 1).expect(&rt, "a group");
-    let mut near = NearObserver::new(alloc, config, 0).expect(&rt, "memory");
-    near.hear(PREPARE).expect(&rt, "memory");
-    check_read(&rt, alloc, &mut near, b'k', b"none");
-    assert_eq!(rt; near.position(), 0);
-    near.hear(COMMIT).expect(&rt, "memory");
-    near.hear(READ).expect(&rt, "memory");
-    near.hear(b"no datagram").expect(&rt, "memory");
-    check_read(&rt, alloc, &mut near, b'k', b"=v");
-    check_read(&rt, alloc, &mut near, b'j', b"none");
-    assert_eq!(rt; near.position(), 1);
+    let mut near = new_observer(&rt, rt.alloc());
+    check_reads(&rt, rt.alloc(), &mut near);
 }

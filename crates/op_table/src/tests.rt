@@ -1,9 +1,10 @@
 //! A small table: words, the ops that they name, and answers, worked out by hand.
 
 use crate::{AnswerRow, ByTable, FieldShape, OpRow, OpTable};
-use nop_types::NoMemory;
+use nop_types::Op;
 use op_text::{OpText, Words};
 use std::alloc::Global;
+use std::process::Abort;
 
 struct Shelf;
 
@@ -54,7 +55,7 @@ impl OpTable for Shelf {
 }
 
 /// Words, and the op that they name; nothing for none.
-const NAMED: [(&[&str], &[u8]); 7] = [
+static NAMED: [(&[&str], &[u8]); 7] = [
     (&["put", "a", "7"], b"p\x01a\0\0\0\0\0\0\0\x07"),
     (&["put", "0x00ff", "256"], b"p\x02\0\xff\0\0\0\0\0\0\x01\0"),
     (&["all"], b"a"),
@@ -65,55 +66,71 @@ const NAMED: [(&[&str], &[u8]); 7] = [
 ];
 
 /// Answers, and their words.
-const ANSWERED: [(&[u8], &[u8]); 4] = [
+static ANSWERED: [(&[u8], &[u8]); 4] = [
     (b"has\0\0\0\0\0\0\0\x09", b"has 9"),
     (b"\x02hi", b"hi"),
     (b"\x03hi", b"0x036869"),
     (b"full", b"full"),
 ];
 
-fn words_of(alloc: Global, texts: &[&str]) -> Result<Words, NoMemory> {
+fn words_of(rt: &impl Abort, alloc: Global, texts: &[&str]) -> Words {
     let mut words = Words::new(alloc);
     for text in texts {
-        words.put(text.as_bytes())?;
+        words.put(text.as_bytes()).expect(rt, "memory");
     }
-    Ok(words)
+    words
 }
 
-/// The op that the words name, as bytes, and the words of that op; none for no op.
-fn there_and_back(alloc: Global, texts: &[&str]) -> Result<(Vec<u8>, Vec<u8>), NoMemory> {
-    let words = words_of(alloc, texts)?;
-    let Some(op) = ByTable::<Shelf>::op(alloc, words.as_slice())? else {
-        return Ok((Vec::new(alloc), Vec::new(alloc)));
-    };
-    let bytes = Vec::from_slice(alloc, op.as_slice())?;
-    match ByTable::<Shelf>::words(alloc, op.as_slice())? {
-        Some(words) => Ok((bytes, words.text()?)),
-        None => Ok((bytes, Vec::new(alloc))),
+fn text_of(rt: &impl Abort, words: &Words) -> Vec<u8> {
+    words.text().expect(rt, "memory")
+}
+
+fn op_of(rt: &impl Abort, alloc: Global, words: &Words) -> Option<Op> {
+    ByTable::<Shelf>::op(alloc, words.as_slice()).expect(rt, "memory")
+}
+
+/// The words of an op; nothing for none.
+fn back(rt: &impl Abort, alloc: Global, op: &[u8]) -> Vec<u8> {
+    match ByTable::<Shelf>::words(alloc, op).expect(rt, "memory") {
+        Some(words) => text_of(rt, &words),
+        None => Vec::new(alloc),
     }
 }
 
-fn told(alloc: Global, answer: &[u8]) -> Result<Vec<u8>, NoMemory> {
-    ByTable::<Shelf>::result(alloc, answer)?.text()
+/// Whether the words name this op, whose words they are, or none.
+fn is_named(rt: &impl Abort, alloc: Global, words: &Words, op: &[u8]) -> bool {
+    match op_of(rt, alloc, words) {
+        Some(given) => given.as_slice() == op
+            && back(rt, alloc, op).as_slice() == text_of(rt, words).as_slice(),
+        None => op.is_empty(),
+    }
+}
+
+fn check_named(rt: &impl Abort, alloc: Global) {
+    for (row, (texts, op)) in NAMED.iter().enumerate() {
+        let words = words_of(rt, alloc, texts);
+        assert!(rt; is_named(rt, alloc, &words, op), "row {row}");
+    }
 }
 
 #[test]
 fn words_name_ops(rt: HostRuntime) {
-    for (texts, op) in &NAMED {
-        let (bytes, back) = there_and_back(rt.alloc(), texts).expect(&rt, "memory");
-        assert_eq!(&rt; bytes.as_slice(), *op);
-        let words = words_of(rt.alloc(), texts).expect(&rt, "memory");
-        let text = words.text().expect(&rt, "memory");
-        assert!(&rt; op.is_empty() || back.as_slice() == text.as_slice());
+    check_named(&rt, rt.alloc());
+}
+
+/// Whether these are the words of the answer.
+fn is_told(rt: &impl Abort, alloc: Global, answer: &[u8], text: &[u8]) -> bool {
+    let words = ByTable::<Shelf>::result(alloc, answer).expect(rt, "memory");
+    text_of(rt, &words).as_slice() == text
+}
+
+fn check_answers(rt: &impl Abort, alloc: Global) {
+    for (row, (answer, text)) in ANSWERED.iter().enumerate() {
+        assert!(rt; is_told(rt, alloc, answer, text), "row {row}");
     }
 }
 
 #[test]
 fn answers_have_words(rt: HostRuntime) {
-    for (answer, text) in &ANSWERED {
-        assert_eq!(&rt;
-            told(rt.alloc(), answer).expect(&rt, "memory").as_slice(),
-            *text
-        );
-    }
+    check_answers(&rt, rt.alloc());
 }

@@ -1,6 +1,7 @@
 //! Each answer, over two services.
 
-use crate::outcomes::{USAGE, check, of_store, outcome_of};
+use crate::faults::HISTORY;
+use crate::outcomes::{Outcome, check, check_that, of_store, outcome_of};
 use fronts::OnePart;
 use kv_parts::ByKey;
 use linearize::Status;
@@ -165,87 +166,103 @@ fn status_of(rt: &impl Abort, word: &str) -> Status {
     match word {
         "Done" => Status::Done,
         "Refuted" => Status::Refuted,
-        _ => {
-            assert_eq!(rt; word, "Undecided");
-            Status::Undecided
-        }
+        "Undecided" => Status::Undecided,
+        _ => panic!(rt; "no status"),
+    }
+}
+
+/// What stands before the mark, and what behind it.
+fn cut<'a>(rt: &impl Abort, text: &'a str, mark: &str) -> (&'a str, &'a str) {
+    text.split_once(mark).expect(rt, "a row")
+}
+
+fn joined(rt: &impl Abort, alloc: Global, first: &str, second: &str, third: &str) -> String {
+    let text = format!(in alloc; "{first}{second}{third}");
+    text.expect(rt, "memory")
+}
+
+fn of_history(rt: &impl Abort, alloc: Global, history: &str) -> Outcome {
+    let head = "transcript 2 replicas 3 sequencers 2 clients 4 controllers 1\n";
+    let given = joined(rt, alloc, head, history, "");
+    of_store(rt, alloc, &given, &[], &[])
+}
+
+/// What is written, of a row's text.
+fn written(rt: &impl Abort, alloc: Global, text: &str) -> String {
+    match text.strip_prefix("found\n") {
+        Some(lines) => joined(rt, alloc, FIRST_LINE, lines, ""),
+        None => joined(rt, alloc, text, "", ""),
     }
 }
 
 fn check_row(rt: &impl Abort, alloc: Global, row: &str) {
-    let (history, wanted) = row.split_once("=> ").expect(rt, "a row");
-    let (status, text) = wanted.split_once('\n').expect(rt, "a status");
-    let given = format!(in alloc;
-        "transcript 2 replicas 3 sequencers 2 clients 4 controllers 1\n{history}"
-    );
-    let given = of_store(rt, alloc, &given.expect(rt, "memory"), &[], &[]);
-    let status = status_of(rt, status);
-    match text.strip_prefix("found\n") {
-        Some(lines) => {
-            let text = format!(in alloc; "{FIRST_LINE}{lines}").expect(rt, "memory");
-            check(rt, &given, status, &text);
-        }
-        None => check(rt, &given, status, text),
+    let (history, wanted) = cut(rt, row, "=> ");
+    let (status, text) = cut(rt, wanted, "\n");
+    let given = of_history(rt, alloc, history);
+    let text = written(rt, alloc, text);
+    check(rt, &given, status_of(rt, status), &text);
+}
+
+fn check_rows(rt: &impl Abort, alloc: Global, rows: &str) {
+    for row in rows.split("----\n") {
+        check_row(rt, alloc, row);
     }
 }
 
 #[test]
 fn answers_of_the_store(rt: HostRuntime) {
-    for row in ROWS.split("----\n") {
-        check_row(&rt, rt.alloc(), row);
-    }
+    check_rows(&rt, rt.alloc(), ROWS);
+}
+
+const CLAIMS: &str =
+    "submit c0 1 4102646203616e6e\nsubmit c1 1 4102646203626f62\naccept c1 1 6772616e7465640000000000000001\naccept c0 1 68656c640000000000000001626f62\n";
+
+const LOCKED: &str = "history 1 c1 1 4102646203626f62\nhistory 2 c0 1 4102646203616e6e\nend\n";
+
+fn of_locks(rt: &impl Abort, alloc: Global, text: &str) -> Outcome {
+    outcome_of::<OnePart<LockHost>>(rt, alloc, "linearize", text, &[], &[])
+}
+
+fn check_locks(rt: &impl Abort, alloc: Global) {
+    let given = of_locks(rt, alloc, &joined(rt, alloc, FIRST_LINE, CLAIMS, "end\n"));
+    let text = joined(rt, alloc, FIRST_LINE, CLAIMS, LOCKED);
+    check(rt, &given, Status::Done, &text);
 }
 
 /// Who asked last is granted the lock first, as the tokens tell.
 #[test]
 fn an_order_of_locks(rt: HostRuntime) {
-    let claims =
-        "submit c0 1 4102646203616e6e\nsubmit c1 1 4102646203626f62\naccept c1 1 6772616e7465640000000000000001\naccept c0 1 68656c640000000000000001626f62\n";
-    let history = "history 1 c1 1 4102646203626f62\nhistory 2 c0 1 4102646203616e6e\n";
-    let alloc = rt.alloc();
-    let given = format!(in alloc; "{FIRST_LINE}{claims}end\n").expect(&rt, "memory");
-    let text = format!(in alloc; "{FIRST_LINE}{claims}{history}end\n").expect(&rt, "memory");
-    let given = outcome_of::<OnePart<LockHost>>(&rt, alloc, "linearize", &given, &[], &[]);
-    check(&rt, &given, Status::Done, &text);
+    check_locks(&rt, rt.alloc());
 }
+
+const USED: &str = "usage: linearize [--most STEPS]\n";
+
+/// Words, how a run by them ends, and what it writes. The last ones are not taken.
+static WORDS: [(&str, Status, &str); 8] = [
+    ("linearize --most 0", Status::Undecided, "unknown steps 0\n"),
+    ("linearize --most 2", Status::Undecided, "unknown steps 2\n"),
+    ("", Status::Usage, USED),
+    ("linearize --most", Status::Usage, USED),
+    ("linearize --most 05", Status::Usage, USED),
+    ("linearize --steps 5", Status::Usage, USED),
+    ("linearize 5", Status::Usage, USED),
+    ("linearize --most 5 5", Status::Usage, USED),
+];
 
 fn check_words(rt: &impl Abort, alloc: Global, words: &str, status: Status, text: &str) {
-    let history = "submit c0 1 47000178\naccept c0 1 6e6f6e65\nend\n";
-    let given = format!(in alloc; "{FIRST_LINE}{history}").expect(rt, "memory");
-    let text = format!(in alloc; "{text}\n").expect(rt, "memory");
-    let outcome = outcome_of::<ByKey>(rt, alloc, words, &given, &[], &[]);
-    check(rt, &outcome, status, &text);
-    let is_unread = outcome.left == given.len();
-    assert!(rt; is_unread == (status == Status::Usage));
+    let outcome = outcome_of::<ByKey>(rt, alloc, words, HISTORY, &[], &[]);
+    check(rt, &outcome, status, text);
+    let is_unread = outcome.left == HISTORY.len();
+    check_that(rt, is_unread == (status == Status::Usage), words);
 }
 
-/// Words that are not taken, a line each.
-const OTHERS: &str = "
-linearize --most
-linearize --most 05
-linearize --steps 5
-linearize 5
-linearize --most 5 5
-";
+fn check_all_words(rt: &impl Abort, alloc: Global) {
+    for (words, status, text) in &WORDS {
+        check_words(rt, alloc, words, *status, text);
+    }
+}
 
 #[test]
 fn arguments(rt: HostRuntime) {
-    let alloc = rt.alloc();
-    check_words(
-        &rt,
-        alloc,
-        "linearize --most 0",
-        Status::Undecided,
-        "unknown steps 0",
-    );
-    check_words(
-        &rt,
-        alloc,
-        "linearize --most 2",
-        Status::Undecided,
-        "unknown steps 2",
-    );
-    for words in OTHERS.lines() {
-        check_words(&rt, alloc, words, Status::Usage, USAGE);
-    }
+    check_all_words(&rt, rt.alloc());
 }

@@ -62,11 +62,13 @@ pub fn of_store(
     outcome_of::<ByKey>(rt, alloc, "linearize", text, reads, writes)
 }
 
+/// Fails with the text where it does not hold.
+pub fn check_that(rt: &impl Abort, holds: bool, text: &str) {
+    assert!(rt; holds, "{text}");
+}
+
 /// The outcome has this status and this text.
 pub fn check(rt: &impl Abort, given: &Outcome, status: Status, text: &str) {
-    assert_eq!(rt;
-        std::str::from_utf8(&given.written).expect(rt, "text"),
-        text
-    );
-    assert!(rt; given.status == status);
+    let is_so = given.status == status && given.written.as_slice() == text.as_bytes();
+    check_that(rt, is_so, text);
 }

@@ -15,7 +15,7 @@ use std::alloc::Global;
 use std::process::Abort;
 
 /// The entries of a log: a client, an id and an op, or a NO-OP for the id 0.
-const SLOTS: [(u32, u64, &[u8]); 9] = [
+static SLOTS: [(u32, u64, &[u8]); 9] = [
     (0, 0, b""),
     (1, 10, b"P\0\x01k\0\x01v"),
     (1, 3, b"G\0\x01k"),
@@ -28,7 +28,7 @@ const SLOTS: [(u32, u64, &[u8]); 9] = [
 ];
 
 /// The answers that are kept: an id eight behind the greatest one of its client has none, and one that did not come.
-const RESULTS: [(u32, u64, Option<&[u8]>); 9] = [
+static RESULTS: [(u32, u64, Option<&[u8]>); 9] = [
     (1, 10, Some(b"none")),
     (1, 3, Some(b"=v")),
     (1, 2, None),
@@ -49,14 +49,22 @@ fn entry(rt: &impl Abort, alloc: Global, client: u32, id: u64, op: &[u8]) -> Ent
     Entry::Req(request(rt, alloc, client, id, op))
 }
 
+/// Appends a request, or a NO-OP for the id 0.
+fn append(rt: &impl Abort, alloc: Global, log: &mut ReplicaLog, client: u32, id: u64, op: &[u8])
+    requires { LogFits log.old }
+    ensures { LogFits log.new }
+{
+    assert!(rt; log.has_room());
+    log.append(entry(rt, alloc, client, id, op))
+        .expect(rt, "memory");
+}
+
 fn log_of_slots(rt: &impl Abort, alloc: Global) -> ReplicaLog
     ensures { LogFits result }
 {
     let mut log = ReplicaLog::new(alloc);
     for (client, id, op) in &SLOTS {
-        assert!(rt; log.has_room());
-        log.append(entry(rt, alloc, *client, *id, op))
-            .expect(rt, "memory");
+        append(rt, alloc, &mut log, *client, *id, op);
     }
     log
 }
@@ -144,7 +152,7 @@ fn trim<H: Host>(rt: &impl Abort, log: &mut ReplicaLog, executor: &mut Executor<
 }
 
 /// A client's ids in the order in which they come, each a get of a key that is not there. The last one leaves all others behind.
-const IN_ONE_WINDOW: [u64; 9] = [3, 1, 8, 2, 7, 4, 6, 5, 16];
+static IN_ONE_WINDOW: [u64; 9] = [3, 1, 8, 2, 7, 4, 6, 5, 16];
 
 /// Whether the first of these ids have a result, and no others.
 fn have_results<H: Host>(executor: &Executor<H>, count: usize) -> bool {
@@ -186,7 +194,7 @@ fn results_come_back(rt: HostRuntime) {
 }
 
 /// After a get of each of the clients 0 to 255: a client, an id and an op, and the answer to it in the end.
-const AFTER_THE_FIRST: [(u32, u64, &[u8], Option<&[u8]>); 9] = [
+static AFTER_THE_FIRST: [(u32, u64, &[u8], Option<&[u8]>); 9] = [
     (256, 1, b"P\0\x01k\0\x01v", None),
     (0, 2, b"G\0\x01k", Some(b"none")),
     (256, 2, b"P\0\x01k\0\x01v", None),
@@ -203,14 +211,10 @@ fn log_of_many_clients(rt: &impl Abort, alloc: Global) -> ReplicaLog
 {
     let mut log = ReplicaLog::new(alloc);
     for client in 0..256u32 {
-        assert!(rt; log.has_room());
-        log.append(entry(rt, alloc, client, 1, b"G\0\x01k"))
-            .expect(rt, "memory");
+        append(rt, alloc, &mut log, client, 1, b"G\0\x01k");
     }
     for (client, id, op, _answer) in &AFTER_THE_FIRST {
-        assert!(rt; log.has_room());
-        log.append(entry(rt, alloc, *client, *id, op))
-            .expect(rt, "memory");
+        append(rt, alloc, &mut log, *client, *id, op);
     }
     log
 }
@@ -258,7 +262,7 @@ fn the_first_clients_are_served(rt: HostRuntime) {
 /// A client as the checkpoint of the log above has it: its greatest id, and its results with their ids.
 type InCheckpoint = (u32, u64, &'static [(u64, &'static [u8])]);
 
-const IN_THE_CHECKPOINT: [InCheckpoint; 5] = [
+static IN_THE_CHECKPOINT: [InCheckpoint; 5] = [
     (1, 10, &[(3, b"=v"), (10, b"none")]),
     (2, 1, &[(1, b"=v")]),
     (3, 1, &[(1, b"=v")]),
@@ -266,31 +270,30 @@ const IN_THE_CHECKPOINT: [InCheckpoint; 5] = [
     (u32::MAX, u64::MAX, &[(u64::MAX, b"bad")]),
 ];
 
+fn is_kept(answered: &Answered, expected: (u64, &[u8])) -> bool {
+    answered.id == expected.0 && answered.result.as_slice() == expected.1
+}
+
 fn are_kept(kept: &[Answered], expected: &[(u64, &[u8])]) -> bool {
     if kept.len() != expected.len() {
         return false;
     }
-    for (answered, (id, result)) in kept.iter().zip(expected) {
-        if answered.id != *id || answered.result.as_slice() != *result {
+    for (answered, expected) in kept.iter().zip(expected) {
+        if !is_kept(answered, *expected) {
             return false;
         }
     }
     true
 }
 
-fn check_client(rt: &impl Abort, saved: &SavedClient, expected: InCheckpoint) {
-    let same = saved.client == expected.0 && saved.greatest == expected.1;
-    assert!(rt;
-        same && are_kept(&saved.kept, expected.2),
-        "client {}",
-        saved.client
-    );
+fn is_client(saved: &SavedClient, expected: &InCheckpoint) -> bool {
+    saved.client == expected.0 && saved.greatest == expected.1 && are_kept(&saved.kept, expected.2)
 }
 
 fn check_clients(rt: &impl Abort, clients: &[SavedClient]) {
     check(rt, clients.len() == IN_THE_CHECKPOINT.len(), "clients");
     for (saved, expected) in clients.iter().zip(&IN_THE_CHECKPOINT) {
-        check_client(rt, saved, *expected);
+        check(rt, is_client(saved, expected), "a client");
     }
 }
 
@@ -364,16 +367,18 @@ fn begun_with_a_checkpoint(rt: HostRuntime) {
     check_restarted::<KvHost>(&rt, rt.alloc());
 }
 
+/// A checkpoint of this host's state, without clients, loads.
+fn loads<H: Host>(rt: &impl Abort, alloc: Global, host: &[u8]) -> bool {
+    let host = Bytes::new(alloc, host).expect(rt, "memory");
+    let checkpoint = Checkpoint::new(host, Vec::new(alloc)).expect(rt, "a checkpoint");
+    checkpoint_loads::<H>(alloc, Some(&checkpoint)).expect(rt, "memory")
+}
+
 /// No checkpoint loads, and so does that of no keys; without its count it does not.
 fn check_what_loads<H: Host>(rt: &impl Abort, alloc: Global) {
     assert!(rt; checkpoint_loads::<H>(alloc, None).expect(rt, "memory"));
-    let rows: [(&[u8], bool); 2] = [(b"\0\0\0\0", true), (b"", false)];
-    for (row, (bytes, expected)) in rows.iter().enumerate() {
-        let host = Bytes::new(alloc, bytes).expect(rt, "memory");
-        let checkpoint = Checkpoint::new(host, Vec::new(alloc)).expect(rt, "a checkpoint");
-        let loads = checkpoint_loads::<H>(alloc, Some(&checkpoint)).expect(rt, "memory");
-        check_row(rt, loads == *expected, row);
-    }
+    check(rt, loads::<H>(rt, alloc, b"\0\0\0\0"), "no keys");
+    check(rt, !loads::<H>(rt, alloc, b""), "no count");
 }
 
 #[test]

@@ -51,7 +51,7 @@ fn has_answer(table: &ClientTable, client: u32, id: u64, expected: &[u8]) -> boo
 
 /// A client and an id, where the greatest id of client 7 is 15 and has its answer: whether it is new,
 /// and whether it is stale. Ids from 8 on are new, but for 15.
-const VERDICTS: [(u32, u64, bool, bool); 8] = [
+static VERDICTS: [(u32, u64, bool, bool); 8] = [
     (7, 7, false, true),
     (7, 1, false, true),
     (7, 8, true, false),
@@ -114,7 +114,7 @@ fn clients_but_one(rt: &impl Abort, alloc: Global) -> ClientTable {
 }
 
 /// A client, and whether it is served where clients 0 to 254 and the last one are in the table.
-const SERVED: [(u32, bool); 5] = [
+static SERVED: [(u32, bool); 5] = [
     (0, true),
     (254, true),
     (u32::MAX, true),
@@ -142,7 +142,7 @@ fn as_many_clients_as_are_served(rt: HostRuntime) {
 
 /// A client with an id, as they were kept, and as they are saved: each client with its greatest id, and its ids. The id 12 drives 3 and 4 out, and 11 is kept
 /// before it.
-const KEPT: [(u32, u64); 7] = [
+static KEPT: [(u32, u64); 7] = [
     (9, 3),
     (u32::MAX, u64::MAX),
     (0, 1),
@@ -152,7 +152,7 @@ const KEPT: [(u32, u64); 7] = [
     (9, 11),
 ];
 
-const SAVED: [(u32, u64, &[u64]); 3] = [
+static SAVED: [(u32, u64, &[u64]); 3] = [
     (0, 1, &[1]),
     (9, 12, &[5, 11, 12]),
     (u32::MAX, u64::MAX, &[u64::MAX]),
@@ -234,32 +234,45 @@ fn saved(rt: &impl Abort, alloc: Global, client: u32, greatest: u64, ids: &[u64]
     }
 }
 
+/// How long a host's state is, the numbers of the clients, and whether a checkpoint may have both.
+static CHECKPOINTS: [(usize, &[u32], bool); 6] = [
+    (0, &[], true),
+    (1_400_000, &[0, 1, u32::MAX], true),
+    (1_400_001, &[], false),
+    (0, &[3, 3], false),
+    (0, &[3, 2], false),
+    (0, &[0], true),
+];
+
+/// Clients of these numbers, each with one result.
+fn clients_of(rt: &impl Abort, alloc: Global, numbers: &[u32]) -> Vec<SavedClient> {
+    let mut clients = Vec::new(alloc);
+    for number in numbers {
+        let client = saved(rt, alloc, *number, 1, &[1]);
+        clients.push(client).expect(rt, "memory");
+    }
+    clients
+}
+
+/// A checkpoint may have a host's state of so many bytes and these clients.
+fn is_made(rt: &impl Abort, alloc: Global, len: usize, clients: Vec<SavedClient>) -> bool {
+    let bytes = vec![in alloc; 7u8; len].expect(rt, "memory");
+    Checkpoint::new(Bytes::from_vec(bytes), clients).is_some()
+}
+
 /// Clients that stand twice or do not ascend are none of a checkpoint; so is a host of one byte too many.
 #[test]
 fn what_is_no_checkpoint(rt: HostRuntime) {
-    let rows: [(usize, &[u32], bool); 6] = [
-        (0, &[], true),
-        (1_400_000, &[0, 1, u32::MAX], true),
-        (1_400_001, &[], false),
-        (0, &[3, 3], false),
-        (0, &[3, 2], false),
-        (0, &[0], true),
-    ];
-    for (row, (len, numbers, expected)) in rows.iter().enumerate() {
-        let bytes = vec![in rt.alloc(); 7u8; *len].expect(&rt, "memory");
-        let mut clients = Vec::new(rt.alloc());
-        for number in *numbers {
-            let client = saved(&rt, rt.alloc(), *number, 1, &[1]);
-            clients.push(client).expect(&rt, "memory");
-        }
-        let made = Checkpoint::new(Bytes::from_vec(bytes), clients);
-        check_row(&rt, made.is_some() == *expected, row);
+    for (row, (len, numbers, expected)) in CHECKPOINTS.iter().enumerate() {
+        let clients = clients_of(&rt, rt.alloc(), numbers);
+        let made = is_made(&rt, rt.alloc(), *len, clients);
+        check_row(&rt, made == *expected, row);
     }
 }
 
 /// A client's greatest id and the ids of its results, which ascend up to it from 1 on, less than eight behind; and whether a checkpoint
 /// may have it.
-const RESULTS: [(u64, &[u64], bool); 14] = [
+static RESULTS: [(u64, &[u64], bool); 14] = [
     (1, &[1], true),
     (8, &[1, 2, 3, 4, 5, 6, 7, 8], true),
     (9, &[2, 9], true),
@@ -281,8 +294,7 @@ fn what_a_checkpoint_keeps(rt: HostRuntime) {
     for (row, (greatest, ids, expected)) in RESULTS.iter().enumerate() {
         let client = saved(&rt, rt.alloc(), 7, *greatest, ids);
         let clients = vec![in rt.alloc(); client].expect(&rt, "memory");
-        let host = Bytes::new(rt.alloc(), b"").expect(&rt, "memory");
-        let made = Checkpoint::new(host, clients);
-        check_row(&rt, made.is_some() == *expected, row);
+        let made = is_made(&rt, rt.alloc(), 0, clients);
+        check_row(&rt, made == *expected, row);
     }
 }

@@ -7,7 +7,7 @@ use std::process::Abort;
 /// A request, and what it asks for: a letter of the form and the bytes of an op, `@` and the key of
 /// a read, `?` for what is known of the cluster, or the bytes of a reply, after `.` where the
 /// connection ends.
-const REQUESTS: [(&[&str], &[u8]); 48] = [
+static REQUESTS: [(&[&str], &[u8]); 48] = [
     (&["GET", "k"], b"V G\0\x01k"),
     (&["get", "kk"], b"V G\0\x02kk"),
     (&["Exists", "k"], b"P G\0\x01k"),
@@ -62,7 +62,7 @@ const REQUESTS: [(&[&str], &[u8]); 48] = [
 const UNKNOWN: &[u8] = b"-ERR unknown command, or not with these arguments\r\n";
 
 /// A form, a result of the service, and its reply.
-const RESULTS: [(Form, &[u8], &[u8]); 18] = [
+static RESULTS: [(Form, &[u8], &[u8]); 18] = [
     (Form::Value, b"none", b"$-1\r\n"),
     (Form::Value, b"=", b"$0\r\n\r\n"),
     (Form::Value, b"=none", b"$4\r\nnone\r\n"),

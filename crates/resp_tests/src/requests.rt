@@ -4,7 +4,7 @@ use std::alloc::Global;
 use std::process::Abort;
 
 /// Bytes, and what they begin with: how many they are and the arguments, each after a bar; `more`; or a fault.
-const BYTES: [(&[u8], &[u8]); 42] = [
+static BYTES: [(&[u8], &[u8]); 42] = [
     (b"*1\r\n$4\r\nPING\r\n", b"14|PING"),
     (b"*2\r\n$3\r\nGET\r\n$1\r\nk\r\n", b"20|GET|k"),
     (

@@ -1,5 +1,7 @@
 //! Tests alone, by the public calls of the crates below: whole runs and commands over devices in
-//! memory, with each call failing in turn. The schedules of `examples/` are in `transcript_tests`.
+//! memory, with each call failing in turn; clusters of the program over sockets (`udp_clusters`);
+//! and the schedules of `examples/`, each replayed with reads of several lengths (`transcripts`).
+//! `checks/transcripts.sh` compares the files there with the tables `rows` and `view_rows`.
 #![tactic(auto)]
 
 #[cfg(test)]
@@ -9,6 +11,14 @@ mod faults;
 #[cfg(test)]
 mod outcomes;
 #[cfg(test)]
+mod rows;
+#[cfg(test)]
 mod runs;
 #[cfg(test)]
 mod traces;
+#[cfg(test)]
+mod transcripts;
+#[cfg(test)]
+mod udp_clusters;
+#[cfg(test)]
+mod view_rows;

@@ -1,10 +1,11 @@
+use crate::checking::{check, check_row};
 use kv_host::KvHost;
 use nop_types::Host;
 use std::alloc::Global;
 use std::process::Abort;
 
 /// An op, and the answer to it, one after the other. An op is its letter and its fields, each after its length in two bytes.
-const OPS: [(&[u8], &[u8]); 40] = [
+static OPS: [(&[u8], &[u8]); 40] = [
     (b"G\0\x01k", b"none"),
     (b"D\0\x01k", b"none"),
     (b"C\0\x01k\0\0\0\x01v", b"no"),
@@ -49,7 +50,7 @@ const OPS: [(&[u8], &[u8]); 40] = [
 ];
 
 /// Ops with long fields, which come after those, and the answers to them. A field is a byte, and how often it stands there.
-const LONG: [(u8, &[(u8, u64)], &[u8]); 17] = [
+static LONG: [(u8, &[(u8, u64)], &[u8]); 17] = [
     (b'P', &[(b'k', 64), (b'v', 256)], b"none"),
     (b'G', &[(b'k', 65)], b"bad"),
     (b'P', &[(b'k', 65), (b'v', 1)], b"bad"),
@@ -98,14 +99,14 @@ pub fn answers<H: Host>(rt: &impl Abort, host: &mut H, op: &[u8], expected: &[u8
 /// The host gives these answers to these ops, one after the other.
 pub fn check_ops<H: Host>(rt: &impl Abort, host: &mut H, ops: &[(&[u8], &[u8])]) {
     for (row, (op, expected)) in ops.iter().enumerate() {
-        assert!(rt; answers(rt, host, op, expected), "row {row}");
+        check_row(rt, answers(rt, host, op, expected), row);
     }
 }
 
 fn check_long<H: Host>(rt: &impl Abort, alloc: Global, host: &mut H) {
     for (row, (letter, fields, expected)) in LONG.iter().enumerate() {
         let op = spelled(rt, alloc, *letter, fields);
-        assert!(rt; answers(rt, host, &op, expected), "row {row}");
+        check_row(rt, answers(rt, host, &op, expected), row);
     }
 }
 
@@ -120,18 +121,24 @@ fn ops(rt: HostRuntime) {
     check_host::<KvHost>(&rt, rt.alloc());
 }
 
+/// A copy of a host after an op, which is then undone in the host.
+fn copied_and_undone<H: Host>(rt: &impl Abort, host: &mut H) -> H {
+    let (_answer, undo) = host.apply(b"P\0\x01k\0\x01v").expect(rt, "memory");
+    let copy = host.copy().expect(rt, "memory");
+    host.undo(undo);
+    copy
+}
+
 /// What is done to a host does not show in a copy of it: an op is undone in one, and a key is deleted in the next.
 fn check_copies<H: Host>(rt: &impl Abort, alloc: Global) {
     let mut host = H::fresh(alloc).expect(rt, "memory");
-    let (_answer, undo) = host.apply(b"P\0\x01k\0\x01v").expect(rt, "memory");
-    let mut copy = host.copy().expect(rt, "memory");
-    host.undo(undo);
-    assert!(rt; answers(rt, &mut host, b"G\0\x01k", b"none"));
-    assert!(rt; answers(rt, &mut copy, b"G\0\x01k", b"=v"));
+    let mut copy = copied_and_undone(rt, &mut host);
+    check(rt, answers(rt, &mut host, b"G\0\x01k", b"none"), "undone");
+    check(rt, answers(rt, &mut copy, b"G\0\x01k", b"=v"), "a copy");
     let mut again = copy.copy().expect(rt, "memory");
-    assert!(rt; answers(rt, &mut copy, b"D\0\x01k", b"=v"));
-    assert!(rt; answers(rt, &mut again, b"G\0\x01k", b"=v"));
-    assert!(rt; answers(rt, &mut copy, b"G\0\x01k", b"none"));
+    check(rt, answers(rt, &mut copy, b"D\0\x01k", b"=v"), "deleted");
+    check(rt, answers(rt, &mut again, b"G\0\x01k", b"=v"), "again");
+    check(rt, answers(rt, &mut copy, b"G\0\x01k", b"none"), "gone");
 }
 
 #[test]

@@ -1,3 +1,4 @@
+use crate::checking::{check, check_row};
 use crate::kv::{answers, put_field};
 use kv_host::{KvHost, MAX_KEYS};
 use nop_types::Host;
@@ -5,7 +6,7 @@ use std::alloc::Global;
 use std::process::Abort;
 
 /// Ops from the opening state on, and how the state that they lead to is saved.
-const SAVED: [(&[&[u8]], &[u8]); 9] = [
+static SAVED: [(&[&[u8]], &[u8]); 9] = [
     (&[], b"\0\0\0\0"),
     (&[b"P\0\x01k\0\x01v"], b"\0\0\0\x01\0\x01k\0\x01v"),
     (&[b"P\0\x01k\0\0"], b"\0\0\0\x01\0\x01k\0\0"),
@@ -35,7 +36,7 @@ const SAVED: [(&[&[u8]], &[u8]); 9] = [
 ];
 
 /// Bytes that are no saved state.
-const REFUSED: [&[u8]; 16] = [
+static REFUSED: [&[u8]; 16] = [
     b"",
     b"\0\0\0",
     b"\0\0\0\0\0",
@@ -59,7 +60,7 @@ const REFUSED: [&[u8]; 16] = [
 ];
 
 /// Fields of a saved state of one key with its value, and whether it is one.
-const LENGTHS: [(u64, u64, bool); 4] = [
+static LENGTHS: [(u64, u64, bool); 4] = [
     (64, 256, true),
     (65, 256, false),
     (64, 257, false),
@@ -79,19 +80,25 @@ pub fn loads<H: Host>(rt: &impl Abort, alloc: Global, bytes: &[u8]) -> bool {
     }
 }
 
+/// The host that these ops lead to.
+fn led_to<H: Host>(rt: &impl Abort, alloc: Global, ops: &[&[u8]]) -> H {
+    let mut host = H::fresh(alloc).expect(rt, "memory");
+    for op in ops {
+        host.apply(op).expect(rt, "memory");
+    }
+    host
+}
+
 fn check_saved<H: Host>(rt: &impl Abort, alloc: Global) {
     for (row, (ops, bytes)) in SAVED.iter().enumerate() {
-        let mut host = H::fresh(alloc).expect(rt, "memory");
-        for op in *ops {
-            host.apply(op).expect(rt, "memory");
-        }
-        assert!(rt; is_saved_as(rt, &host, bytes), "row {row}");
-        assert!(rt; loads::<H>(rt, alloc, bytes), "row {row}");
+        let host: H = led_to(rt, alloc, ops);
+        check_row(rt, is_saved_as(rt, &host, bytes), row);
+        check_row(rt, loads::<H>(rt, alloc, bytes), row);
     }
 }
 
 fn check_saved_as<H: Host>(rt: &impl Abort, host: &H, bytes: &[u8]) {
-    assert!(rt; is_saved_as(rt, host, bytes));
+    check(rt, is_saved_as(rt, host, bytes), "saved");
 }
 
 /// A key is put, deleted, compared and put. Undone one by one, each state comes back that was passed.
@@ -118,11 +125,14 @@ fn states_are_saved(rt: HostRuntime) {
     check_undone::<KvHost>(&rt, rt.alloc());
 }
 
+pub fn is_refused<H: Host>(rt: &impl Abort, alloc: Global, bytes: &[u8]) -> bool {
+    H::load(alloc, bytes).expect(rt, "memory").is_none()
+}
+
 /// Each of these bytes is refused.
 pub fn check_refused<H: Host>(rt: &impl Abort, alloc: Global, refused: &[&[u8]]) {
     for (row, bytes) in refused.iter().enumerate() {
-        let host = H::load(alloc, bytes).expect(rt, "memory");
-        assert!(rt; host.is_none(), "row {row}");
+        check_row(rt, is_refused::<H>(rt, alloc, bytes), row);
     }
 }
 
@@ -136,7 +146,7 @@ fn check_lengths<H: Host>(rt: &impl Abort, alloc: Global) {
         let mut bytes = Vec::from_slice(alloc, b"\0\0\0\x01").expect(rt, "memory");
         put_field(rt, b'x', *key, &mut bytes);
         put_field(rt, b'x', *value, &mut bytes);
-        assert!(rt; loads::<H>(rt, alloc, &bytes) == *holds, "row {row}");
+        check_row(rt, loads::<H>(rt, alloc, &bytes) == *holds, row);
     }
 }
 
@@ -145,14 +155,16 @@ fn fields_have_their_lengths(rt: HostRuntime) {
     check_lengths::<KvHost>(&rt, rt.alloc());
 }
 
+pub fn put(rt: &impl Abort, bytes: &[u8], to: &mut Vec<u8>) {
+    to.extend_from_slice(bytes).expect(rt, "memory");
+}
+
 /// The op `letter` of the key of a number, and the fields that follow.
 fn op_of(rt: &impl Abort, alloc: Global, letter: u8, number: u16, fields: &[u8]) -> Vec<u8> {
     let mut op = Vec::new(alloc);
-    op.push(letter).expect(rt, "memory");
-    op.extend_from_slice(b"\0\x02").expect(rt, "memory");
-    op.extend_from_slice(&number.to_be_bytes())
-        .expect(rt, "memory");
-    op.extend_from_slice(fields).expect(rt, "memory");
+    put(rt, &[letter, 0, 2], &mut op);
+    put(rt, &number.to_be_bytes(), &mut op);
+    put(rt, fields, &mut op);
     op
 }
 
@@ -162,14 +174,16 @@ fn full<H: Host>(rt: &impl Abort, alloc: Global) -> H {
     let mut host = H::fresh(alloc).expect(rt, "memory");
     for number in 0..4096u16 {
         let put = op_of(rt, alloc, b'P', number, b"\0\x01v");
-        assert!(rt; answers(rt, &mut host, &put, b"none"), "key {number}");
+        check(rt, answers(rt, &mut host, &put, b"none"), "a new key");
     }
     host
 }
 
 /// What is done to a full host, one after the other: an op's letter, the number of its key, the
 /// fields after the key, the answer, and whether the op is undone.
-const FULL: [(u8, u16, &[u8], &[u8], bool); 18] = [
+type Row = (u8, u16, &'static [u8], &'static [u8], bool);
+
+static FULL: [Row; 18] = [
     (b'P', 4096, b"\0\x01v", b"full", true),
     (b'P', 4096, b"\0\x01v", b"full", false),
     (b'G', 4096, b"", b"none", false),
@@ -192,18 +206,24 @@ const FULL: [(u8, u16, &[u8], &[u8], bool); 18] = [
     (b'P', 4096, b"\0\x01v", b"full", false),
 ];
 
+/// Carries out an op, and says whether it has the answer of the row.
+fn does<H: Host>(rt: &impl Abort, alloc: Global, host: &mut H, row: &Row) -> bool {
+    let (letter, number, fields, expected, is_undone) = *row;
+    let op = op_of(rt, alloc, letter, number, fields);
+    let (answer, undo) = host.apply(&op).expect(rt, "memory");
+    if is_undone {
+        host.undo(undo);
+    }
+    answer.as_slice() == expected
+}
+
 fn check_full<H: Host>(rt: &impl Abort, alloc: Global) {
     let mut host = full::<H>(rt, alloc);
     let saved = host.save().expect(rt, "memory");
-    for (row, (letter, number, fields, expected, is_undone)) in FULL.iter().enumerate() {
-        let op = op_of(rt, alloc, *letter, *number, fields);
-        let (answer, undo) = host.apply(&op).expect(rt, "memory");
-        assert!(rt; answer.as_slice() == *expected, "row {row}");
-        if *is_undone {
-            host.undo(undo);
-        }
+    for (number, row) in FULL.iter().enumerate() {
+        check_row(rt, does(rt, alloc, &mut host, row), number);
     }
-    assert!(rt; is_saved_as(rt, &host, saved.as_slice()));
+    check_saved_as(rt, &host, saved.as_slice());
 }
 
 #[test]
@@ -213,27 +233,36 @@ fn a_full_map_takes_no_key(rt: HostRuntime) {
 
 /// The saved state of a full host with one key more, and a count for it.
 fn one_more(rt: &impl Abort, alloc: Global, saved: &[u8]) -> Vec<u8> {
-    let mut bytes = Vec::from_slice(alloc, b"\0\0\x10\x01").expect(rt, "memory");
+    let mut bytes = Vec::new(alloc);
+    put(rt, b"\0\0\x10\x01", &mut bytes);
     let (_count, entries) = saved.split_at(4.min(saved.len()));
-    bytes.extend_from_slice(entries).expect(rt, "memory");
+    put(rt, entries, &mut bytes);
+    put(rt, b"\0\x02\x10\0\0\x01v", &mut bytes);
     bytes
-        .extend_from_slice(b"\0\x02\x10\0\0\x01v")
-        .expect(rt, "memory");
-    bytes
+}
+
+/// A host that is loaded from these bytes, which are its saved state.
+pub fn loaded<H: Host>(rt: &impl Abort, alloc: Global, saved: &[u8]) -> H {
+    let host = H::load(alloc, saved).expect(rt, "memory");
+    let host = host.expect(rt, "a saved state");
+    check_saved_as(rt, &host, saved);
+    host
+}
+
+/// A host of this saved state is full too, and one of a key more is none.
+fn check_loaded<H: Host>(rt: &impl Abort, alloc: Global, saved: &[u8]) {
+    check(rt, saved.len() == 4 + 7 * MAX_KEYS, "its length");
+    let mut again: H = loaded(rt, alloc, saved);
+    let put = op_of(rt, alloc, b'P', 4096, b"\0\x01v");
+    check(rt, answers(rt, &mut again, &put, b"full"), "full");
+    let more = one_more(rt, alloc, saved);
+    check(rt, is_refused::<H>(rt, alloc, &more), "one more");
 }
 
 fn check_full_loads<H: Host>(rt: &impl Abort, alloc: Global) {
     let host = full::<H>(rt, alloc);
     let saved = host.save().expect(rt, "memory");
-    assert!(rt; saved.as_slice().len() == 4 + 7 * MAX_KEYS);
-    let mut again = H::load(alloc, saved.as_slice())
-        .expect(rt, "memory")
-        .expect(rt, "a saved state");
-    assert!(rt; is_saved_as(rt, &again, saved.as_slice()));
-    let put = op_of(rt, alloc, b'P', 4096, b"\0\x01v");
-    assert!(rt; answers(rt, &mut again, &put, b"full"));
-    let more = one_more(rt, alloc, saved.as_slice());
-    assert!(rt; H::load(alloc, &more).expect(rt, "memory").is_none());
+    check_loaded::<H>(rt, alloc, saved.as_slice());
 }
 
 #[test]

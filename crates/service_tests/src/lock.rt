@@ -1,5 +1,6 @@
+use crate::checking::{check, check_row};
 use crate::kv::{answers, check_ops};
-use crate::kv_saved::{check_refused, is_saved_as, loads};
+use crate::kv_saved::{check_refused, is_refused, is_saved_as, loaded, loads, put};
 use lock_host::LockHost;
 use nop_types::Host;
 use std::alloc::Global;
@@ -7,7 +8,7 @@ use std::process::Abort;
 
 /// An op, and the answer to it, one after the other. An op is its letter, names, each after its
 /// length in a byte, and for a release the token in eight bytes.
-const OPS: [(&[u8], &[u8]); 42] = [
+static OPS: [(&[u8], &[u8]); 42] = [
     (b"I\x01a", b"free"),
     (b"A\x01a\x01x", b"granted\0\0\0\0\0\0\0\x01"),
     (b"A\x01a\x01x", b"granted\0\0\0\0\0\0\0\x01"),
@@ -63,7 +64,7 @@ fn lock_ops(rt: HostRuntime) {
 }
 
 /// How long the two names of an acquire are, and whether it is granted.
-const LENGTHS: [(u8, u8, bool); 5] = [
+static LENGTHS: [(u8, u8, bool); 5] = [
     (64, 64, true),
     (64, 65, false),
     (65, 64, false),
@@ -79,18 +80,30 @@ fn put_name(rt: &impl Abort, len: u8, to: &mut Vec<u8>) {
     }
 }
 
+/// The acquire of a lock, with names of so many bytes.
+fn acquire(rt: &impl Abort, alloc: Global, name: u8, owner: u8) -> Vec<u8> {
+    let mut op = Vec::new(alloc);
+    put(rt, b"A", &mut op);
+    put_name(rt, name, &mut op);
+    put_name(rt, owner, &mut op);
+    op
+}
+
+/// The answer to the first acquire, or to what is no op.
+fn answer_to(granted: bool) -> &'static [u8] {
+    if granted {
+        b"granted\0\0\0\0\0\0\0\x01"
+    } else {
+        b"bad"
+    }
+}
+
 fn check_lengths<H: Host>(rt: &impl Abort, alloc: Global) {
     for (row, (name, owner, granted)) in LENGTHS.iter().enumerate() {
         let mut host = H::fresh(alloc).expect(rt, "memory");
-        let mut op = Vec::from_slice(alloc, b"A").expect(rt, "memory");
-        put_name(rt, *name, &mut op);
-        put_name(rt, *owner, &mut op);
-        let expected: &[u8] = if *granted {
-            b"granted\0\0\0\0\0\0\0\x01"
-        } else {
-            b"bad"
-        };
-        assert!(rt; answers(rt, &mut host, &op, expected), "row {row}");
+        let op = acquire(rt, alloc, *name, *owner);
+        let holds = answers(rt, &mut host, &op, answer_to(*granted));
+        check_row(rt, holds, row);
     }
 }
 
@@ -100,7 +113,7 @@ fn lock_names_have_their_lengths(rt: HostRuntime) {
 }
 
 /// Ops from the opening state on, and how the state that they lead to is saved.
-const SAVED: [(&[&[u8]], &[u8]); 6] = [
+static SAVED: [(&[&[u8]], &[u8]); 6] = [
     (&[], b"\0\0\0\0\0\0\0\0\0\0\0\0\0\0\0\0"),
     (
         &[b"A\x01a\x01x"],
@@ -135,7 +148,7 @@ const SAVED: [(&[&[u8]], &[u8]); 6] = [
 ];
 
 /// Bytes that are no saved state.
-const REFUSED: [&[u8]; 14] = [
+static REFUSED: [&[u8]; 14] = [
     b"",
     b"\0\0\0\0\0\0\0\0",
     b"\0\0\0\0\0\0\0\0\0\0\0\0\0\0\0",
@@ -157,19 +170,24 @@ const REFUSED: [&[u8]; 14] = [
     b"\xff\xff\xff\xff\xff\xff\xff\xff\xff\xff\xff\xff\xff\xff\xff\xff\0",
 ];
 
+/// Whether the host is as before, where an op is done and undone.
+fn is_undone<H: Host>(rt: &impl Abort, host: &mut H, op: &[u8]) -> bool {
+    let before = host.save().expect(rt, "memory");
+    let (_answer, undo) = host.apply(op).expect(rt, "memory");
+    host.undo(undo);
+    is_saved_as(rt, host, before.as_slice())
+}
+
 /// Each op is undone and done again, and the state that they lead to is saved so.
 fn check_saved<H: Host>(rt: &impl Abort, alloc: Global) {
     for (row, (ops, bytes)) in SAVED.iter().enumerate() {
         let mut host = H::fresh(alloc).expect(rt, "memory");
         for op in *ops {
-            let before = host.save().expect(rt, "memory");
-            let (_answer, undo) = host.apply(op).expect(rt, "memory");
-            host.undo(undo);
-            assert!(rt; is_saved_as(rt, &host, before.as_slice()), "row {row}");
+            check_row(rt, is_undone(rt, &mut host, op), row);
             host.apply(op).expect(rt, "memory");
         }
-        assert!(rt; is_saved_as(rt, &host, bytes), "row {row}");
-        assert!(rt; loads::<H>(rt, alloc, bytes), "row {row}");
+        check_row(rt, is_saved_as(rt, &host, bytes), row);
+        check_row(rt, loads::<H>(rt, alloc, bytes), row);
     }
 }
 
@@ -186,18 +204,16 @@ fn other_bytes_are_no_locks(rt: HostRuntime) {
 /// An acquire, by x, of the lock of a number, or a release by its token.
 fn op_of(rt: &impl Abort, alloc: Global, letter: u8, number: u16, rest: &[u8]) -> Vec<u8> {
     let mut op = Vec::new(alloc);
-    op.push(letter).expect(rt, "memory");
-    op.push(2).expect(rt, "memory");
-    op.extend_from_slice(&number.to_be_bytes())
-        .expect(rt, "memory");
-    op.extend_from_slice(b"\x01x").expect(rt, "memory");
-    op.extend_from_slice(rest).expect(rt, "memory");
+    put(rt, &[letter, 2], &mut op);
+    put(rt, &number.to_be_bytes(), &mut op);
+    put(rt, b"\x01x", &mut op);
+    put(rt, rest, &mut op);
     op
 }
 
 /// What is done once as many locks are held as may be, those of the numbers from 0 on: an op's
 /// letter, the number of its lock, what follows the owner, and the answer.
-const FULL: [(u8, u16, &[u8], &[u8]); 7] = [
+static FULL: [(u8, u16, &[u8], &[u8]); 7] = [
     (b'A', 4096, b"", b"full"),
     (b'A', 4095, b"", b"granted\0\0\0\0\0\0\x10\0"),
     (b'A', 5000, b"", b"full"),
@@ -207,42 +223,42 @@ const FULL: [(u8, u16, &[u8], &[u8]); 7] = [
     (b'R', 5000, b"\0\0\0\0\0\0\x10\x01", b"released"),
 ];
 
-/// Such a host, as it is and as it is loaded from what it saves.
-fn full<H: Host>(rt: &impl Abort, alloc: Global) -> (H, H) {
+/// Such a host.
+fn full<H: Host>(rt: &impl Abort, alloc: Global) -> H {
     let mut host = H::fresh(alloc).expect(rt, "memory");
     for number in 0..4096u16 {
         host.apply(&op_of(rt, alloc, b'A', number, b""))
             .expect(rt, "memory");
     }
+    host
+}
+
+/// A host that is loaded from what a full one saves. From what has one lock more none is loaded.
+fn loaded_again<H: Host>(rt: &impl Abort, alloc: Global, host: &H) -> H {
     let saved = host.save().expect(rt, "memory");
-    assert!(rt; saved.as_slice().len() == 16 + 13 * 4096);
-    let loaded = H::load(alloc, saved.as_slice()).expect(rt, "memory");
-    let loaded = loaded.expect(rt, "a saved state");
-    assert!(rt; is_saved_as(rt, &loaded, saved.as_slice()));
+    check(rt, saved.as_slice().len() == 16 + 13 * 4096, "its length");
     let more = one_more(rt, alloc, saved.as_slice());
-    assert!(rt; H::load(alloc, &more).expect(rt, "memory").is_none());
-    (host, loaded)
+    check(rt, is_refused::<H>(rt, alloc, &more), "one more");
+    loaded(rt, alloc, saved.as_slice())
 }
 
 /// The saved state of a full host with one lock more: a token and a place for it.
 fn one_more(rt: &impl Abort, alloc: Global, saved: &[u8]) -> Vec<u8> {
-    let mut bytes = Vec::from_slice(alloc, b"\0\0\0\0\0\0\x10\x01\0\0\0\0\0\0\x10\x01").expect(
-        rt, "memory",
-    );
+    let mut bytes = Vec::new(alloc);
+    put(rt, b"\0\0\0\0\0\0\x10\x01\0\0\0\0\0\0\x10\x01", &mut bytes);
     let (_counts, places) = saved.split_at(16.min(saved.len()));
-    bytes.extend_from_slice(places).expect(rt, "memory");
-    bytes
-        .extend_from_slice(b"\x02\x10\0\x01x\0\0\0\0\0\0\x10\x01")
-        .expect(rt, "memory");
+    put(rt, places, &mut bytes);
+    put(rt, b"\x02\x10\0\x01x\0\0\0\0\0\0\x10\x01", &mut bytes);
     bytes
 }
 
 fn check_full<H: Host>(rt: &impl Abort, alloc: Global) {
-    let (mut host, mut loaded) = full::<H>(rt, alloc);
+    let mut host: H = full(rt, alloc);
+    let mut loaded: H = loaded_again(rt, alloc, &host);
     for (row, (letter, number, rest, expected)) in FULL.iter().enumerate() {
         let op = op_of(rt, alloc, *letter, *number, rest);
-        assert!(rt; answers(rt, &mut host, &op, expected), "row {row}");
-        assert!(rt; answers(rt, &mut loaded, &op, expected), "row {row}");
+        check_row(rt, answers(rt, &mut host, &op, expected), row);
+        check_row(rt, answers(rt, &mut loaded, &op, expected), row);
     }
 }
 

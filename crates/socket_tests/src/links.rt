@@ -8,7 +8,7 @@ use std::net::{Ipv4Addr, Net, UdpSocket};
 use std::ops::Range;
 use std::process::Abort;
 use std::time::{Clock, Duration};
-use udp_ports::{UdpLink, UdpPorts, is_part};
+use udp_ports::{UdpPorts, is_part};
 
 // The first port of these tests.
 const PORTS: u16 = 43300;
@@ -19,25 +19,6 @@ fn new_peer<R: Net + Abort>(rt: &R, port: u16) -> UdpSocket {
     peer.set_read_timeout(Some(Duration::from_secs(1)))
         .expect(rt, "a time-out");
     peer
-}
-
-/// A link at this port.
-fn attached<'a, R: Net + Clock + Abort>(rt: &'a R, alloc: Global, port: u16) -> UdpLink<'a, R> {
-    let mut ports = UdpPorts::new(rt, alloc);
-    ports.attach(port).expect(rt, "a link")
-}
-
-/// Links at these two ports, of which the first waits when it is polled.
-fn both_attached<'a, R: Net + Clock + Abort>(
-    rt: &'a R,
-    alloc: Global,
-    first: u16,
-    second: u16,
-) -> (UdpLink<'a, R>, UdpLink<'a, R>) {
-    let mut ports = UdpPorts::new(rt, alloc);
-    let from = ports.attach(first).expect(rt, "a link");
-    let to = ports.attach(second).expect(rt, "a link");
-    (from, to)
 }
 
 /// Sends a datagram to a port of the loopback address.
@@ -91,16 +72,22 @@ fn fragments_of_several_are_parts(rt: HostRuntime) {
     check(&rt, !is_long, "a long one of one");
 }
 
-/// A request with the longest op is no part.
-#[test]
-fn requests_are_no_parts(rt: HostRuntime) {
+/// A request with the longest op.
+fn longest_request(rt: &impl Abort, alloc: Global) -> Vec<u8> {
     let request = Request {
         client: 0,
         id: 1,
-        op: Op::new(rt.alloc(), &[8; 640]).expect(&rt, "memory"),
+        op: Op::new(alloc, &[8; 640]).expect(rt, "memory"),
     };
-    let mut bytes = Vec::new(rt.alloc());
-    encode(rt.alloc(), &Datagram::Request(request), &mut bytes).expect(&rt, "memory");
+    let mut bytes = Vec::new(alloc);
+    encode(alloc, &Datagram::Request(request), &mut bytes).expect(rt, "memory");
+    bytes
+}
+
+/// A request with the longest op is no part.
+#[test]
+fn requests_are_no_parts(rt: HostRuntime) {
+    let bytes = longest_request(&rt, rt.alloc());
     check(&rt, bytes.len() == 658, "its length");
     check(&rt, !is_part(&bytes), "no part");
 }
@@ -155,13 +142,13 @@ fn send_parts<L: Link>(rt: &impl Abort, link: &mut L, port: u16, count: u16) {
     }
 }
 
-/// Polls a link until a socket has datagrams, and says how many, and after how many microseconds. None after five seconds.
+/// Polls a link until a socket has datagrams, and says how many, and how many microseconds after the start. None after five seconds.
 fn awaited<L: Link, R: Clock + Abort>(
     rt: &R,
     link: &mut L,
     peer: &UdpSocket,
+    start: u128,
 ) -> Option<(usize, u128)> {
-    let start = micros(rt);
     for _ in 0..100_000usize {
         let _none = link.poll();
         let count = drained(peer);
@@ -176,33 +163,36 @@ fn awaited<L: Link, R: Clock + Abort>(
     None
 }
 
-/// A socket has one datagram after so many microseconds, and not before.
-fn check_awaited<L: Link, R: Clock + Abort>(rt: &R, link: &mut L, peer: &UdpSocket, least: u128) {
-    let (count, waited) = awaited(rt, link, peer).expect(rt, "a datagram");
+/// A socket has one datagram so many microseconds after the start, and not before.
+fn check_awaited<L: Link, R: Clock + Abort>(
+    rt: &R,
+    link: &mut L,
+    peer: &UdpSocket,
+    start: u128,
+    least: u128,
+) {
+    let (count, waited) = awaited(rt, link, peer, start).expect(rt, "a datagram");
     check(rt, count == 1, "one datagram");
     check(rt, waited >= least, "not before");
 }
 
-fn check_wait<L: Link, R: Net + Clock + Abort>(rt: &R, link: &mut L) {
-    let peer = new_peer(rt, PORTS + 9);
-    send_parts(rt, link, PORTS + 9, 8);
-    check_drained(rt, &peer, 6);
-    check_awaited(rt, link, &peer, 90_000);
-}
-
 /// A port that acknowledges nothing gets six parts at once, and of these the first one again after a tenth of a second, not before.
-#[test]
-fn a_silent_port_has_to_wait(rt: HostRuntime) {
-    let mut link = attached(&rt, rt.alloc(), PORTS + 8);
-    check_wait(&rt, &mut link);
+fn a_silent_port_has_to_wait<P: Ports, R: Net + Clock + Abort>(rt: &R, ports: &mut P) {
+    let mut link = ports.attach(PORTS + 8).expect(rt, "a link");
+    let peer = new_peer(rt, PORTS + 9);
+    let start = micros(rt);
+    send_parts(rt, &mut link, PORTS + 9, 8);
+    check_drained(rt, &peer, 6);
+    check_awaited(rt, &mut link, &peer, start, 90_000);
+    ports.detach(link);
 }
 
 /// Two parts are sent again after a tenth of a second, not before: at once or one after the other, since the second one was sent a
 /// little later than the first one, and so may be its turn.
-fn check_two_again<L: Link, R: Clock + Abort>(rt: &R, link: &mut L, peer: &UdpSocket) {
-    let (first, waited) = awaited(rt, link, peer).expect(rt, "a part");
+fn check_two_again<L: Link, R: Clock + Abort>(rt: &R, link: &mut L, peer: &UdpSocket, start: u128) {
+    let (first, waited) = awaited(rt, link, peer, start).expect(rt, "a part");
     let count = if first < 2 {
-        let (second, _) = awaited(rt, link, peer).expect(rt, "a part");
+        let (second, _) = awaited(rt, link, peer, start).expect(rt, "a part");
         first.saturating_add(second)
     } else {
         first
@@ -225,58 +215,56 @@ fn check_silence<L: Link, R: Clock + Abort>(rt: &R, link: &mut L, peer: &UdpSock
 
 fn check_sent_again<L: Link, R: Net + Clock + Abort>(rt: &R, link: &mut L) {
     let peer = new_peer(rt, PORTS + 13);
+    let start = micros(rt);
     send_parts(rt, link, PORTS + 13, 3);
     check_drained(rt, &peer, 3);
     send(rt, &peer, &ack(36, [2; 8]), link.port());
-    check_two_again(rt, link, &peer);
+    check_two_again(rt, link, &peer, start);
     send(rt, &peer, &ack(36, [1, 0, 0, 0, 0, 0, 0, 0]), link.port());
     check_silence(rt, link, &peer, 700_000);
 }
 
 /// Of three parts the last one is acknowledged: the others are sent again, and no more when they are acknowledged too.
-#[test]
-fn lost_parts_are_sent_again(rt: HostRuntime) {
-    let mut link = attached(&rt, rt.alloc(), PORTS + 12);
-    check_sent_again(&rt, &mut link);
+fn lost_parts_are_sent_again<P: Ports, R: Net + Clock + Abort>(rt: &R, ports: &mut P) {
+    let mut link = ports.attach(PORTS + 12).expect(rt, "a link");
+    check_sent_again(rt, &mut link);
+    ports.detach(link);
 }
 
-fn check_repeated<L: Link, R: Net + Clock + Abort>(rt: &R, alloc: Global, link: &mut L) {
-    let peer = new_peer(rt, PORTS + 15);
+/// A request for a view change.
+fn request(rt: &impl Abort, alloc: Global) -> Vec<u8> {
     let mut request = Vec::new(alloc);
     put_fragment(&mut request, 2, 0x0101, 0, 1, &[20; 14]).expect(rt, "memory");
-    link.send(PORTS + 15, &request).expect(rt, "a send");
-    check_drained(rt, &peer, 1);
-    check_awaited(rt, link, &peer, 490_000);
+    request
 }
 
 /// A request for a view change is sent again after half a second.
-#[test]
-fn requests_are_repeated(rt: HostRuntime) {
-    let mut link = attached(&rt, rt.alloc(), PORTS + 14);
-    check_repeated(&rt, rt.alloc(), &mut link);
+fn requests_are_repeated<P: Ports, R: Net + Clock + Abort>(rt: &R, ports: &mut P, request: &[u8]) {
+    let mut link = ports.attach(PORTS + 14).expect(rt, "a link");
+    let peer = new_peer(rt, PORTS + 15);
+    let start = micros(rt);
+    link.send(PORTS + 15, request).expect(rt, "a send");
+    check_drained(rt, &peer, 1);
+    check_awaited(rt, &mut link, &peer, start, 490_000);
+    ports.detach(link);
 }
 
-/// Of so many parts that are sent to a port six go at once.
-fn check_six<L: Link>(rt: &impl Abort, link: &mut L, peer: &UdpSocket, port: u16, count: u16) {
+/// Of so many parts that are sent to a socket six go at once.
+fn check_six<L: Link, R: Net + Abort>(rt: &R, link: &mut L, port: u16, count: u16) -> UdpSocket {
+    let peer = new_peer(rt, port);
     send_parts(rt, link, port, count);
-    check_drained(rt, peer, 6);
-}
-
-fn check_others<L: Link, R: Net + Abort>(rt: &R, link: &mut L) {
-    let silent = new_peer(rt, PORTS + 43);
-    check_six(rt, link, &silent, PORTS + 43, 8);
-    for port in [PORTS + 11, PORTS + 27] {
-        let peer = new_peer(rt, port);
-        check_six(rt, link, &peer, port, 6);
-    }
-    check(rt, link.losses() == 0, "nothing is lost");
+    check_drained(rt, &peer, 6);
+    peer
 }
 
 /// A port that acknowledges nothing holds up no other, also none that is 16 or 32 below it.
-#[test]
-fn a_silent_port_holds_up_no_other(rt: HostRuntime) {
-    let mut link = attached(&rt, rt.alloc(), PORTS + 10);
-    check_others(&rt, &mut link);
+fn a_silent_port_holds_up_no_other<P: Ports, R: Net + Abort>(rt: &R, ports: &mut P) {
+    let mut link = ports.attach(PORTS + 10).expect(rt, "a link");
+    let _silent = check_six(rt, &mut link, PORTS + 43, 8);
+    let _other = check_six(rt, &mut link, PORTS + 11, 6);
+    let _other = check_six(rt, &mut link, PORTS + 27, 6);
+    check(rt, link.losses() == 0, "nothing is lost");
+    ports.detach(link);
 }
 
 /// The next datagram of a socket acknowledges these parts, and comes from this port.
@@ -296,26 +284,34 @@ fn check_polls<L: Link>(rt: &impl Abort, link: &mut L, count: usize) {
     check(rt, is_idle(rt, link), "no datagram");
 }
 
+static ACKNOWLEDGED: [[u8; 8]; 3] = [
+    [3, 2, 1, 0, 0, 0, 0, 0],
+    [7, 6, 5, 4, 3, 2, 1, 0],
+    [8, 7, 6, 5, 4, 3, 2, 1],
+];
+
 fn check_acknowledged<L: Link, R: Net + Abort>(rt: &R, link: &mut L) {
     let peer = new_peer(rt, 0);
     for i in 0..9u16 {
         send(rt, &peer, &part(i), link.port());
     }
     check_polls(rt, link, 9);
-    for indexes in [
-        [3, 2, 1, 0, 0, 0, 0, 0],
-        [7, 6, 5, 4, 3, 2, 1, 0],
-        [8, 7, 6, 5, 4, 3, 2, 1],
-    ] {
-        check_ack(rt, &peer, link.port(), indexes);
+    for indexes in &ACKNOWLEDGED {
+        check_ack(rt, &peer, link.port(), *indexes);
     }
 }
 
 /// A link acknowledges each fourth part with those before it, and those that are left when nothing comes any more.
-#[test]
-fn parts_are_acknowledged(rt: HostRuntime) {
-    let mut link = attached(&rt, rt.alloc(), PORTS);
-    check_acknowledged(&rt, &mut link);
+fn parts_are_acknowledged<P: Ports, R: Net + Abort>(rt: &R, ports: &mut P) {
+    let mut link = ports.attach(PORTS).expect(rt, "a link");
+    check_acknowledged(rt, &mut link);
+    ports.detach(link);
+}
+
+/// A socket got six parts, takes so many, and acknowledges the six.
+fn make_room(rt: &impl Abort, peer: &UdpSocket, window: u8, port: u16) {
+    check_drained(rt, peer, 6);
+    send(rt, peer, &ack(window, [5, 4, 3, 2, 1, 0, 0, 0]), port);
 }
 
 fn check_room<L: Link, R: Net + Abort>(rt: &R, link: &mut L) {
@@ -323,24 +319,33 @@ fn check_room<L: Link, R: Net + Abort>(rt: &R, link: &mut L) {
     let large = new_peer(rt, PORTS + 3);
     send_parts(rt, link, PORTS + 2, 20);
     send_parts(rt, link, PORTS + 3, 20);
-    for (peer, window) in [(&small, 3), (&large, 36)] {
-        check_drained(rt, peer, 6);
-        let named = ack(window, [5, 4, 3, 2, 1, 0, 0, 0]);
-        send(rt, peer, &named, link.port());
-    }
-    for _ in 0..2usize {
-        check(rt, is_idle(rt, link), "nothing comes");
-    }
+    make_room(rt, &small, 3, link.port());
+    make_room(rt, &large, 36, link.port());
+    check_polls(rt, link, 0);
+    check_polls(rt, link, 0);
     check_drained(rt, &small, 3);
     check_drained(rt, &large, 6);
-    check(rt, link.losses() == 0, "nothing is lost");
 }
 
 /// What a port acknowledges makes room for as much as it says, and for no other port; in a turn six go to each at most.
+fn acknowledgements_make_room<P: Ports, R: Net + Abort>(rt: &R, ports: &mut P) {
+    let mut link = ports.attach(PORTS + 1).expect(rt, "a link");
+    check_room(rt, &mut link);
+    check(rt, link.losses() == 0, "nothing is lost");
+    ports.detach(link);
+}
+
+/// How links send parts and acknowledge them, over sockets.
 #[test]
-fn acknowledgements_make_room(rt: HostRuntime) {
-    let mut link = attached(&rt, rt.alloc(), PORTS + 1);
-    check_room(&rt, &mut link);
+fn parts_over_sockets(rt: HostRuntime) {
+    let request = request(&rt, rt.alloc());
+    let mut ports = UdpPorts::new(&rt, rt.alloc());
+    a_silent_port_has_to_wait(&rt, &mut ports);
+    lost_parts_are_sent_again(&rt, &mut ports);
+    requests_are_repeated(&rt, &mut ports, &request);
+    a_silent_port_holds_up_no_other(&rt, &mut ports);
+    parts_are_acknowledged(&rt, &mut ports);
+    acknowledgements_make_room(&rt, &mut ports);
 }
 
 /// The index of the part that a datagram is: it is whole.
@@ -428,10 +433,12 @@ fn check_burst<L: Link, R: Clock + Abort>(rt: &R, alloc: Global, from: &mut L, t
 
 /// 300 parts, more than a receive buffer holds, arrive whole, though the receiver is not polled for a while, which is half of the time
 /// after which the first part is sent again, and then both are. Another datagram passes by all but those that were sent at once.
-#[test]
-fn bursts_arrive_whole(rt: HostRuntime) {
-    let (mut from, mut to) = both_attached(&rt, rt.alloc(), PORTS + 4, PORTS + 5);
-    check_burst(&rt, rt.alloc(), &mut from, &mut to);
+fn bursts_arrive_whole<P: Ports, R: Clock + Abort>(rt: &R, alloc: Global, ports: &mut P) {
+    let mut from = ports.attach(PORTS + 4).expect(rt, "a link");
+    let mut to = ports.attach(PORTS + 5).expect(rt, "a link");
+    check_burst(rt, alloc, &mut from, &mut to);
+    ports.detach(from);
+    ports.detach(to);
 }
 
 /// Passes on what a socket has, from each of two ports to the other. Each tenth datagram is lost.
@@ -489,10 +496,16 @@ fn check_loss<L: Link, R: Net + Clock + Abort>(rt: &R, alloc: Global, from: &mut
 }
 
 /// 300 parts arrive whole, though each tenth datagram between the links is lost, parts and acknowledgements alike.
-#[test]
-fn messages_arrive_through_loss(rt: HostRuntime) {
-    let (mut from, mut to) = both_attached(&rt, rt.alloc(), PORTS + 16, PORTS + 17);
-    check_loss(&rt, rt.alloc(), &mut from, &mut to);
+fn messages_arrive_through_loss<P: Ports, R: Net + Clock + Abort>(
+    rt: &R,
+    alloc: Global,
+    ports: &mut P,
+) {
+    let mut from = ports.attach(PORTS + 16).expect(rt, "a link");
+    let mut to = ports.attach(PORTS + 17).expect(rt, "a link");
+    check_loss(rt, alloc, &mut from, &mut to);
+    ports.detach(from);
+    ports.detach(to);
 }
 
 /// A part that ends with this number.
@@ -527,12 +540,20 @@ fn check_first_six<L: Link>(rt: &impl Abort, from: &mut L, to: &mut L) {
 }
 
 /// A link that is given back sends what still waits: of twenty parts six are sent at once, and the others then.
-#[test]
-fn a_link_given_back_sends_the_rest(rt: HostRuntime) {
-    let mut ports = UdpPorts::new(&rt, rt.alloc());
-    let mut to = ports.attach(PORTS + 6).expect(&rt, "a link");
-    let mut from = ports.attach(PORTS + 7).expect(&rt, "a link");
-    check_first_six(&rt, &mut from, &mut to);
+fn a_link_given_back_sends_the_rest<P: Ports>(rt: &impl Abort, ports: &mut P) {
+    let mut to = ports.attach(PORTS + 6).expect(rt, "a link");
+    let mut from = ports.attach(PORTS + 7).expect(rt, "a link");
+    check_first_six(rt, &mut from, &mut to);
     ports.detach(from);
-    check_received(&rt, &mut to, 6..20);
+    check_received(rt, &mut to, 6..20);
+    ports.detach(to);
+}
+
+/// Many parts from one link to another, over sockets.
+#[test]
+fn messages_over_sockets(rt: HostRuntime) {
+    let mut ports = UdpPorts::new(&rt, rt.alloc());
+    bursts_arrive_whole(&rt, rt.alloc(), &mut ports);
+    messages_arrive_through_loss(&rt, rt.alloc(), &mut ports);
+    a_link_given_back_sends_the_rest(&rt, &mut ports);
 }

@@ -1,15 +1,14 @@
 //! Links at the places of a table: what they hear, and what they answer to greetings.
 
 use crate::checking::check;
-use crate::sockets::{check_received, is_idle};
+use crate::sockets::{check_received, is_idle, is_refused};
 use admission::{Greeting, Own, Word};
 use nop_types::Actor;
 use outside::{Link, Ports};
-use std::alloc::Global;
 use std::net::{Ipv4Addr, Net, SocketAddr, UdpSocket};
 use std::process::Abort;
 use std::time::{Clock, Duration};
-use udp_ports::{Home, Place, UdpLink, UdpPorts};
+use udp_ports::{Home, Place, UdpPorts};
 
 const DIGEST: u64 = 0x0102_0304_0506_0708;
 
@@ -34,27 +33,35 @@ fn places(port: u16) -> [Place; 3] {
     ]
 }
 
+/// The home of a process that claims the actor's number.
 fn home(port: u16, actor: Actor, places: &[Place]) -> Home<'_> {
+    let own = Own {
+        actor,
+        digest: DIGEST,
+        process: 1,
+    };
     Home {
         places,
         port,
-        own: Own {
-            actor,
-            digest: DIGEST,
-            process: 1,
-        },
+        claims: Some(own),
     }
 }
 
-/// A link at the port of one of these homes.
-fn attached<'a, R: Net + Clock + Abort>(
-    rt: &'a R,
-    alloc: Global,
-    homes: &'a [Home<'a>],
-    port: u16,
-) -> UdpLink<'a, R> {
-    let mut ports = UdpPorts::at_hosts(rt, alloc, homes);
-    ports.attach(port).expect(rt, "a link")
+/// An observer at the first port, and a replica at the second one.
+fn listening_places(port: u16, replica: u16) -> [Place; 2] {
+    [
+        place(1, port, Actor::Observer(0)),
+        place(2, replica, Actor::Replica(0)),
+    ]
+}
+
+/// The home of a process whose link only listens.
+fn listening_home(port: u16, places: &[Place]) -> Home<'_> {
+    Home {
+        places,
+        port,
+        claims: None,
+    }
 }
 
 /// A request of a client with this number.
@@ -99,22 +106,27 @@ fn check_heard<L: Link, R: Net + Clock + Abort>(rt: &R, link: &mut L) {
     check(rt, link.losses() == 1, "a loss");
 }
 
+fn check_strangers<P: Ports, R: Net + Clock + Abort>(rt: &R, ports: &mut P) {
+    check(rt, is_refused(ports, 42916), "another's place");
+    check(rt, ports.faults() == 1, "a fault");
+    let mut link = ports.attach(42900).expect(rt, "a link");
+    check_heard(rt, &mut link);
+    ports.detach(link);
+}
+
 /// What comes from an address that is in no table, or what another may not send, is not heard; what follows it is.
 #[test]
 fn strangers_are_not_heard(rt: HostRuntime) {
     let places = places(42900);
     let homes = [home(42900, Actor::Replica(0), &places)];
     let mut ports = UdpPorts::at_hosts(&rt, rt.alloc(), &homes);
-    check(&rt, ports.attach(42916).is_err(), "another's place");
-    check(&rt, ports.faults() == 1, "a fault");
-    let mut link = ports.attach(42900).expect(&rt, "a link");
-    check_heard(&rt, &mut link);
+    check_strangers(&rt, &mut ports);
 }
 
 /// A word, a digest, a number and a process, and the word that answers them, if one does.
 type Asked = (Word, u64, u32, u64, Option<Word>);
 
-const ASKED: [Asked; 8] = [
+static ASKED: [Asked; 8] = [
     (Word::Ask, DIGEST, 17, 5, Some(Word::Free)),
     (Word::Claim, DIGEST, 17, 5, Some(Word::Noted)),
     (Word::Claim, DIGEST, 17, 6, Some(Word::Taken)),
@@ -152,11 +164,13 @@ fn check_asked<L: Link>(rt: &impl Abort, link: &mut L, client: &UdpSocket, asked
     check(rt, answer(client) == wanted, "its answer");
 }
 
-fn check_answers<L: Link, R: Net + Abort>(rt: &R, link: &mut L) {
+fn check_answers<P: Ports, R: Net + Abort>(rt: &R, ports: &mut P) {
+    let mut link = ports.attach(42901).expect(rt, "a link");
     let client = new_socket(rt, 2, 42917);
     for asked in &ASKED {
-        check_asked(rt, link, &client, *asked);
+        check_asked(rt, &mut link, &client, *asked);
     }
+    ports.detach(link);
 }
 
 /// A greeting is answered and not heard: a number is free, then noted for who claims it, and then taken for another.
@@ -164,8 +178,8 @@ fn check_answers<L: Link, R: Net + Abort>(rt: &R, link: &mut L) {
 fn greetings_are_answered(rt: HostRuntime) {
     let places = places(42901);
     let homes = [home(42901, Actor::Replica(0), &places)];
-    let mut link = attached(&rt, rt.alloc(), &homes, 42901);
-    check_answers(&rt, &mut link);
+    let mut ports = UdpPorts::at_hosts(&rt, rt.alloc(), &homes);
+    check_answers(&rt, &mut ports);
 }
 
 /// A replica's question whether this number is free.
@@ -178,24 +192,55 @@ fn question() -> Greeting {
     }
 }
 
-fn check_listening<L: Link, R: Net + Clock + Abort>(rt: &R, link: &mut L) {
-    let replica = new_socket(rt, 2, 42918);
-    send(rt, &replica, &request(0), 42902);
-    send(rt, &replica, &question().to_bytes(), 42902);
+/// A link that only listens hears a greeting as what else its sender may send, and answers none.
+fn check_listening<L: Link, R: Net + Clock + Abort>(rt: &R, link: &mut L, port: u16) {
+    let replica = new_socket(rt, 2, port);
+    send(rt, &replica, &request(0), link.port());
+    send(rt, &replica, &question().to_bytes(), link.port());
     check_received(rt, link, &question().to_bytes());
     let mut buf = [0u8; 64];
     check(rt, replica.recv_from(&mut buf).is_err(), "no answer");
 }
 
+fn check_listener<P: Ports, R: Net + Clock + Abort>(rt: &R, ports: &mut P) {
+    let mut link = ports.attach(42902).expect(rt, "a link");
+    check_listening(rt, &mut link, 42918);
+    ports.detach(link);
+}
+
 /// Links that only listen are attached where nobody answers, hear greetings as what else their senders may send, and answer none.
 #[test]
 fn listeners_claim_nothing(rt: HostRuntime) {
-    let places = [
-        place(1, 42902, Actor::Observer(0)),
-        place(2, 42918, Actor::Replica(0)),
+    let places = listening_places(42902, 42918);
+    let homes = [listening_home(42902, &places)];
+    let mut ports = UdpPorts::at_hosts(&rt, rt.alloc(), &homes);
+    check_listener(&rt, &mut ports);
+}
+
+/// Links at both homes.
+fn check_homes<P: Ports, R: Net + Clock + Abort>(rt: &R, ports: &mut P) {
+    let mut claiming = ports.attach(42903).expect(rt, "a link");
+    let mut listening = ports.attach(42904).expect(rt, "a link");
+    let client = new_socket(rt, 2, 42920);
+    check_asked(rt, &mut claiming, &client, ASKED[0]);
+    check_listening(rt, &mut listening, 42919);
+    ports.detach(claiming);
+    ports.detach(listening);
+}
+
+/// One process has two homes: links are attached at that where it claims its number, and at that where it only listens, and this one
+/// answers no greeting.
+#[test]
+fn one_home_claims_and_one_listens(rt: HostRuntime) {
+    let claimed = [
+        place(1, 42903, Actor::Replica(0)),
+        place(2, 42920, Actor::Client(1)),
     ];
-    let homes = [home(42902, Actor::Observer(0), &places)];
-    let mut ports = UdpPorts::at_hosts(&rt, rt.alloc(), &homes).without_claims();
-    let mut link = ports.attach(42902).expect(&rt, "a link");
-    check_listening(&rt, &mut link);
+    let heard = listening_places(42904, 42919);
+    let homes = [
+        home(42903, Actor::Replica(0), &claimed),
+        listening_home(42904, &heard),
+    ];
+    let mut ports = UdpPorts::at_hosts(&rt, rt.alloc(), &homes);
+    check_homes(&rt, &mut ports);
 }

@@ -1,5 +1,7 @@
 //! Links at ports of the loopback address, and the system's clock.
 
+ghost use Rattle.std.specs.Prelude.{◌<◌, length};
+
 use crate::checking::check;
 use nop_types::Bytes;
 use outside::{Clock, Link, LinkError, Ports};
@@ -7,23 +9,7 @@ use std::net::{Ipv4Addr, Net, UdpSocket};
 use std::process::Abort;
 use std::time::Duration;
 use std::{thread, time};
-use udp_ports::{SystemClock, UdpLink, UdpPorts};
-
-// The first port that these tests try.
-const PORTS: u16 = 40000;
-
-/// A link at the first port that is free, since other programs may have some.
-fn new_link<'a, R: Net + time::Clock + Abort>(
-    rt: &R,
-    ports: &mut UdpPorts<'a, R>,
-) -> UdpLink<'a, R> {
-    for i in 0..1000u16 {
-        if let Ok(link) = ports.attach(PORTS + i) {
-            return link;
-        }
-    }
-    panic!(rt; "no port is free")
-}
+use udp_ports::{SystemClock, UdpPorts};
 
 /// A port of the loopback address that nobody has.
 fn free_port<R: Net + Abort>(rt: &R) -> u16 {
@@ -79,12 +65,12 @@ fn check_arrivals<L: Link, R: time::Clock + Abort>(rt: &R, from: &mut L, to: &mu
 }
 
 /// Datagrams of each size arrive whole: an empty one, the longest fragment, the longest datagram.
-#[test]
-fn arrives_whole(rt: HostRuntime) {
-    let mut ports = UdpPorts::new(&rt, rt.alloc());
-    let mut from = new_link(&rt, &mut ports);
-    let mut to = new_link(&rt, &mut ports);
-    check_arrivals(&rt, &mut from, &mut to);
+fn arrives_whole<P: Ports, R: Net + time::Clock + Abort>(rt: &R, ports: &mut P) {
+    let mut from = ports.attach(free_port(rt)).expect(rt, "a link");
+    let mut to = ports.attach(free_port(rt)).expect(rt, "a link");
+    check_arrivals(rt, &mut from, &mut to);
+    ports.detach(from);
+    ports.detach(to);
 }
 
 /// Another address of this machine.
@@ -92,13 +78,18 @@ fn elsewhere(port: u16) -> (Ipv4Addr, u16) {
     (Ipv4Addr::new(127, 0, 0, 2), port)
 }
 
-/// A port that a link has can't be attached, which is a fault, but is free at another address.
-fn check_taken<R: Net + time::Clock + Abort>(rt: &R, ports: &mut UdpPorts<'_, R>, port: u16) {
-    let faults = ports.faults();
-    check(rt, ports.attach(port).is_err(), "the port is taken");
-    check(rt, ports.faults() == faults.saturating_add(1), "a fault");
-    let other = UdpSocket::bind(rt, elsewhere(port));
-    check(rt, other.is_ok(), "it is free elsewhere");
+/// Whether no link can be attached at a port.
+pub fn is_refused<P: Ports>(ports: &mut P, port: u16) -> bool
+    ensures { length (P.detached ports.old) < P.attached ports.old →
+        length (P.detached ports.new) < P.attached ports.new }
+{
+    match ports.attach(port) {
+        Ok(link) => {
+            ports.detach(link);
+            false
+        }
+        Err(_) => true,
+    }
 }
 
 /// What comes at the link's port of another address is not received, and what comes at that of its own is.
@@ -114,12 +105,16 @@ fn check_astray<L: Link, R: Net + time::Clock + Abort>(rt: &R, link: &mut L) {
 }
 
 /// A link is bound to the loopback address alone: what is sent to another address of this machine, at the link's port, does not come.
-#[test]
-fn loopback_alone(rt: HostRuntime) {
-    let mut ports = UdpPorts::new(&rt, rt.alloc());
-    let mut link = new_link(&rt, &mut ports);
-    check_astray(&rt, &mut link);
-    check_taken(&rt, &mut ports, link.port());
+/// Its port can't be attached again, which is a fault, but is free at another address.
+fn loopback_alone<P: Ports, R: Net + time::Clock + Abort>(rt: &R, ports: &mut P) {
+    let mut link = ports.attach(free_port(rt)).expect(rt, "a link");
+    check_astray(rt, &mut link);
+    let faults = ports.faults();
+    check(rt, is_refused(ports, link.port()), "the port is taken");
+    check(rt, ports.faults() == faults.saturating_add(1), "a fault");
+    let other = UdpSocket::bind(rt, elsewhere(link.port()));
+    check(rt, other.is_ok(), "it is free elsewhere");
+    ports.detach(link);
 }
 
 /// Six parts to port 0 are lost at once, and those that follow wait.
@@ -158,11 +153,10 @@ fn check_losses<L: Link, R: time::Clock + Abort>(rt: &R, link: &mut L) {
 
 /// A send that the system refuses is a loss, and no fault: nothing can be sent to port 0. One to a port that nobody has is none. A part
 /// that cannot be sent is lost again each time that it is sent again.
-#[test]
-fn failed_sends_are_losses(rt: HostRuntime) {
-    let mut ports = UdpPorts::new(&rt, rt.alloc());
-    let mut link = new_link(&rt, &mut ports);
-    check_losses(&rt, &mut link);
+fn failed_sends_are_losses<P: Ports, R: Net + time::Clock + Abort>(rt: &R, ports: &mut P) {
+    let mut link = ports.attach(free_port(rt)).expect(rt, "a link");
+    check_losses(rt, &mut link);
+    ports.detach(link);
 }
 
 /// How many milliseconds so many polls take, at which nothing comes.
@@ -175,20 +169,34 @@ fn idle_millis<L: Link, R: time::Clock + Abort>(rt: &R, link: &mut L, polls: usi
 }
 
 /// A poll of a link to which nothing comes answers soon, and of the links that are attached together only the first one waits.
-#[test]
-fn idle_polls(rt: HostRuntime) {
-    let mut ports = UdpPorts::new(&rt, rt.alloc());
-    let mut first = ports.attach(free_port(&rt)).expect(&rt, "a link");
-    let mut second = ports.attach(free_port(&rt)).expect(&rt, "a link");
-    let waited = idle_millis(&rt, &mut first, 10);
-    check(&rt, 10 <= waited && waited < 1000, "the first one waits");
-    let waited = idle_millis(&rt, &mut second, 1000);
-    check(&rt, waited < 1000, "the second one does not");
+fn idle_polls<P: Ports, R: Net + time::Clock + Abort>(rt: &R, ports: &mut P) {
+    let mut first = ports.attach(free_port(rt)).expect(rt, "a link");
+    let mut second = ports.attach(free_port(rt)).expect(rt, "a link");
+    let waited = idle_millis(rt, &mut first, 10);
+    check(rt, 10 <= waited && waited < 1000, "the first one waits");
+    let waited = idle_millis(rt, &mut second, 1000);
+    check(rt, waited < 1000, "the second one does not");
     ports.detach(first);
     ports.detach(second);
-    let mut alone = ports.attach(free_port(&rt)).expect(&rt, "a link");
-    let waited = idle_millis(&rt, &mut alone, 10);
-    check(&rt, 10 <= waited, "one that is alone waits");
+}
+
+/// A link that is attached alone waits.
+fn idle_polls_of_one<P: Ports, R: Net + time::Clock + Abort>(rt: &R, ports: &mut P) {
+    let mut alone = ports.attach(free_port(rt)).expect(rt, "a link");
+    let waited = idle_millis(rt, &mut alone, 10);
+    check(rt, 10 <= waited, "one that is alone waits");
+    ports.detach(alone);
+}
+
+/// Links at ports of the loopback address.
+#[test]
+fn links_at_ports(rt: HostRuntime) {
+    let mut ports = UdpPorts::new(&rt, rt.alloc());
+    idle_polls(&rt, &mut ports);
+    idle_polls_of_one(&rt, &mut ports);
+    arrives_whole(&rt, &mut ports);
+    loopback_alone(&rt, &mut ports);
+    failed_sends_are_losses(&rt, &mut ports);
 }
 
 /// The clock goes forward by the milliseconds that a sleep took, and never back.

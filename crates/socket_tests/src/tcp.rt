@@ -6,7 +6,7 @@ use std::io::{Read, Write};
 use std::net::{Ipv4Addr, Net, SocketAddr, TcpStream};
 use std::process::Abort;
 use std::thread;
-use std::time::Duration;
+use std::time::{Clock, Duration};
 use tcp_users::TcpUsers;
 use users::{UserEvent, Users};
 
@@ -63,7 +63,7 @@ fn reply(rt: &impl Abort, users: &mut TcpUsers, user: u64, bytes: &[u8]) {
 }
 
 /// Two replies have come, and behind them the end.
-fn check_replies(rt: &impl Abort, stream: &mut TcpStream) {
+fn check_replies(rt: &impl Abort, stream: &mut impl Read) {
     let mut buf = [0u8; 7];
     let mut count = stream.read(&mut buf).expect(rt, "bytes").min(6);
     let more = stream.read(&mut buf[count..]).expect(rt, "bytes");
@@ -73,23 +73,33 @@ fn check_replies(rt: &impl Abort, stream: &mut TcpStream) {
     check(rt, end == 0, "no more bytes");
 }
 
+/// The first user asks, and is answered in two replies, before it is left.
+fn check_answered<R: Net + Abort>(rt: &R, users: &mut TcpUsers) {
+    let mut one = connect(rt, users);
+    check_opened(rt, users, 0);
+    one.write_all(b"ask").expect(rt, "a send");
+    check(rt, sent(rt, users) == (0, 3), "three bytes");
+    reply(rt, users, 0, b"ans");
+    reply(rt, users, 0, b"wer");
+    check(rt, users.close(0).is_ok(), "it is closed");
+    check_replies(rt, &mut one);
+}
+
+/// The second user leaves.
+fn check_leaving<R: Net + Abort>(rt: &R, users: &mut TcpUsers) {
+    let two = connect(rt, users);
+    check_opened(rt, users, 1);
+    drop(two);
+    check_left(rt, users, 1);
+}
+
 /// What is replied arrives, and behind it the end of a connection that is closed. A number is nobody else's, and replies to who left are
 /// nobody's.
 #[test]
 fn users_are_answered(rt: HostRuntime) {
     let mut users = listen(&rt, rt.alloc());
-    let mut one = connect(&rt, &users);
-    check_opened(&rt, &mut users, 0);
-    one.write_all(b"ask").expect(&rt, "a send");
-    check(&rt, sent(&rt, &mut users) == (0, 3), "three bytes");
-    reply(&rt, &mut users, 0, b"ans");
-    reply(&rt, &mut users, 0, b"wer");
-    check(&rt, users.close(0).is_ok(), "it is closed");
-    check_replies(&rt, &mut one);
-    let two = connect(&rt, &users);
-    check_opened(&rt, &mut users, 1);
-    drop(two);
-    check_left(&rt, &mut users, 1);
+    check_answered(&rt, &mut users);
+    check_leaving(&rt, &mut users);
     reply(&rt, &mut users, 1, b"late");
     check(&rt, users.faults() == 0, "no faults");
 }
@@ -112,26 +122,39 @@ fn take_turns(rt: &impl Abort, users: &mut TcpUsers, bytes: usize) -> bool {
     turns == [(0, 16_384), (1, 5), (0, 16_384)]
 }
 
+/// Two users send, the first more than is taken in a turn. Whether they have turns.
+fn are_fair<S: Write, R: Clock + Abort>(
+    rt: &R,
+    users: &mut TcpUsers,
+    one: &mut S,
+    two: &mut S,
+) -> bool {
+    one.write_all(&[1; 50_000]).expect(rt, "a send");
+    two.write_all(b"short").expect(rt, "a send");
+    thread::sleep(rt, Duration::from_millis(20));
+    take_turns(rt, users, 50_005)
+}
+
+/// Whether two users have turns once in twenty times.
+fn have_turns<R: Net + Clock + Abort>(rt: &R, users: &mut TcpUsers) -> bool {
+    let mut one = connect(rt, users);
+    let mut two = connect(rt, users);
+    check_opened(rt, users, 0);
+    check_opened(rt, users, 1);
+    check(rt, matches!(users.next(0), Ok(None)), "no event");
+    for _ in 0..20usize {
+        if are_fair(rt, users, &mut one, &mut two) {
+            return true;
+        }
+    }
+    false
+}
+
 /// Who sends much has a turn as others have. Where the bytes of the second come late, both send again.
 #[test]
 fn turns_are_fair(rt: HostRuntime) {
     let mut users = listen(&rt, rt.alloc());
-    let mut one = connect(&rt, &users);
-    let mut two = connect(&rt, &users);
-    check_opened(&rt, &mut users, 0);
-    check_opened(&rt, &mut users, 1);
-    check(&rt, matches!(users.next(0), Ok(None)), "no event");
-    let mut are_fair = false;
-    for _ in 0..20usize {
-        one.write_all(&[1; 50_000]).expect(&rt, "a send");
-        two.write_all(b"short").expect(&rt, "a send");
-        thread::sleep(&rt, Duration::from_millis(20));
-        are_fair = take_turns(&rt, &mut users, 50_005);
-        if are_fair {
-            break;
-        }
-    }
-    check(&rt, are_fair, "turns");
+    check(&rt, have_turns(&rt, &mut users), "turns");
 }
 
 /// Who never reads is left, once too much waits.

@@ -178,35 +178,44 @@ fn audited(
     audit::<KvHost, _, _>(alloc, &mut source, sink)
 }
 
+/// Audits a trace, with reads of at most seven bytes, and compares what is written.
+fn check_audit(rt: &impl Abort, alloc: Global, trace: &str, answer: &str) {
+    let mut sink = WriteMem::new(alloc);
+    let end = audited(rt, alloc, trace, &mut sink);
+    assert!(rt; end.is_ok() == !answer.starts_with("audit line"));
+    assert!(rt; sink.as_slice() == answer.as_bytes(), "{trace}");
+}
+
 #[test]
 fn audits(rt: HostRuntime) {
-    let alloc = rt.alloc();
     for row in AUDITS.split("----\n") {
         let (trace, answer) = row.split_once("|\n").expect(&rt, "a row");
-        let mut sink = WriteMem::new(alloc);
-        let end = audited(&rt, alloc, trace, &mut sink);
-        assert!(rt; end.is_ok() == !answer.starts_with("audit line"));
-        assert!(rt; sink.as_slice() == answer.as_bytes(), "{row}");
+        check_audit(&rt, rt.alloc(), trace, answer);
     }
+}
+
+/// A line, with bytes in place of the words that stand for them.
+fn spelled(rt: &impl Abort, alloc: Global, line: &str) -> String {
+    let line = line.replace(alloc, "UNSENT", UNSENT).expect(rt, "memory");
+    line.replace(alloc, "SENT", SENT).expect(rt, "memory")
+}
+
+/// After these first lines the row's line has its fault, at this number.
+fn check_line(rt: &impl Abort, alloc: Global, first: &str, number: u32, row: &str) {
+    let (line, fault) = row.split_once("|").expect(rt, "a fault");
+    let line = spelled(rt, alloc, line);
+    let trace = format!(in alloc; "{first}{line}").expect(rt, "memory");
+    let answer = format!(in alloc; "audit line {number} fault {fault}\n").expect(rt, "memory");
+    check_audit(rt, alloc, &trace, &answer);
 }
 
 #[test]
 fn faults(rt: HostRuntime) {
     let alloc = rt.alloc();
     for row in FAULTS.lines() {
-        let (state, rest) = row.split_once("|").expect(&rt, "a state");
-        let (line, fault) = rest.split_once("|").expect(&rt, "a fault");
-        let line = line.replace(alloc, "UNSENT", UNSENT).expect(&rt, "memory");
-        let line = line.replace(alloc, "SENT", SENT).expect(&rt, "memory");
-        let (first, number) = if state == "whole" {
-            (WHOLE, 5)
-        } else {
-            (TORN, 4)
-        };
-        let trace = format!(in alloc; "{first}{line}").expect(&rt, "memory");
-        let mut sink = WriteMem::new(alloc);
-        let _end = audited(&rt, alloc, trace.as_str(), &mut sink);
-        let answer = format!(in alloc; "audit line {number} fault {fault}\n").expect(&rt, "memory");
-        assert!(rt; sink.as_slice() == answer.as_bytes(), "{row}");
+        match row.split_once("|").expect(&rt, "a state") {
+            ("whole", rest) => check_line(&rt, alloc, WHOLE, 5, rest),
+            (_, rest) => check_line(&rt, alloc, TORN, 4, rest),
+        }
     }
 }

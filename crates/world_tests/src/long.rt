@@ -8,7 +8,14 @@ use outside::{ReadMem, WriteMem};
 use replay::{MAX_DRAWN_EVENTS, events, generate, replay};
 use schedule_text::{Event, event_line};
 use std::alloc::Global;
+use std::fmt::Write;
 use std::process::Abort;
+
+/// The text that was written.
+fn text_of(rt: &impl Abort, alloc: Global, sink: &WriteMem) -> String {
+    let bytes = sink.as_slice().to_vec(alloc).expect(rt, "memory");
+    String::from_utf8(bytes).ok().expect(rt, "text")
+}
 
 /// The transcript of a schedule without a bad line.
 fn transcript_of(rt: &impl Abort, alloc: Global, schedule: Vec<u8>) -> String {
@@ -16,8 +23,7 @@ fn transcript_of(rt: &impl Abort, alloc: Global, schedule: Vec<u8>) -> String {
     let mut sink = WriteMem::new(alloc);
     let end = replay::<KvHost, _, _>(alloc, &mut source, &mut sink);
     assert!(rt; end.is_ok());
-    let bytes = sink.as_slice().to_vec(alloc).expect(rt, "memory");
-    String::from_utf8(bytes).ok().expect(rt, "text")
+    text_of(rt, alloc, &sink)
 }
 
 /// A request, and then the same request stamped in each line.
@@ -39,8 +45,7 @@ fn stamped(rt: &impl Abort, alloc: Global, lines: u32) -> String {
         "transcript 1 replicas 1 sequencers 1 clients 1\nsubmit c0 1 -\nsend 0 c0 s* request 18\n";
     text.push_str(first).expect(rt, "memory");
     for index in 1..lines.saturating_sub(1) {
-        let line = format!(in alloc; "send {index} s0 r* stamped 34\n").expect(rt, "memory");
-        text.push_str(&line).expect(rt, "memory");
+        writeln!(&mut text, "send {index} s0 r* stamped 34").expect(rt, "memory");
     }
     text.push_str("replica r0 up normal 0 1 0 0\nend\n")
         .expect(rt, "memory");
@@ -62,8 +67,7 @@ fn summary_of(rt: &impl Abort, alloc: Global, number: u64, count: u32) -> String
     let mut sink = WriteMem::new(alloc);
     let end = generate::<KvHost, _>(alloc, number, count, &mut sink);
     assert!(rt; end.is_ok());
-    let bytes = sink.as_slice().to_vec(alloc).expect(rt, "memory");
-    String::from_utf8(bytes).ok().expect(rt, "text")
+    text_of(rt, alloc, &sink)
 }
 
 /// The schedule of the events.
@@ -84,23 +88,27 @@ fn count(text: &str, word: &str) -> usize {
     text.lines().filter(|line| line.starts_with(word)).count()
 }
 
-/// The events of a number are drawn, and their replay sends, accepts and keeps as much as the summary says, which is the one that is told.
+/// A transcript sends, accepts and keeps as much as the summary says.
+fn check_counts(rt: &impl Abort, alloc: Global, transcript: &str, begin: &str, expected: &str) {
+    let (sends, accepts) = (count(transcript, "send "), count(transcript, "accept "));
+    let head = format!(in alloc; "{begin}\nsends {sends} accepts {accepts}\nview ");
+    let head = head.expect(rt, "memory");
+    assert!(rt; expected.starts_with(head.as_str()), "{head}");
+    let members = count(transcript, "history ");
+    let tail = format!(in alloc; "\nhistory {members}\n").expect(rt, "memory");
+    assert!(rt; expected.ends_with(tail.as_str()), "{tail}");
+}
+
+/// The events of a number are drawn, and their replay is as the summary says, which is the one that is told.
 fn check_drawn(rt: &impl Abort, alloc: Global, number: u64, events_count: u32, expected: &str)
     requires least { 1 ≤ events_count }
     requires limit { events_count ≤ MAX_DRAWN_EVENTS }
 {
-    let (_config, drawn) = events::<KvHost>(alloc, number, events_count)
-        .ok()
-        .expect(rt, "memory");
+    let drawn = events::<KvHost>(alloc, number, events_count);
+    let (_config, drawn) = drawn.ok().expect(rt, "memory");
     let transcript = transcript_of(rt, alloc, schedule_of(rt, alloc, &drawn));
-    let (sends, accepts) = (count(&transcript, "send "), count(&transcript, "accept "));
-    let members = count(&transcript, "history ");
-    let head = format!(in alloc;
-        "gen {number} {events_count}\nsends {sends} accepts {accepts}\nview "
-    ).expect(rt, "memory");
-    let tail = format!(in alloc; "\nhistory {members}\n").expect(rt, "memory");
-    assert!(rt; expected.starts_with(head.as_str()), "{head}");
-    assert!(rt; expected.ends_with(tail.as_str()), "{tail}");
+    let begin = format!(in alloc; "gen {number} {events_count}").expect(rt, "memory");
+    check_counts(rt, alloc, &transcript, &begin, expected);
     let summary = summary_of(rt, alloc, number, events_count);
     assert!(rt; summary.as_str() == expected, "{summary}");
 }

@@ -64,12 +64,17 @@ fn check_writes(
     assert!(rt; (sink.faults() == 1) == answer.is_err());
 }
 
-#[test]
-fn sinks(rt: HostRuntime) {
-    let alloc = rt.alloc();
+/// Writes them all with at most three bytes a write.
+fn check_short_writes(rt: &impl Abort, alloc: Global) {
     let mut sink = WriteMem::with_limit(alloc, 3);
     assert!(rt; write_all(&mut sink, BYTES) == Ok(()));
     assert!(rt; sink.into_vec().as_slice() == BYTES);
+}
+
+#[test]
+fn sinks(rt: HostRuntime) {
+    let alloc = rt.alloc();
+    check_short_writes(&rt, alloc);
     let failed = Err(WriteError::Failed);
     check_writes(&rt, alloc, 16, 2, failed, 16);
     check_writes(&rt, alloc, 16, 1, failed, 0);
@@ -98,32 +103,55 @@ fn is_sent(call: &LinkCall, to: u16, datagram: &[u8]) -> bool {
     }
 }
 
-#[test]
-fn links(rt: HostRuntime) {
-    let mut link = short_link(&rt, rt.alloc());
+/// A poll fails, the next one gives the datagram, and then there is none.
+fn check_polls<L: Link>(rt: &impl Abort, link: &mut L) {
     assert!(rt; link.poll().is_err());
-    let datagram = link.poll().expect(&rt, "a poll").expect(&rt, "a datagram");
+    let datagram = link.poll().expect(rt, "a poll").expect(rt, "a datagram");
     assert!(rt; datagram.as_slice() == b"NO".as_slice());
-    assert!(rt; link.poll().expect(&rt, "a poll").is_none());
+    assert!(rt; link.poll().expect(rt, "a poll").is_none());
+}
+
+/// The first datagram is lost, and the second one is sent.
+fn check_sends<L: Link>(rt: &impl Abort, link: &mut L) {
     assert!(rt; link.send(41000, b"NO") == Err(LinkError::Failed));
     assert!(rt; link.send(41001, b"01") == Ok(()));
-    assert!(rt; link.faults() == 1 && link.losses() == 1 && link.trace().len() == 4);
-    let sent = link.trace().last().expect(&rt, "four calls");
+}
+
+/// The calls above are noted.
+fn check_notes(rt: &impl Abort, link: &LinkMem<Failing>) {
+    assert!(rt; link.faults() == 1 && link.losses() == 1);
+    assert!(rt; link.trace().len() == 4);
+    let sent = link.trace().last().expect(rt, "four calls");
     assert!(rt; is_sent(sent, 41001, b"01"));
 }
 
 #[test]
-fn ports(rt: HostRuntime) {
-    let alloc = rt.alloc();
+fn links(rt: HostRuntime) {
+    let mut link = short_link(&rt, rt.alloc());
+    check_polls(&rt, &mut link);
+    check_sends(&rt, &mut link);
+    check_notes(&rt, &link);
+}
+
+/// A link at this port is taken and given back.
+fn take_once<P: Ports>(rt: &impl Abort, ports: &mut P, port: u16) {
+    let link = ports.attach(port).expect(rt, "a port");
+    ports.detach(link);
+}
+
+/// Ports with one such link, where the first attach fails.
+fn short_ports(rt: &impl Abort, alloc: Global) -> PortsMem<Failing> {
     let mut links = Vec::new(alloc);
-    links.push(short_link(&rt, alloc)).expect(&rt, "memory");
-    let ports = PortsMem::with_faults(alloc, links, &[1]);
-    let mut ports = ports.expect(&rt, "memory");
+    links.push(short_link(rt, alloc)).expect(rt, "memory");
+    PortsMem::with_faults(alloc, links, &[1]).expect(rt, "memory")
+}
+
+#[test]
+fn ports(rt: HostRuntime) {
+    let mut ports = short_ports(&rt, rt.alloc());
     assert!(rt; ports.attach(41000).is_err() && ports.faults() == 1);
-    let link = ports.attach(41000).expect(&rt, "a port");
-    ports.detach(link);
-    let link = ports.attach(41001).expect(&rt, "a port");
-    ports.detach(link);
+    take_once(&rt, &mut ports, 41000);
+    take_once(&rt, &mut ports, 41001);
     let detached = ports.detached();
     assert!(rt; detached.len() == 2);
     assert!(rt; detached[0].port() == 41000 && detached[1].port() == 41001);

@@ -92,6 +92,19 @@ fn bytes_of(rt: &impl Abort, alloc: Global, row: &str) -> Vec<u8> {
     hex::decode(alloc, &digits).expect(rt, "hexadecimal")
 }
 
+/// A world in which nothing has happened.
+fn opened<H: Host>(rt: &impl Abort, alloc: Global) -> World<H> {
+    let config = Config::new(3, 1, 1, 1, 0).expect(rt, "a group");
+    World::new(alloc, config).expect(rt, "memory")
+}
+
+/// The world after the events of a schedule.
+fn ran<H: Host>(rt: &impl Abort, alloc: Global, config: Config, schedule: &str) -> World<H> {
+    let events = events_of(rt, alloc, schedule);
+    let world: Result<World<H>, StepError> = run_events(alloc, config, &events);
+    world.ok().expect(rt, "refused")
+}
+
 fn check_sent<H: Host>(rt: &impl Abort, alloc: Global, world: &World<H>, index: u64, row: &str) {
     let expected = bytes_of(rt, alloc, row);
     let given = world.sent(index).expect(rt, "memory");
@@ -123,16 +136,24 @@ fn check_all_sent<H: Host>(rt: &impl Abort, alloc: Global, world: &World<H>, row
     assert!(rt; world.sent_count() == index && index == 8);
 }
 
+fn check_lines<H: Host>(rt: &impl Abort, alloc: Global, world: &World<H>) {
+    let mut lines = Vec::new(alloc);
+    world.replica_lines(&mut lines).expect(rt, "memory");
+    assert!(rt; lines.as_slice() == REPLICAS.as_bytes());
+}
+
+fn check_history<H: Host>(rt: &impl Abort, alloc: Global, world: &World<H>) {
+    let history = world.history().expect(rt, "memory");
+    let given = format!(in alloc; "{history:?}").expect(rt, "memory");
+    assert!(rt; given.as_str() == HISTORY, "{given}");
+}
+
 fn check_world<H: Host>(rt: &impl Abort, alloc: Global, world: &World<H>) {
     check_all_sent(rt, alloc, world, SENT);
     assert!(rt; world.crashed(Actor::Replica(2)) && !world.crashed(Actor::Replica(1)));
     check_slots(rt, world);
-    let mut lines = Vec::new(alloc);
-    world.replica_lines(&mut lines).expect(rt, "memory");
-    assert!(rt; lines.as_slice() == REPLICAS.as_bytes());
-    let history = world.history().expect(rt, "memory");
-    let given = format!(in alloc; "{history:?}").expect(rt, "memory");
-    assert!(rt; given.as_str() == HISTORY, "{given}");
+    check_lines(rt, alloc, world);
+    check_history(rt, alloc, world);
 }
 
 /// The events without the last one give that world; with it they are refused.
@@ -167,41 +188,65 @@ fn given_by<H: Host>(rt: &impl Abort, world: &mut World<H>, event: &Event) -> Op
     world.step_outs(event).ok().expect(rt, "refused")
 }
 
-#[test]
-fn outputs_as_values(rt: HostRuntime) {
-    let config = Config::new(3, 1, 1, 1, 0).expect(&rt, "a group");
-    let events = events_of(&rt, rt.alloc(), ONE_PUT);
-    let world = World::new(rt.alloc(), config);
-    let mut world: World<KvHost> = world.ok().expect(&rt, "memory");
-    for ((event, row), (count, dest)) in events.iter().zip(SENT.lines()).zip(&GIVEN) {
-        let given = given_by(&rt, &mut world, event).expect(&rt, "outputs");
-        let last = given.as_slice().last().expect(&rt, "a datagram");
-        assert!(rt; given.as_slice().len() == *count);
-        assert!(rt; is_send(last, *dest, &bytes_of(&rt, rt.alloc(), row)));
+/// An event gives so many outputs, of which the last one sends a row's datagram there.
+fn check_given<H: Host>(
+    rt: &impl Abort,
+    alloc: Global,
+    world: &mut World<H>,
+    event: &Event,
+    row: &str,
+    expected: &(usize, Dest),
+) {
+    let given = given_by(rt, world, event).expect(rt, "outputs");
+    let (count, dest) = expected;
+    assert!(rt; given.as_slice().len() == *count);
+    let last = given.as_slice().last().expect(rt, "a datagram");
+    assert!(rt; is_send(last, *dest, &bytes_of(rt, alloc, row)));
+}
+
+/// An actor that crashes gives nothing, and then there is none.
+fn check_crash<H: Host>(rt: &impl Abort, world: &mut World<H>) {
+    let crash = Event::Crash(Actor::Client(0));
+    let given = given_by(rt, world, &crash).expect(rt, "outputs");
+    assert!(rt; given.as_slice().is_empty());
+    assert!(rt; given_by(rt, world, &crash).is_none());
+}
+
+/// The first events give outputs, and then a client crashes.
+fn check_outputs<H: Host>(rt: &impl Abort, alloc: Global, world: &mut World<H>) {
+    let events = events_of(rt, alloc, ONE_PUT);
+    for ((event, row), expected) in events.iter().zip(SENT.lines()).zip(&GIVEN) {
+        check_given(rt, alloc, world, event, row, expected);
     }
     assert!(rt; world.sent_count() == 2);
-    let crash = Event::Crash(Actor::Client(0));
-    let given = given_by(&rt, &mut world, &crash).expect(&rt, "outputs");
-    assert!(rt; given.as_slice().is_empty());
-    assert!(rt; given_by(&rt, &mut world, &crash).is_none());
+    check_crash(rt, world);
+}
+
+#[test]
+fn outputs_as_values(rt: HostRuntime) {
+    let mut world: World<KvHost> = opened(&rt, rt.alloc());
+    check_outputs(&rt, rt.alloc(), &mut world);
 }
 
 /// So many events of the put, the last of which moves the entry out of the leader's log.
 const UNTIL_TRIMMED: usize = 10;
 
+/// How many outputs an event gives, none of which is of entries that moved out.
+fn untrimmed<H: Host>(rt: &impl Abort, world: &mut World<H>, event: &Event) -> usize {
+    let given = given_by(rt, world, event).expect(rt, "outputs");
+    for out in given.as_slice() {
+        assert!(rt; !matches!(out, Out::Trimmed { .. }));
+    }
+    given.as_slice().len()
+}
+
 #[test]
 fn trimmed_entries_are_no_outputs(rt: HostRuntime) {
-    let config = Config::new(3, 1, 1, 1, 0).expect(&rt, "a group");
-    let events = events_of(&rt, rt.alloc(), ONE_PUT);
-    let world = World::new(rt.alloc(), config);
-    let mut world: World<KvHost> = world.ok().expect(&rt, "memory");
+    let mut world: World<KvHost> = opened(&rt, rt.alloc());
     let mut count = 0;
+    let events = events_of(&rt, rt.alloc(), ONE_PUT);
     for event in events.iter().take(UNTIL_TRIMMED) {
-        let given = given_by(&rt, &mut world, event).expect(&rt, "outputs");
-        for out in given.as_slice() {
-            assert!(rt; !matches!(out, Out::Trimmed { .. }));
-        }
-        count = given.as_slice().len();
+        count = untrimmed(&rt, &mut world, event);
     }
     assert!(rt; count == 1);
     check_slots(&rt, &world);
@@ -234,9 +279,7 @@ const SENT_BY_THEM: &str = "\
 #[test]
 fn two_controllers(rt: HostRuntime) {
     let config = Config::new(3, 2, 1, 2, 0).expect(&rt, "a group");
-    let events = events_of(&rt, rt.alloc(), TWO_CONTROLLERS);
-    let world: Result<World<KvHost>, StepError> = run_events(rt.alloc(), config, &events);
-    let world = world.ok().expect(&rt, "refused");
+    let world: World<KvHost> = ran(&rt, rt.alloc(), config, TWO_CONTROLLERS);
     check_all_sent(&rt, rt.alloc(), &world, SENT_BY_THEM);
     assert!(rt; world.sent_to(2) == Some(Dest::One(Actor::Controller(1))));
     assert!(rt; world.sent_to(3) == Some(Dest::One(Actor::Controller(0))));
@@ -247,17 +290,21 @@ fn check_refused<H: Host>(rt: &impl Abort, world: &mut World<H>, event: &Event) 
     assert!(rt; refused == Some(StepError::NoSuchActor));
 }
 
+/// What concerns an observer is refused where there is none.
+fn check_all_refused<H: Host>(rt: &impl Abort, alloc: Global, world: &mut World<H>) {
+    let observer = Actor::Observer(0);
+    check_refused(rt, world, &Event::Deliver(0, observer));
+    check_refused(rt, world, &Event::Tick(observer, Tick::Resend));
+    check_refused(rt, world, &Event::Crash(observer));
+    let key = Key::new(alloc, b"k").expect(rt, "memory");
+    check_refused(rt, world, &Event::Read(0, 0, key));
+}
+
 #[test]
 fn no_observers(rt: HostRuntime) {
-    let config = Config::new(3, 1, 1, 1, 0).expect(&rt, "a group");
-    let world = World::new(rt.alloc(), config);
-    let mut world: World<KvHost> = world.ok().expect(&rt, "memory");
+    let mut world: World<KvHost> = opened(&rt, rt.alloc());
+    check_all_refused(&rt, rt.alloc(), &mut world);
     let observer = Actor::Observer(0);
-    check_refused(&rt, &mut world, &Event::Deliver(0, observer));
-    check_refused(&rt, &mut world, &Event::Tick(observer, Tick::Resend));
-    check_refused(&rt, &mut world, &Event::Crash(observer));
-    let key = Key::new(rt.alloc(), b"k").expect(&rt, "memory");
-    check_refused(&rt, &mut world, &Event::Read(0, 0, key));
     assert!(rt; !world.crashed(observer) && world.timer(observer, 0).is_none());
     assert!(rt; world.observer(0).is_none());
 }
@@ -282,9 +329,7 @@ deliver 7 o0
 #[test]
 fn an_observer_that_crashed(rt: HostRuntime) {
     let config = Config::new(3, 1, 1, 1, 1).expect(&rt, "a group");
-    let events = events_of(&rt, rt.alloc(), OBSERVED);
-    let world: Result<World<KvHost>, StepError> = run_events(rt.alloc(), config, &events);
-    let world = world.ok().expect(&rt, "refused");
+    let world: World<KvHost> = ran(&rt, rt.alloc(), config, OBSERVED);
     let observer = world.observer(0).expect(&rt, "an observer");
     assert!(rt; observer.position() == 1 && world.observer(1).is_none());
     assert!(rt; world.crashed(Actor::Observer(0)) && world.sent_count() == 8);

@@ -1,4 +1,6 @@
-use crate::checking::check;
+//! Clusters of the program over sockets, with the system's clock and with one that stands still.
+
+use super::outcomes::words_of;
 use commands::{Status, run};
 use kv_host::KvHost;
 use outside::{Clock, ClockMem, Ports, ReadMem, WriteMem};
@@ -6,28 +8,19 @@ use std::alloc::Global;
 use std::process::Abort;
 use udp_ports::{SystemClock, UdpPorts};
 
-/// The words of a cluster of three replicas with these words at its end.
-fn words_of(rt: &impl Abort, alloc: Global, ends: &str) -> Vec<String> {
-    let line = format!(in alloc; "nopaxos cluster --replicas 3 --sequencers 1 {ends}");
-    let mut words = Vec::new(alloc);
-    for word in line.expect(rt, "memory").split(' ') {
-        let word = String::from_str(alloc, word).expect(rt, "memory");
-        words.push(word).expect(rt, "memory");
-    }
-    words
-}
-
-/// What a cluster of three replicas over sockets writes. It accepts all of its ops.
-fn cluster<P: Ports, C: Clock>(
+/// A cluster of three replicas with these words at its end accepts all of its ops: this stands in what it writes.
+fn check_cluster<P: Ports, C: Clock>(
     rt: &impl Abort,
     alloc: Global,
     ends: &str,
     ports: &mut P,
     clock: &mut C,
-) -> String {
+    last: &str,
+) {
     let mut source = ReadMem::new(Vec::new(alloc));
     let mut sink = WriteMem::new(alloc);
-    let words = words_of(rt, alloc, ends);
+    let line = format!(in alloc; "nopaxos cluster --replicas 3 --sequencers 1 {ends}");
+    let words = words_of(rt, alloc, &line.expect(rt, "memory"));
     let status = run::<KvHost, _, _, P, C>(
         alloc,
         "nopaxos",
@@ -37,8 +30,9 @@ fn cluster<P: Ports, C: Clock>(
         ports,
         clock,
     );
-    check(rt, status == Status::Done, "it is done");
-    String::from_utf8(sink.into_vec()).expect(rt, "text")
+    assert!(rt; status == Status::Done);
+    let written = String::from_utf8(sink.into_vec()).expect(rt, "text");
+    assert!(rt; written.contains(last));
 }
 
 #[test]
@@ -46,9 +40,8 @@ fn a_cluster_over_sockets(rt: HostRuntime) {
     let mut ports = UdpPorts::new(&rt, rt.alloc());
     let mut clock = SystemClock::new(&rt);
     let ends = "--clients 1 --base 43210 5000016b000176";
-    let written = cluster(&rt, rt.alloc(), ends, &mut ports, &mut clock);
     let last = "\nhistory 1 c0 1 5000016b000176\n";
-    check(&rt, written.contains(last), "the op is accepted");
+    check_cluster(&rt, rt.alloc(), ends, &mut ports, &mut clock, last);
 }
 
 /// Sixteen clients have four ops each. The clock stands still, so that no request is sent again.
@@ -60,7 +53,6 @@ fn the_most_clients_and_ops(rt: HostRuntime) {
     for _ in 0..64usize {
         ends.push_str(" 5000016b000176").expect(&rt, "memory");
     }
-    let written = cluster(&rt, rt.alloc(), &ends, &mut ports, &mut clock);
     let last = "\nhistory 64 c15 4 5000016b000176\n";
-    check(&rt, written.contains(last), "all ops are accepted");
+    check_cluster(&rt, rt.alloc(), &ends, &mut ports, &mut clock, last);
 }
