@@ -24,14 +24,14 @@ same() {
     fi
 }
 
-# ---- what is stored; `run_tests` has copies of it
-table=$(cat crates/run_tests/src/rows.rt crates/run_tests/src/view_rows.rt)
+# ---- what is stored; `example_transcripts` has copies of it
+table=$(cat crates/example_transcripts/src/rows.rt crates/example_transcripts/src/view_rows.rt)
 for schedule in examples/*.schedule; do
     name=$(basename "$schedule" .schedule)
     transcript=examples/$name.transcript
     same "$name" "$schedule" "$transcript"
     row=$(cat "$schedule" - "$transcript" <<< '=>')
-    [[ $table == *[\\-]$'\n'"$row"$'\n'[-\"]* ]] || differs "$name is not in the tables of run_tests"
+    [[ $table == *[\\-]$'\n'"$row"$'\n'[-\"]* ]] || differs "$name is not in the tables of example_transcripts"
 done
 
 # ---- a line of 4,097 bytes without an end, and one of 4,096 bytes with its end

@@ -20,7 +20,8 @@ use std::alloc::Global;
 
 /// The slot of a reply; 0 of anything else.
 fn reply_slot(datagram: &Option<Datagram>) -> u32
-    ensures { (read : Result Datagram Bad) → Finds datagram.now read → result ≡ reply_slot read }
+    ensures { (read : Result Datagram Bad) → Finds datagram.now read
+        → result ≡ reply_slot read }
 {
     match datagram {
         Some(Datagram::Reply(reply)) => reply.slot,

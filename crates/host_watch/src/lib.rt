@@ -6,12 +6,19 @@
 //! whether its own number is free (`roll_call`), which claims no number: those of `roll_of`, at
 //! `listening_home`.
 //!
-//! Proved is what `watch_cluster` promises of the watch, since it is called as it is, and that the
-//! calls are safe and end. That sockets are what they should be is tested only, by
-//! `checks/watch.sh` and `checks/tool.sh`.
+//! Proved: who is asked, in whose name, and that nobody was yet (`roll_of`, by `specs/Asked`); that
+//! no number is claimed at a listening home; of the watch what `watch_cluster` promises, since it is
+//! called as it is; and that the calls are safe and end. That sockets are what they should be is
+//! tested only, by `checks/watch.sh` and `checks/tool.sh`.
 //!
-//! Calls: `watch_at`; `roll_of` and `listening_home`. It is all in this file.
+//! Calls: `watch_at`; `roll_of` and `listening_home`. It is all in this file. Definitions:
+//! `specs/Asked`.
 #![tactic(auto)]
+
+ghost use Rattle.std.specs.Prelude.{◌≡◌, ◌++◌, IfOk, None, OnOk};
+ghost use Rattle.host_list.specs.Digests.{digest_of};
+ghost use Rattle.roll_call.specs.Rolls.{opening};
+ghost use Rattle.host_watch.specs.Asked.{is_asked, node_at, nodes_of};
 
 use host_list::HostList;
 use host_places::{address_in, places_of};
@@ -22,37 +29,55 @@ use std::alloc::Global;
 use udp_ports::{Home, Place, SystemClock, UdpPorts};
 use watching::{Asked, WatchError, watch_cluster};
 
-/// The nodes of a list, but for the own one.
-fn nodes_of(alloc: Global, places: &[Place], own: Actor) -> Result<Vec<Node>, NoMemory> {
+/// Whether an actor is asked by the observer with this number: clients are not, nor is itself.
+fn is_asked(own: u8, actor: Actor) -> bool
+    ensures { result ≡ is_asked own actor }
+{
+    match actor {
+        Actor::Client(_) => false,
+        Actor::Observer(i) => i != own,
+        _ => true,
+    }
+}
+
+fn add(nodes: &mut Vec<Node>, own: u8, place: &Place) -> Result<(), NoMemory>
+    ensures { OnOk result (nodes.new.items ≡ nodes.old.items ++ node_at own place.now) }
+{
+    if is_asked(own, place.actor) {
+        nodes.push(Node {
+            actor: place.actor,
+            port: place.port,
+        })?;
+    }
+    Ok(())
+}
+
+/// Those who are asked.
+fn nodes_of(alloc: Global, own: u8, places: &[Place]) -> Result<Vec<Node>, NoMemory>
+    ensures { IfOk result (λ nodes. nodes.items ≡ nodes_of own places.now) }
+{
     let mut nodes = Vec::new(alloc);
     for place in places {
-        if !matches!(place.actor, Actor::Client(_)) && place.actor != own {
-            nodes.push(Node {
-                actor: place.actor,
-                port: place.port,
-            })?;
-        }
+        add(&mut nodes, own, place)?;
     }
     Ok(nodes)
 }
 
-/// Those who are asked, by an observer.
-pub fn roll_of(
-    alloc: Global,
-    list: &HostList,
-    places: &[Place],
-    own: Actor,
-) -> Result<Roll, NoMemory> {
-    let number = match own {
-        Actor::Observer(i) => u32::from(i),
-        _ => 0,
-    };
-    let nodes = nodes_of(alloc, places, own)?;
-    Roll::new(alloc, list.digest(), number, &nodes)
+/// Those who are asked at these places, each second, by the observer of a list with this number.
+pub fn roll_of(alloc: Global, list: &HostList, places: &[Place], own: u8) -> Result<Roll, NoMemory>
+    ensures { IfOk result (λ roll. roll ≡ opening
+        (record { digest = digest_of list.now; number = own }) (nodes_of own places.now)) }
+{
+    let nodes = nodes_of(alloc, own, places)?;
+    Roll::new(alloc, list.digest(), u32::from(own), &nodes)
 }
 
 /// The place of an observer, where no number is claimed.
-pub fn listening_home<'a>(places: &'a [Place], port: u16) -> Home<'a> {
+pub fn listening_home<'a>(places: &'a [Place], port: u16) -> Home<'a>
+    ensures places { result.places.now ≡ places.now }
+    ensures port { result.port ≡ port }
+    ensures claims { result.claims ≡ None }
+{
     Home {
         places,
         port,
@@ -68,11 +93,11 @@ pub fn watch_at(
     own: Actor,
     asked: Asked,
 ) -> Result<bool, WatchError> {
-    let Some(at) = address_in(list, own) else {
+    let (Some(at), Actor::Observer(observer)) = (address_in(list, own), own) else {
         return Err(WatchError::PortFault);
     };
     let places = places_of(rt.alloc(), list, &at)?;
-    let roll = roll_of(rt.alloc(), list, &places, own)?;
+    let roll = roll_of(rt.alloc(), list, &places, observer)?;
     let port = at.port_of(own);
     let homes = [listening_home(&places, port)];
     let mut ports = UdpPorts::at_hosts(rt, rt.alloc(), &homes);

@@ -47,7 +47,7 @@ fn add_watch<'a>(
     };
     let own = Actor::Observer(observer);
     homes.push(listening_home(places, at.port_of(own)))?;
-    roll_of(alloc, list, places, own)
+    roll_of(alloc, list, places, observer)
 }
 
 /// Runs a gateway by a list that was read, once the marks of its numbers are made, where there are to be some.

@@ -1,7 +1,7 @@
 //! Tests alone, by the public calls of the crates below: whole runs and commands over devices in
 //! memory, with each call failing in turn; clusters of the program over sockets (`udp_clusters`);
 //! and the schedules of `examples/`, each replayed with reads of several lengths (`transcripts`).
-//! `checks/transcripts.sh` compares the files there with the tables `rows` and `view_rows`.
+//! Their texts are those of `example_transcripts`.
 #![tactic(auto)]
 
 #[cfg(test)]
@@ -11,8 +11,6 @@ mod faults;
 #[cfg(test)]
 mod outcomes;
 #[cfg(test)]
-mod rows;
-#[cfg(test)]
 mod runs;
 #[cfg(test)]
 mod traces;
@@ -20,5 +18,3 @@ mod traces;
 mod transcripts;
 #[cfg(test)]
 mod udp_clusters;
-#[cfg(test)]
-mod view_rows;

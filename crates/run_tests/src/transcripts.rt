@@ -1,6 +1,5 @@
 use super::outcomes::check_outcome;
-use super::rows::ROWS;
-use super::view_rows::VIEW_ROWS;
+use example_transcripts::{ROWS, VIEW_ROWS};
 use std::alloc::Global;
 use std::process::Abort;
 
