@@ -13,7 +13,7 @@ use std::alloc::Global;
 use std::marker::Model;
 
 /// A process that starts, and what it was answered so far. Times are in microseconds of any clock.
-#[derive(Debug, Drop)]
+#[derive(Drop)]
 pub struct Admission {
     own: Own,
     others: Vec<Other>,

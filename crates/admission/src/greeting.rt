@@ -13,7 +13,7 @@ pub const GREETING_BYTES: usize = 23;
 const _: () = prove!(HELLO_MAGIC == 0x48 && GREETING_BYTES == 23);
 
 /// What a greeting says.
-#[derive(Clone, Copy, Debug, PartialEq, Eq)]
+#[derive(Clone, Copy, PartialEq, Eq)]
 pub enum Word {
     /// Was this number another process's?
     Ask,
@@ -30,7 +30,7 @@ pub enum Word {
 }
 
 /// A question of a process that starts, or the answer to one, which has its digest, number and process.
-#[derive(Clone, Copy, Debug, PartialEq, Eq)]
+#[derive(Clone, Copy, PartialEq, Eq)]
 pub struct Greeting {
     pub word: Word,
     /// The digest of the list of hosts.
@@ -42,7 +42,7 @@ pub struct Greeting {
 }
 
 /// The first test that bytes fail which spell no greeting.
-#[derive(Clone, Copy, Debug, PartialEq, Eq)]
+#[derive(Clone, Copy, PartialEq, Eq)]
 pub enum BadGreeting {
     /// There are not 23 of them.
     Length,

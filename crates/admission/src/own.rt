@@ -21,7 +21,7 @@ const _: () = prove!(
 );
 
 /// A process that starts: its actor, of a client with its full number, the digest of its list of hosts, and the number that it drew.
-#[derive(Clone, Copy, Debug, PartialEq, Eq)]
+#[derive(Clone, Copy, PartialEq, Eq)]
 pub struct Own {
     pub actor: Actor,
     pub digest: u64,
@@ -29,14 +29,14 @@ pub struct Own {
 }
 
 /// A node that is asked.
-#[derive(Clone, Copy, Debug, PartialEq, Eq)]
+#[derive(Clone, Copy, PartialEq, Eq)]
 pub struct Other {
     pub actor: Actor,
     pub has_answered: bool,
 }
 
 /// How a process that starts stands.
-#[derive(Clone, Copy, Debug, PartialEq, Eq)]
+#[derive(Clone, Copy, PartialEq, Eq)]
 pub enum Standing {
     /// It asks, or claims.
     Going,

@@ -18,7 +18,7 @@ pub const MAX_CLIENT_CLAIMS: usize = 4096;
 const _: () = prove!(MAX_CLIENT_CLAIMS == 4096);
 
 /// Which process each number belongs to, as far as a link was told, in the order of the claims.
-#[derive(Debug, Drop)]
+#[derive(Drop)]
 pub struct Registry {
     digest: u64,
     most: usize,

@@ -2,7 +2,7 @@ use nop_types::NoMemory as OutOfMemory;
 use std::alloc::{AllocError, AllocFailed};
 
 /// How an audit ended that found no whole trace.
-#[derive(Clone, Copy, Debug, PartialEq, Eq)]
+#[derive(Clone, Copy, PartialEq, Eq)]
 pub enum AuditError {
     /// The line with this number, counted from 1, is the first that has a fault, and this is the number of its first one.
     Refuted { line: u32, fault: u8 },

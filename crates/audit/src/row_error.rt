@@ -3,7 +3,7 @@ use nop_types::NoMemory as OutOfMemory;
 use std::alloc::{AllocError, AllocFailed};
 
 /// Why a row is not taken.
-#[derive(Clone, Copy, Debug, PartialEq, Eq)]
+#[derive(Clone, Copy, PartialEq, Eq)]
 pub enum RowError {
     Faulty(Fault),
     NoMemory,

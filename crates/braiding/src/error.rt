@@ -4,7 +4,7 @@ use outside::WriteError;
 use std::alloc::AllocError;
 
 /// Why no order was written, or not all of it.
-#[derive(Clone, Copy, Debug, PartialEq, Eq)]
+#[derive(Clone, Copy, PartialEq, Eq)]
 pub enum BraidError {
     /// The line with this number, counted from 1, is too long, or is one more than there may be.
     Refuted { line: u32 },

@@ -12,7 +12,7 @@ use std::alloc::Global;
 use udp_node::BasePort;
 
 /// A replicated service: the port of replica 0, and how many actors there are.
-#[derive(Clone, Copy, Debug, PartialEq, Eq)]
+#[derive(Clone, Copy, PartialEq, Eq)]
 pub struct Service {
     pub base: BasePort,
     pub config: Config,

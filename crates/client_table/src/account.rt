@@ -27,14 +27,14 @@ const MAX_KEPT: usize = 8;
 const _: () = prove!(MAX_KEPT as u64 == WINDOW);
 
 /// What is kept for a client: its greatest executed id, and the results of its executed ids less than a window behind it, ids ascending.
-#[derive(Debug, Drop)]
+#[derive(Drop)]
 pub struct Account {
     greatest: u64,
     kept: VecDeque<Answered>,
 }
 
 /// What an account was before a result was kept: its greatest id, and the results that left the window.
-#[derive(Debug, Drop)]
+#[derive(Drop)]
 pub struct Removed {
     pub greatest: u64,
     pub dropped: Dropped,

@@ -7,7 +7,7 @@ use std::alloc::Global;
 use std::collections::VecDeque;
 
 /// Results that left an account, by ascending id. Most often there is one, which needs no memory.
-#[derive(Debug, Drop)]
+#[derive(Drop)]
 pub enum Dropped {
     None,
     One(Answered),

@@ -4,7 +4,7 @@ use udp_node::BasePort;
 
 /// Where a node or a cluster is: how many actors there are, the port of replica 0, and the most turns that it takes; and whether it
 /// writes a trace. A cluster writes none.
-#[derive(Clone, Copy, Debug, PartialEq, Eq)]
+#[derive(Clone, Copy, PartialEq, Eq)]
 pub struct Site {
     pub config: Config,
     pub base: BasePort,
@@ -13,7 +13,7 @@ pub struct Site {
 }
 
 /// What the program is asked to do.
-#[derive(Debug, Drop)]
+#[derive(Drop)]
 pub enum Command {
     Replay,
     /// A schedule that is drawn from this number, and its count of events.

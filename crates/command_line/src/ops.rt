@@ -8,7 +8,7 @@ use std::alloc::Global;
 use std::marker::Model;
 
 /// Ops in order, seen as their list.
-#[derive(Debug, Drop)]
+#[derive(Drop)]
 pub struct Ops {
     ops: Vec<Op>,
 }

@@ -15,21 +15,21 @@ use std::alloc::Global;
 use std::marker::Model;
 
 /// The request of a core with this id is for this ticket.
-#[derive(Clone, Copy, Debug, PartialEq, Eq)]
+#[derive(Clone, Copy, PartialEq, Eq)]
 pub struct OpenTicket {
     pub id: u64,
     pub ticket: u64,
 }
 
 /// An op that waits for a core, and its ticket.
-#[derive(Debug, Drop)]
+#[derive(Drop)]
 pub struct Queued {
     pub ticket: u64,
     pub op: Op,
 }
 
 /// What a core gave, and the ticket that it is for.
-#[derive(Debug, Drop)]
+#[derive(Drop)]
 pub struct Labelled {
     /// The place of the core, counted from 0.
     pub core: usize,

@@ -11,7 +11,7 @@ use std::marker::Model;
 
 /// The unfinished messages of each sender, which are numbered from 0. Whatever came, no sender has more than `MAX_UNFINISHED` of them,
 /// none has more than `MAX_FRAGMENTS` parts, and no part has more than `FRAGMENT_BYTES` bytes.
-#[derive(Debug, Drop)]
+#[derive(Drop)]
 pub struct Reassembly {
     senders: Vec<Queue>,
 }

@@ -14,7 +14,7 @@ const PARTS_AHEAD: usize = 64;
 
 /// A message of which parts are missing. Parts that come in order go straight behind the front; early ones wait, each in a
 /// place of its own.
-#[derive(Debug, Drop)]
+#[derive(Drop)]
 pub(crate) struct Unfinished {
     number: u64,
     /// The bytes of the first parts, with no gap, and how many parts they are.

@@ -8,7 +8,7 @@ use nop_types::{MAX_REPLICAS, Vote};
 use std::marker::Model;
 
 /// A leader's agreement with the others on a NO-OP in a slot.
-#[derive(Debug, Drop)]
+#[derive(Drop)]
 pub struct Gap {
     slot: u32,
     f: u8,

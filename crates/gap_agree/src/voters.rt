@@ -6,7 +6,7 @@ use nop_types::{MAX_REPLICAS, Vote};
 use std::marker::Model;
 
 /// The replicas that voted, each once.
-#[derive(Debug, Drop)]
+#[derive(Drop)]
 pub struct Votes {
     mask: u8,
 }

@@ -17,7 +17,7 @@ use udp_node::Address;
 
 /// Whose places a gateway has: those of the clients with the numbers from `first` to `first + count
 /// - 1`, and that of an observer, where it watches, or none.
-#[derive(Clone, Copy, Debug)]
+#[derive(Clone, Copy)]
 pub struct Seats {
     pub first: u32,
     pub count: usize,

@@ -4,7 +4,7 @@ ghost use Rattle.std.specs.Prelude.{◌≡◌};
 use outside::{AttachError, DeviceError, LinkError};
 
 /// Why a gateway ended before its turns.
-#[derive(Clone, Copy, Debug, PartialEq, Eq)]
+#[derive(Clone, Copy, PartialEq, Eq)]
 pub enum GateError {
     /// The port of a client could not be opened. Nothing was sent.
     PortFault,

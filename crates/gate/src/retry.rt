@@ -26,7 +26,7 @@ const _: () = prove!(
 
 /// The round trip of requests, as RFC 6298 has it: 8 times its smoothed length, and 4 times the
 /// smoothed deviation, in milliseconds.
-#[derive(Clone, Copy, Debug)]
+#[derive(Clone, Copy)]
 pub struct RoundTrip {
     smoothed: u64,
     deviation: u64,

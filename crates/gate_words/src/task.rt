@@ -9,7 +9,7 @@ pub const MAX_NUMBERS: u32 = 16;
 const _: () = prove!(MAX_NUMBERS == 16);
 
 /// Where a service is.
-#[derive(Clone, Copy, Debug)]
+#[derive(Clone, Copy)]
 pub enum Site<'a> {
     /// On this machine. With an observer, the gateway watches it at the place of that one, which no
     /// observer has then.
@@ -27,14 +27,14 @@ pub enum Site<'a> {
 }
 
 /// The numbers of clients from the first one on, `count` of them: none is over 2^32 - 1.
-#[derive(Clone, Copy, Debug, PartialEq, Eq)]
+#[derive(Clone, Copy, PartialEq, Eq)]
 pub struct Numbers {
     pub first: u32,
     pub count: u32,
 }
 
 /// The address for users, the service, and the gateway's numbers.
-#[derive(Clone, Copy, Debug)]
+#[derive(Clone, Copy)]
 pub struct Task<'a> {
     pub listen: SocketAddr,
     pub site: Site<'a>,

@@ -11,7 +11,7 @@ use line_fields::{is_word, number};
 use std::net::SocketAddr;
 
 /// What a line says.
-#[derive(Clone, Copy, Debug)]
+#[derive(Clone, Copy)]
 pub enum Entry {
     Blank,
     Cluster(u64),

@@ -11,7 +11,7 @@ use crate::rule::Rule;
 use std::net::SocketAddr;
 
 /// The cluster number and the addresses by their places, as far as lines were read.
-#[derive(Clone, Copy, Debug)]
+#[derive(Clone, Copy)]
 pub struct Found {
     pub(crate) cluster: Option<u64>,
     pub(crate) addresses: [Option<SocketAddr>; PLACES],

@@ -11,7 +11,7 @@ use nop_types::{Actor, Config};
 use std::net::SocketAddr;
 
 /// Where the actors of a cluster are.
-#[derive(Clone, Copy, Debug)]
+#[derive(Clone, Copy)]
 pub struct HostList {
     pub(crate) cluster: u64,
     pub(crate) config: Config,

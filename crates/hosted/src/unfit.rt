@@ -5,7 +5,7 @@ use host_list::Refusal;
 use nop_types::NoMemory;
 
 /// Why nothing is run.
-#[derive(Clone, Copy, Debug)]
+#[derive(Clone, Copy)]
 pub(crate) enum Unfit {
     /// The list does not have the actor, or `commands` does not take the words as a command that runs it.
     Usage,

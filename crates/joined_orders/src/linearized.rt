@@ -1,5 +1,5 @@
 /// What is found of claims.
-#[derive(Debug, Drop)]
+#[derive(Drop)]
 pub enum Linearized {
     /// The places of the claims that submit, in the order of a legal history.
     Order(Vec<usize>),

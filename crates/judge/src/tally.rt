@@ -1,5 +1,5 @@
 /// What a legal transcript has: lines that submit, lines that accept, and members of its history.
-#[derive(Clone, Copy, Debug, PartialEq, Eq)]
+#[derive(Clone, Copy, PartialEq, Eq)]
 pub struct Tally {
     pub submits: u32,
     pub accepts: u32,

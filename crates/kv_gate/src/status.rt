@@ -1,5 +1,5 @@
 /// How the program ends; the number is its exit status, as that of `nopaxos`.
-#[derive(Clone, Copy, Debug, PartialEq, Eq)]
+#[derive(Clone, Copy, PartialEq, Eq)]
 pub(crate) enum Status {
     /// All turns were taken.
     Done = 0,

@@ -9,7 +9,6 @@ use std::marker::Model;
 /// A map from keys to values, which begins empty. In a clause it is the finite map of its places, one for each key that was
 /// ever written, with its value or without one; its state is the keys that have a value. A place is never taken away, so the
 /// memory grows with the number of different keys.
-#[derive(Debug)]
 pub struct KvHost {
     table: Table,
 }

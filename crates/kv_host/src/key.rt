@@ -4,7 +4,7 @@ use nop_types::MAX_KEY_BYTES;
 use std::marker::Model;
 
 /// A key of at most `MAX_KEY_BYTES` bytes, seen as their list. It takes no memory of its own.
-#[derive(Debug, Drop)]
+#[derive(Drop)]
 pub struct KvKey {
     bytes: [u8; MAX_KEY_BYTES],
     len: u8,

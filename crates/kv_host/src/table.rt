@@ -29,7 +29,6 @@ pub type Row<'a> = (&'a [u8], &'a [u8]);
 
 /// The places, and how many of them have a value. In a clause it is the list of the places in the
 /// order in which they were made.
-#[derive(Debug)]
 pub struct Table {
     places: PlaceMap,
     count: usize,

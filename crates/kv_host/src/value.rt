@@ -5,7 +5,7 @@ use std::alloc::{AllocError, Global};
 use std::marker::Model;
 
 /// A value of at most `MAX_VALUE_BYTES` bytes, seen as their list.
-#[derive(Debug, Drop)]
+#[derive(Drop)]
 pub struct KvValue {
     bytes: Vec<u8>,
 }

@@ -2,7 +2,7 @@ use nop_types::{Key, Op};
 use resp::Reply;
 
 /// How the result of an op is replied.
-#[derive(Clone, Copy, Debug, PartialEq, Eq)]
+#[derive(Clone, Copy, PartialEq, Eq)]
 pub enum Form {
     /// The value, or that there is none.
     Value,

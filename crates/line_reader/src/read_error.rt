@@ -2,7 +2,7 @@ use outside::Failed;
 use std::alloc::AllocError;
 
 /// Why a reader gave no line.
-#[derive(Clone, Copy, Debug, PartialEq, Eq)]
+#[derive(Clone, Copy, PartialEq, Eq)]
 pub enum ReadError {
     ReadFault,
     NoMemory,

@@ -1,7 +1,7 @@
 use transcript_reader::Claim;
 
 /// What is found of the claims of a transcript. Lines are counted from 1.
-#[derive(Debug, Drop)]
+#[derive(Drop)]
 pub enum Answer {
     /// The claims, and the places of those that submit, in the order of a legal history.
     Order {

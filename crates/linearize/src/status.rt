@@ -1,5 +1,5 @@
 /// How such a program ends; the number is its exit status, as that of `nopaxos`.
-#[derive(Clone, Copy, Debug, PartialEq, Eq)]
+#[derive(Clone, Copy, PartialEq, Eq)]
 pub enum Status {
     /// An order was found, and the transcript with it was written.
     Done = 0,

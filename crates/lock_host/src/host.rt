@@ -8,7 +8,6 @@ use std::marker::Model;
 
 /// The locks that are held. The memory that is taken grows with the most locks that were held at a
 /// time.
-#[derive(Debug)]
 pub struct LockHost {
     table: LockTable,
 }

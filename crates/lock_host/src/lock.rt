@@ -4,7 +4,7 @@ use crate::name::Name;
 use std::alloc::AllocError;
 
 /// A lock that is held: by whom, and with which token.
-#[derive(Debug, Drop)]
+#[derive(Drop)]
 pub struct Lock {
     pub name: Name,
     pub owner: Name,

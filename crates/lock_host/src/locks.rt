@@ -20,7 +20,6 @@ pub const LAST_TOKEN: u64 = 18_446_744_073_709_551_615;
 const _: () = prove!(MAX_LOCKS == 4096 && LAST_TOKEN == 18_446_744_073_709_551_615);
 
 /// The last token, and the places of the locks that are held.
-#[derive(Debug)]
 pub struct LockTable {
     last: u64,
     places: Vec<Option<Lock>>,

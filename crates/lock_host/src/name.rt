@@ -12,7 +12,7 @@ const _: () = prove!(MAX_NAME_BYTES == 64);
 
 /// The name of a lock or of an owner: at most `MAX_NAME_BYTES` bytes, seen as their list. It takes
 /// no memory of its own.
-#[derive(Debug, Drop)]
+#[derive(Drop)]
 pub struct Name {
     bytes: [u8; MAX_NAME_BYTES],
     len: u8,

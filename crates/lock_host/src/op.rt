@@ -18,7 +18,7 @@ pub const INSPECT: u8 = b'I';
 const _: () = prove!(ACQUIRE == 0x41 && RELEASE == 0x52 && INSPECT == 0x49);
 
 /// An op as it was read.
-#[derive(Debug, Drop)]
+#[derive(Drop)]
 pub enum LockOp {
     /// Of a lock and who wants it.
     Acquire(Name, Name),

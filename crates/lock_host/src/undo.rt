@@ -1,7 +1,7 @@
 use crate::lock::Lock;
 
 /// What takes an op back.
-#[derive(Debug, Drop)]
+#[derive(Drop)]
 pub enum LockUndo {
     /// The op changed nothing.
     Nothing,

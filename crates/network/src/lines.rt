@@ -14,7 +14,7 @@ use transcript_text::{
 const LINE_ROOM: usize = 40;
 
 /// The lines of an event: their text, and how many of them are sends and accepts.
-#[derive(Debug, Drop)]
+#[derive(Drop)]
 pub struct Lines {
     pub text: Bytes,
     pub sends: u32,

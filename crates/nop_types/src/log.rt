@@ -18,7 +18,7 @@ pub struct Log {
 }
 
 /// A log that is borrowed, with the same limits.
-#[derive(Debug, Clone, Copy)]
+#[derive(Clone, Copy)]
 pub struct LogRef<'a> {
     pub sync_point: u32,
     pub checkpoint: Option<&'a Checkpoint>,

@@ -23,7 +23,7 @@ pub enum Dest {
 }
 
 /// A request that a client had accepted: its id, the slot of its leader's reply, and the result.
-#[derive(Debug, Drop)]
+#[derive(Drop)]
 pub struct Accept {
     pub id: u64,
     pub slot: u32,

@@ -31,7 +31,7 @@ pub enum Body {
 }
 
 /// What a replica had when it entered a view: its last normal view, its next message number and its log.
-#[derive(Debug, Drop)]
+#[derive(Drop)]
 pub struct Change {
     pub sender: u8,
     pub last_normal: View,

@@ -6,7 +6,7 @@ pub enum Phase {
 }
 
 /// Whether enough votes came.
-#[derive(Clone, Copy, Debug, PartialEq, Eq)]
+#[derive(Clone, Copy, PartialEq, Eq)]
 pub enum Vote {
     Settled,
     Waiting,

@@ -1,5 +1,5 @@
 /// Why a cluster ended without its last line.
-#[derive(Clone, Copy, Debug, PartialEq, Eq)]
+#[derive(Clone, Copy, PartialEq, Eq)]
 pub enum ClusterError {
     LinkFault,
     WriteFault,

@@ -2,7 +2,7 @@ ghost use Rattle.std.specs.Prelude.{◌≡◌, List, map, true};
 ghost use Rattle.op_table.specs.Shapes.{AnswerShape, OpShape, answer_shape, are_apart, op_shape};
 
 /// A field of an op or of an answer, as `saved_fields` has it.
-#[derive(Clone, Copy, Debug)]
+#[derive(Clone, Copy)]
 pub enum FieldShape {
     /// A number, as a word in decimal.
     Number,
@@ -11,7 +11,7 @@ pub enum FieldShape {
 }
 
 /// An op: in words its name and its fields; in bytes its kind and its fields.
-#[derive(Clone, Copy, Debug)]
+#[derive(Clone, Copy)]
 pub struct OpRow {
     pub name: &'static str,
     pub kind: u8,
@@ -19,7 +19,7 @@ pub struct OpRow {
 }
 
 /// An answer of these first bytes, if any, and fields.
-#[derive(Clone, Copy, Debug)]
+#[derive(Clone, Copy)]
 pub struct AnswerRow {
     pub name: &'static str,
     pub fields: &'static [FieldShape],

@@ -19,7 +19,7 @@ use outside::{Sink, WriteError, write_all};
 use std::alloc::Global;
 
 /// How such a program ends; the number is its exit status, as that of `nopaxos`.
-#[derive(Clone, Copy, Debug, PartialEq, Eq)]
+#[derive(Clone, Copy, PartialEq, Eq)]
 pub enum Status {
     /// The answer was written.
     Done = 0,

@@ -10,7 +10,7 @@ use std::alloc::Global;
 use std::marker::Model;
 
 /// Words in order, seen as the list of their bytes.
-#[derive(Debug, Drop)]
+#[derive(Drop)]
 pub struct Words {
     words: Vec<Bytes>,
 }

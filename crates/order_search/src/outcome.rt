@@ -1,7 +1,7 @@
 //! What a search came to.
 
 /// A request that was placed.
-#[derive(Clone, Copy, Debug, PartialEq, Eq)]
+#[derive(Clone, Copy, PartialEq, Eq)]
 pub struct Placed {
     /// The place of the claim that submits it.
     pub submit: usize,
@@ -10,7 +10,7 @@ pub struct Placed {
 }
 
 /// What a search came to.
-#[derive(Debug, Drop)]
+#[derive(Drop)]
 pub enum Outcome {
     /// The requests, in the order of a legal history.
     Found(Vec<Placed>),

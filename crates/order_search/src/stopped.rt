@@ -1,7 +1,7 @@
 use nop_types::NoMemory as OutOfMemory;
 
 /// Why nothing was decided.
-#[derive(Clone, Copy, Debug, PartialEq, Eq)]
+#[derive(Clone, Copy, PartialEq, Eq)]
 pub enum Stopped {
     /// The steps that were left are spent.
     Spent,

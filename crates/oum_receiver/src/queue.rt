@@ -10,7 +10,7 @@ use std::marker::Model;
 
 /// Requests by message number. One of them stands apart from the table, so that a request that is taken before the next one
 /// comes costs no search.
-#[derive(Debug, Drop)]
+#[derive(Drop)]
 pub(crate) struct Queue {
     apart: Option<(u64, Request)>,
     table: BTreeMap<u64, Request>,

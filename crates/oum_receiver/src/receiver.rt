@@ -9,7 +9,7 @@ use std::alloc::Global;
 use std::marker::Model;
 
 /// The requests of one session that came and were not handed up yet, and the message number that is handed up next.
-#[derive(Debug, Drop)]
+#[derive(Drop)]
 pub struct Receiver {
     session: u64,
     next: u64,

@@ -5,7 +5,7 @@ use nop_types::NoMemory;
 use std::alloc::{AllocError, AllocFailed};
 
 /// A device failed.
-#[derive(Clone, Copy, Debug, PartialEq, Eq)]
+#[derive(Clone, Copy, PartialEq, Eq)]
 pub struct Failed;
 
 /// Why a call on a device failed.

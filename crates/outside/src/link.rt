@@ -11,7 +11,7 @@ use crate::LinkError;
 use nop_types::Bytes;
 
 /// What a poll answers: a datagram, nothing, or that the link failed.
-#[derive(Debug, Drop)]
+#[derive(Drop)]
 pub enum PollAnswer {
     Received(Bytes),
     Nothing,
@@ -19,7 +19,7 @@ pub enum PollAnswer {
 }
 
 /// A call on a link: a poll, whatever it answered, or a datagram that was sent, with the port that it was sent to.
-#[derive(Debug, Drop)]
+#[derive(Drop)]
 pub enum LinkCall {
     Polled,
     Sent { port: u16, bytes: Bytes },

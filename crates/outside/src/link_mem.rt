@@ -16,7 +16,7 @@ use std::marker::Model;
 
 /// A link in memory. Its polls answer what they were given, and after that there is no datagram; it keeps the calls that are
 /// made. Its plan says which sends fail. Where calls never fail, no poll was given a failure either.
-#[derive(Debug, Drop)]
+#[derive(Drop)]
 pub struct LinkMem<P: CallPlan = Unfailing> {
     alloc: Global,
     port: u16,

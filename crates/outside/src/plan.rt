@@ -49,7 +49,7 @@ pub trait CallPlan: Drop {
 }
 
 /// Calls that never fail, and move at most `most` bytes each: at least 1.
-#[derive(Clone, Copy, Debug, PartialEq, Eq)]
+#[derive(Clone, Copy, PartialEq, Eq)]
 pub struct Unfailing {
     most: usize,
 }
@@ -106,7 +106,7 @@ impl CallPlan for Unfailing {
 /// Calls that move at most `most` bytes each, and of which those with the numbers `failing` fail. Calls count from 1, up to
 /// the greatest number of 64 bits, which all later ones have. Where a call may move no bytes, one that could move some
 /// fails.
-#[derive(Debug, Drop)]
+#[derive(Drop)]
 pub struct Failing {
     most: usize,
     failing: Vec<u64>,

@@ -13,7 +13,7 @@ use std::marker::Model;
 
 /// Ports in memory. They give their links in order, and after them links without datagrams. Their plan says which attaches
 /// fail. Where calls never fail, those on the links don't either.
-#[derive(Debug, Drop)]
+#[derive(Drop)]
 pub struct PortsMem<P: CallPlan = Unfailing> {
     alloc: Global,
     links: VecDeque<LinkMem<P>>,

@@ -11,7 +11,7 @@ use std::alloc::Global;
 use std::marker::Model;
 
 /// Bytes in memory that are read from the front. Its plan says how many bytes a read gives, and which reads fail.
-#[derive(Debug, Drop)]
+#[derive(Drop)]
 pub struct ReadMem<P: CallPlan = Unfailing> {
     bytes: Vec<u8>,
     at: usize,

@@ -9,7 +9,7 @@ use std::alloc::Global;
 use std::marker::Model;
 
 /// What was written, in memory. Its plan says how many bytes a write takes, and which writes fail.
-#[derive(Debug, Drop)]
+#[derive(Drop)]
 pub struct WriteMem<P: CallPlan = Unfailing> {
     bytes: Vec<u8>,
     plan: P,

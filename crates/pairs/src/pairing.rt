@@ -15,7 +15,7 @@ use std::alloc::Global;
 use transcript_reader::Claim;
 
 /// Which claims submit and accept the same client and id.
-#[derive(Debug, Drop)]
+#[derive(Drop)]
 pub struct Pairs {
     /// For each claim that submits the place of the one that accepts, if there is one.
     pub accepts: Vec<Option<usize>>,

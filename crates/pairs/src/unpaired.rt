@@ -2,7 +2,7 @@ use nop_types::NoMemory as OutOfMemory;
 use std::alloc::{AllocError, AllocFailed};
 
 /// Why claims have no pairs: the first of them that is such, counted from 0.
-#[derive(Clone, Copy, Debug, PartialEq, Eq)]
+#[derive(Clone, Copy, PartialEq, Eq)]
 pub enum Unpaired {
     /// This claim submits a client and id that an earlier one submits.
     Repeated(usize),

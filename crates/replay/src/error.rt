@@ -2,7 +2,7 @@ use nop_types::NoMemory as OutOfMemory;
 use std::alloc::{AllocError, AllocFailed};
 
 /// How a replay ended before all was read and written.
-#[derive(Clone, Copy, Debug, PartialEq, Eq)]
+#[derive(Clone, Copy, PartialEq, Eq)]
 pub enum ReplayError {
     /// The line with this number, counted from 1, breaks this rule first.
     Malformed { line: u32, rule: u8 },
@@ -45,7 +45,7 @@ impl<T: Drop> From<AllocFailed<T>> for ReplayError {
 }
 
 /// How a generation ended before its summary was written.
-#[derive(Clone, Copy, Debug, PartialEq, Eq)]
+#[derive(Clone, Copy, PartialEq, Eq)]
 pub enum GenError {
     WriteFault,
     NoMemory,

@@ -40,7 +40,7 @@ use std::mem;
 
 /// The log of a replica: its sync point, the checkpoint that is in place of the entries up to there, and at most `MAX_SLOTS`
 /// entries above. Slots count from 1, and there are at most `MAX_LENGTH`.
-#[derive(Debug, Drop)]
+#[derive(Drop)]
 pub struct ReplicaLog {
     sync_point: u32,
     checkpoint: Option<Checkpoint>,

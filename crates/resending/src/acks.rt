@@ -16,7 +16,7 @@ pub const ACK_BYTES: usize = 27;
 const _: () = prove!(ACK_MAGIC == 0x41 && NAMED == 8 && ACK_BYTES == 27);
 
 /// What a link answers to parts of a message.
-#[derive(Clone, Copy, Debug, PartialEq, Eq)]
+#[derive(Clone, Copy, PartialEq, Eq)]
 pub struct Ack {
     /// How many parts may be in flight to it from now on; not 0.
     pub window: u8,

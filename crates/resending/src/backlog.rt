@@ -13,7 +13,7 @@ pub const MOST_WAITING: usize = 2 * MAX_FRAGMENTS;
 const _: () = prove!(MOST_WAITING == 8192);
 
 /// A part, and the port that it is for.
-#[derive(Debug, Drop)]
+#[derive(Drop)]
 pub struct Part {
     pub port: u16,
     pub name: Name,
@@ -21,7 +21,7 @@ pub struct Part {
 }
 
 /// The parts that wait for a port, in the order in which they came.
-#[derive(Debug, Drop)]
+#[derive(Drop)]
 pub struct Backlog {
     alloc: Global,
     waiting: VecDeque<Part>,

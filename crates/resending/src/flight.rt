@@ -17,7 +17,7 @@ pub const MOST_IN_FLIGHT: usize = MOST_WINDOW + MOST_ON_THE_WAY;
 const _: () = prove!(MOST_WINDOW == 36 && MOST_IN_FLIGHT == 1060);
 
 /// When a part was sent, and which of all those to its port it was then.
-#[derive(Clone, Copy, Debug)]
+#[derive(Clone, Copy)]
 pub struct Sending {
     /// In microseconds of the clock.
     pub at: u64,
@@ -30,14 +30,14 @@ pub struct Sending {
 }
 
 /// A part in flight.
-#[derive(Debug, Drop)]
+#[derive(Drop)]
 pub struct Sent {
     pub part: Part,
     pub sending: Sending,
 }
 
 /// The parts that are in flight to a port, in the order in which they were sent first.
-#[derive(Debug, Drop)]
+#[derive(Drop)]
 pub struct Flight {
     sent: Vec<Sent>,
 }

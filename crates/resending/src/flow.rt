@@ -26,7 +26,7 @@ pub const SILENCE_MICROS: u64 = 1_000_000;
 const _: () = prove!(FIRST_WINDOW == 6 && MOST_AT_ONCE == 6 && SILENCE_MICROS == 1_000_000);
 
 /// The parts that go to a port: those that wait, and those in flight. What is not acknowledged in time is sent again.
-#[derive(Debug, Drop)]
+#[derive(Drop)]
 pub struct Flow {
     waiting: Backlog,
     flight: Flight,

@@ -17,14 +17,14 @@ const TOPIC_PLACE: usize = FRAGMENT_HEADER_BYTES;
 const _: () = prove!(MESSAGE_PLACE == 5 && INDEX_PLACE == 13 && TOPIC_PLACE == 17);
 
 /// A part: the number of its message, and its index there.
-#[derive(Clone, Copy, Debug)]
+#[derive(Clone, Copy)]
 pub struct Name {
     pub message: u64,
     pub index: u16,
 }
 
 /// What a message is about: its kind, and its view.
-#[derive(Clone, Copy, Debug)]
+#[derive(Clone, Copy)]
 pub struct Topic {
     pub kind: u8,
     pub leader: u32,

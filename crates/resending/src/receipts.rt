@@ -19,7 +19,7 @@ const RECENT_PARTS: u64 = 2 * MOST_WINDOW as u64;
 const _: () = prove!(ACK_EVERY == 4 && RECENT_PARTS == 72);
 
 /// What came from the ports of a lane.
-#[derive(Clone, Copy, Debug)]
+#[derive(Clone, Copy)]
 pub struct Receipt {
     // The port of the last part, and its message.
     port: u16,
@@ -34,7 +34,7 @@ pub struct Receipt {
 
 /// The parts that a link received, as far as acknowledgements need them. Ports that send parts at the same time share the number that
 /// may be in flight.
-#[derive(Debug, Drop)]
+#[derive(Drop)]
 pub struct Receipts {
     // How many parts came.
     count: u64,
@@ -42,7 +42,7 @@ pub struct Receipts {
 }
 
 /// An acknowledgement, and the port that it is for.
-#[derive(Clone, Copy, Debug)]
+#[derive(Clone, Copy)]
 pub struct Answer {
     pub port: u16,
     pub ack: Ack,

@@ -15,7 +15,7 @@ pub const REPEAT_MICROS: u64 = 500_000;
 const _: () = prove!(MOST_PORTS == 6 && REPEAT_MICROS == 500_000);
 
 /// The request for a view change that a replica sent last, and to whom.
-#[derive(Debug, Drop)]
+#[derive(Drop)]
 pub struct Repeats {
     alloc: Global,
     request: Bytes,

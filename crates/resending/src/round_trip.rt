@@ -25,7 +25,7 @@ const _: () = prove!(
 );
 
 /// The round trip to a port, in microseconds, as RFC 6298 has it.
-#[derive(Clone, Copy, Debug)]
+#[derive(Clone, Copy)]
 pub struct RoundTrip {
     // The smoothed round trip, and the smoothed deviation from it.
     smoothed: u32,

@@ -5,7 +5,7 @@ ghost use Rattle.resending.specs.Names.{same_view};
 use crate::names::Topic;
 
 /// What is done with a part that comes to a port, as far as its message tells it.
-#[derive(Clone, Copy, Debug)]
+#[derive(Clone, Copy)]
 pub enum Choice {
     /// It goes behind what waits.
     Goes,
@@ -16,14 +16,14 @@ pub enum Choice {
 }
 
 /// A message that goes to a port.
-#[derive(Clone, Copy, Debug)]
+#[derive(Clone, Copy)]
 pub struct Begun {
     pub message: u64,
     pub topic: Topic,
 }
 
 /// Which message to a port was begun last, and which one is refused: so a message goes whole or not at all.
-#[derive(Clone, Copy, Debug)]
+#[derive(Clone, Copy)]
 pub struct Topics {
     last: Option<Begun>,
     refused: Option<u64>,

@@ -1,7 +1,7 @@
 use nop_types::Bytes;
 
 /// Why bytes begin no request, whatever follows them.
-#[derive(Clone, Copy, Debug, PartialEq, Eq)]
+#[derive(Clone, Copy, PartialEq, Eq)]
 pub enum Fault {
     /// A byte is none that may stand at its place.
     Spelling,
@@ -12,7 +12,7 @@ pub enum Fault {
 }
 
 /// Why bytes do not begin with what is read.
-#[derive(Clone, Copy, Debug, PartialEq, Eq)]
+#[derive(Clone, Copy, PartialEq, Eq)]
 pub enum Stop {
     /// They begin it, and are too few.
     More,
@@ -21,7 +21,7 @@ pub enum Stop {
 }
 
 /// A request with which bytes begin.
-#[derive(Debug, Drop)]
+#[derive(Drop)]
 pub struct Request {
     /// The name of a command, and what it is given.
     pub arguments: Vec<Bytes>,
@@ -30,7 +30,7 @@ pub struct Request {
 }
 
 /// What bytes are that came from a user.
-#[derive(Debug, Drop)]
+#[derive(Drop)]
 pub enum Parsed {
     /// They begin with this request.
     Complete(Request),

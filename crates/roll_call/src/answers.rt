@@ -12,7 +12,7 @@ const ASKED_FROM: u64 = 0x0001_0000_0000_0000;
 const _: () = prove!(ASKED_FROM == 281_474_976_710_656);
 
 /// In whose name nodes are asked: an actor with this number, by a list of hosts with this digest.
-#[derive(Clone, Copy, Debug, PartialEq, Eq)]
+#[derive(Clone, Copy, PartialEq, Eq)]
 pub(crate) struct Asker {
     pub(crate) digest: u64,
     pub(crate) number: u32,

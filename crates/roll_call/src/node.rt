@@ -11,21 +11,21 @@ pub(crate) const SILENT_MILLIS: u64 = 3000;
 const _: () = prove!(SILENT_MILLIS == 3000);
 
 /// A node that is asked, at the port by which links know it.
-#[derive(Clone, Copy, Debug, PartialEq, Eq)]
+#[derive(Clone, Copy, PartialEq, Eq)]
 pub struct Node {
     pub actor: Actor,
     pub port: u16,
 }
 
 /// That a node answers, or does not, and since when this is known. Times are in milliseconds.
-#[derive(Clone, Copy, Debug, PartialEq, Eq)]
+#[derive(Clone, Copy, PartialEq, Eq)]
 pub struct Standing {
     pub answers: bool,
     pub since: u64,
 }
 
 /// A node, when it answered last, and how it stood in the last round.
-#[derive(Clone, Copy, Debug, PartialEq, Eq)]
+#[derive(Clone, Copy, PartialEq, Eq)]
 pub(crate) struct Asked {
     pub(crate) node: Node,
     pub(crate) answered: Option<u64>,

@@ -20,7 +20,7 @@ pub(crate) const ROUND_MILLIS: u64 = 1000;
 const _: () = prove!(ROUND_MILLIS == 1000);
 
 /// The nodes of a cluster, and which of them answer.
-#[derive(Debug, Drop)]
+#[derive(Drop)]
 pub struct Roll {
     asker: Asker,
     asked: Option<u64>,

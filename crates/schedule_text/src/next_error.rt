@@ -2,7 +2,7 @@ use outside::Failed;
 use std::alloc::AllocError;
 
 /// Why a reader gave no event.
-#[derive(Clone, Copy, Debug, PartialEq, Eq)]
+#[derive(Clone, Copy, PartialEq, Eq)]
 pub enum NextError {
     /// The line with this number, counted from 1, breaks this rule first.
     BadLine { line: u32, rule: u8 },

@@ -4,7 +4,7 @@ ghost use Rattle.schedule_text.specs.Rules.{rule_number};
 /// A rule of a schedule's lines. `LineTooLong` to `WrongActor` and `TooManyLines` are tested as a
 /// line is read, the last one first. When the event is carried out, `WrongActor` is tested again,
 /// and then `NoSuchDatagram` and `Forged`.
-#[derive(Clone, Copy, Debug, PartialEq, Eq)]
+#[derive(Clone, Copy, PartialEq, Eq)]
 pub enum Rule {
     /// More than 4,096 bytes.
     LineTooLong,

@@ -6,7 +6,7 @@ use nop_types::NoMemory as OutOfMemory;
 use outside::DeviceError;
 
 /// Why a load ended.
-#[derive(Clone, Copy, Debug, PartialEq, Eq)]
+#[derive(Clone, Copy, PartialEq, Eq)]
 pub enum LoadError {
     /// A port could not be opened.
     PortFault,

@@ -3,7 +3,7 @@ ghost use Rattle.service_load.specs.Ranks.{ranked};
 
 /// What a load came to: how many ops were submitted and how many answered, how many datagrams could
 /// not be sent, and how long each answered op took, in microseconds, the shortest time first.
-#[derive(Debug, Drop)]
+#[derive(Drop)]
 pub struct Report {
     pub submitted: u64,
     pub answered: u64,

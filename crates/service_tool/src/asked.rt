@@ -13,7 +13,7 @@ use op_text::OpText;
 use std::alloc::Global;
 
 /// What a tool does.
-#[derive(Debug, Drop)]
+#[derive(Drop)]
 pub enum Command {
     /// What is written on the word with this index, or on all where there is no such word.
     Help(usize),
@@ -31,7 +31,7 @@ pub enum Command {
 }
 
 /// A command, and what the options before it say.
-#[derive(Debug, Drop)]
+#[derive(Drop)]
 pub struct Asked {
     pub options: Options,
     pub command: Command,

@@ -11,7 +11,7 @@ use line_fields::is_word;
 use nop_types::{Bytes, MAX_OBSERVERS, MAX_SEQUENCERS};
 
 /// What the options say.
-#[derive(Clone, Copy, Debug, PartialEq, Eq)]
+#[derive(Clone, Copy, PartialEq, Eq)]
 pub struct Options {
     /// The port of replica 0.
     pub base: u16,

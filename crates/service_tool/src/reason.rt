@@ -4,7 +4,7 @@ ghost use Rattle.std.specs.Prelude.{◌≡◌};
 ghost use Rattle.service_tool.specs.Reasons.{text_of};
 
 /// Why the words ask for nothing.
-#[derive(Clone, Copy, Debug, PartialEq, Eq)]
+#[derive(Clone, Copy, PartialEq, Eq)]
 pub enum Reason {
     /// No word is left for a command.
     NoCommand,
@@ -32,7 +32,7 @@ pub enum Reason {
 }
 
 /// The word that is not taken, by its index, and why; one past the last where a word is missing.
-#[derive(Clone, Copy, Debug, PartialEq, Eq)]
+#[derive(Clone, Copy, PartialEq, Eq)]
 pub struct Fault {
     pub reason: Reason,
     pub at: usize,

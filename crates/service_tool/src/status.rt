@@ -5,7 +5,7 @@ use client_call::CallError;
 use line_reader::ReadError;
 
 /// How a tool ends; the number is its exit status, as that of `nopaxos`.
-#[derive(Clone, Copy, Debug, PartialEq, Eq)]
+#[derive(Clone, Copy, PartialEq, Eq)]
 pub enum Status {
     /// What was asked for was written.
     Done = 0,

@@ -13,7 +13,7 @@ use nop_types::{Bytes, NoMemory};
 use std::alloc::Global;
 
 /// A word of a tool: how it is written with what follows it, and what it does.
-#[derive(Clone, Copy, Debug)]
+#[derive(Clone, Copy)]
 pub struct Row<'a> {
     pub word: &'a str,
     pub form: &'a str,
@@ -21,7 +21,7 @@ pub struct Row<'a> {
 }
 
 /// A tool of a service: its name, and its words.
-#[derive(Clone, Copy, Debug)]
+#[derive(Clone, Copy)]
 pub struct Tool<'a> {
     pub program: &'a str,
     pub rows: &'a [Row<'a>],

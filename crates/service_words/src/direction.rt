@@ -5,7 +5,7 @@ use line_fields::is_word;
 use nop_types::Bytes;
 
 /// Which way lines are turned.
-#[derive(Clone, Copy, Debug, PartialEq, Eq)]
+#[derive(Clone, Copy, PartialEq, Eq)]
 pub enum Direction {
     ToWords,
     ToHex,

@@ -6,7 +6,7 @@ use nop_types::NoMemory as OutOfMemory;
 use outside::WriteError;
 
 /// Why not all lines were written.
-#[derive(Clone, Copy, Debug, PartialEq, Eq)]
+#[derive(Clone, Copy, PartialEq, Eq)]
 pub enum WordsError {
     /// The line with this number, counted from 1, is too long, or is one more than there may be.
     Refused { line: u32 },
@@ -55,7 +55,7 @@ impl From<WriteError> for WordsError {
 }
 
 /// How such a program ends; the number is its exit status, as that of `nopaxos`.
-#[derive(Clone, Copy, Debug, PartialEq, Eq)]
+#[derive(Clone, Copy, PartialEq, Eq)]
 pub enum Status {
     /// All lines were written.
     Done = 0,

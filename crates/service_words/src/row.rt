@@ -8,7 +8,7 @@ use line_fields::{is_word, number};
 use nop_types::Bytes;
 
 /// What the bytes of a field are.
-#[derive(Clone, Copy, Debug, PartialEq, Eq)]
+#[derive(Clone, Copy, PartialEq, Eq)]
 pub enum Kind {
     Op,
     Answer,
@@ -16,7 +16,7 @@ pub enum Kind {
 }
 
 /// The place of the field, counted from 0, and what its bytes are.
-#[derive(Clone, Copy, Debug, PartialEq, Eq)]
+#[derive(Clone, Copy, PartialEq, Eq)]
 pub struct Row {
     pub place: usize,
     pub kind: Kind,

@@ -16,7 +16,7 @@ use nop_types::{MAX_REPLICAS, Vote};
 use std::marker::Model;
 
 /// What a leader waits for: votes for a log of this length.
-#[derive(Debug, Drop)]
+#[derive(Drop)]
 struct Round {
     len: u32,
     votes: Votes,
@@ -41,7 +41,7 @@ impl Round {
 
 /// A replica's sync point, and what moves it: at a follower the length of the longest log that it took from the leader of its
 /// view, at a leader the votes of the others for the log that it sent them.
-#[derive(Debug, Drop)]
+#[derive(Drop)]
 pub struct SyncPoints {
     f: u8,
     sync_point: u32,

@@ -15,11 +15,11 @@ use std::io::{ErrorKind, Read, Write};
 const MOST_CALLS: usize = 64;
 
 /// The connection failed.
-#[derive(Clone, Copy, Debug, PartialEq, Eq)]
+#[derive(Clone, Copy, PartialEq, Eq)]
 struct Failed;
 
 /// What a connection received.
-#[derive(Clone, Copy, Debug, PartialEq, Eq)]
+#[derive(Clone, Copy, PartialEq, Eq)]
 pub(crate) enum Received {
     /// So many bytes.
     Bytes(usize),

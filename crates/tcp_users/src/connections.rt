@@ -17,7 +17,7 @@ use std::collections::{HashMap, VecDeque};
 pub(crate) const USERS_END: u64 = 18_446_744_073_709_551_000;
 
 /// Who has a turn: the listener, at which a connection may wait, or a user who may have sent something.
-#[derive(Clone, Copy, Debug, PartialEq, Eq)]
+#[derive(Clone, Copy, PartialEq, Eq)]
 pub(crate) enum Turn {
     Listener,
     User(u64),

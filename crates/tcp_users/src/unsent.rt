@@ -10,7 +10,7 @@ use std::alloc::{AllocError, Global};
 use std::marker::Model;
 
 /// Why bytes are not kept.
-#[derive(Clone, Copy, Debug, PartialEq, Eq)]
+#[derive(Clone, Copy, PartialEq, Eq)]
 pub(crate) enum KeepError {
     /// More than `MAX_UNSENT_BYTES` would wait.
     Full,
@@ -29,7 +29,7 @@ impl From<AllocError> for KeepError {
 }
 
 /// Bytes that wait, seen as their list: at most `MAX_UNSENT_BYTES`.
-#[derive(Debug, Drop)]
+#[derive(Drop)]
 pub(crate) struct Unsent {
     alloc: Global,
     bytes: Vec<u8>,

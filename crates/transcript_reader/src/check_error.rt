@@ -3,7 +3,7 @@ use nop_types::NoMemory as OutOfMemory;
 use std::alloc::{AllocError, AllocFailed};
 
 /// Why a transcript is not called legal.
-#[derive(Clone, Copy, Debug, PartialEq, Eq)]
+#[derive(Clone, Copy, PartialEq, Eq)]
 pub enum CheckError {
     /// The line with this number, counted from 1, breaks this clause.
     Refuted { line: u32, clause: u8 },

@@ -1,5 +1,5 @@
 /// Where in a transcript the next line is.
-#[derive(Clone, Copy, Debug, PartialEq, Eq)]
+#[derive(Clone, Copy, PartialEq, Eq)]
 pub enum Part {
     /// The lines of events.
     Events,

@@ -1,7 +1,7 @@
 use nop_types::{Actor, Bytes, Dest, Entry, Key, Phase, Request, View};
 
 /// A line of a transcript behind the first one.
-#[derive(Debug, Drop)]
+#[derive(Drop)]
 pub enum Row {
     /// An event came to a crashed actor.
     Dead(Actor),

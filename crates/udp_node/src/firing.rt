@@ -8,7 +8,7 @@ use outside::{Link, Sink, WriteError};
 use std::alloc::Global;
 
 /// A timer of the core, with its period and the time at which it is due, both in milliseconds of the clock.
-#[derive(Clone, Copy, Debug, PartialEq, Eq)]
+#[derive(Clone, Copy, PartialEq, Eq)]
 pub struct Timer {
     pub tick: Tick,
     pub period: u64,

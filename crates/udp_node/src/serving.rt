@@ -18,7 +18,7 @@ use outside::{Clock, Link, Sink};
 use std::alloc::Global;
 
 /// How a run ended: the turns taken, the datagrams that could not be sent (up to 2^64 - 1), and whether the core was done.
-#[derive(Clone, Copy, Debug, PartialEq, Eq)]
+#[derive(Clone, Copy, PartialEq, Eq)]
 pub struct Served {
     pub turns: u64,
     pub lost: u64,

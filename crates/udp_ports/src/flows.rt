@@ -13,7 +13,7 @@ use std::marker::Model;
 use std::time::Clock;
 
 /// The parts that go to all ports.
-#[derive(Debug, Drop)]
+#[derive(Drop)]
 pub(crate) struct Flows {
     lanes: [Flow; LANES],
     // Whether there may be a part that waits or is in flight.

@@ -17,7 +17,7 @@ use std::time::Clock;
 
 /// Where a process is: the places of all actors, and the port of its own. With `claims` it claims a number there, as the process that
 /// it is; else its link only listens.
-#[derive(Clone, Copy, Debug)]
+#[derive(Clone, Copy)]
 pub struct Home<'a> {
     pub places: &'a [Place],
     pub port: u16,
@@ -25,7 +25,7 @@ pub struct Home<'a> {
 }
 
 /// Who has which number, as far as this link was told, and how the own process stands.
-#[derive(Debug, Drop)]
+#[derive(Drop)]
 pub(crate) struct Guard {
     own: Own,
     registry: Registry,

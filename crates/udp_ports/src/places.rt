@@ -11,7 +11,7 @@ use nop_types::Actor;
 use std::net::{Ipv4Addr, SocketAddr, SocketAddrV4};
 
 /// Where an actor is: the port by which the others know it, and its address. A place of clients has the actor with the least number.
-#[derive(Clone, Copy, Debug)]
+#[derive(Clone, Copy)]
 pub struct Place {
     pub port: u16,
     pub actor: Actor,
@@ -19,7 +19,7 @@ pub struct Place {
 }
 
 /// From whom a datagram came.
-#[derive(Clone, Copy, Debug)]
+#[derive(Clone, Copy)]
 pub(crate) enum Source {
     /// A port of the loopback address.
     Port(u16),

@@ -25,7 +25,7 @@ const _: () = prove!(WAIT_MILLIS == 1);
 const NAP_MICROS: u64 = 200;
 
 /// How long a receive may take where nothing comes.
-#[derive(Clone, Copy, Debug, PartialEq, Eq)]
+#[derive(Clone, Copy, PartialEq, Eq)]
 pub(crate) enum Patience {
     Waits,
     Naps,
@@ -33,7 +33,7 @@ pub(crate) enum Patience {
 }
 
 /// A datagram that came, and from whom.
-#[derive(Debug, Drop)]
+#[derive(Drop)]
 pub(crate) struct Received {
     pub(crate) source: Source,
     pub(crate) bytes: Bytes,

@@ -3,7 +3,7 @@ ghost use Rattle.std.specs.Prelude.{◌≡◌, IfOk};
 use nop_types::{Bytes, NoMemory};
 
 /// What comes from users, each with the number of its connection. Numbers rise: one that was opened is above all that were before.
-#[derive(Debug, Drop)]
+#[derive(Drop)]
 pub enum UserEvent {
     /// A user connected.
     Opened { user: u64 },
@@ -14,7 +14,7 @@ pub enum UserEvent {
 }
 
 /// What a call of `next` answers: an event, nothing, or that the device failed.
-#[derive(Debug, Drop)]
+#[derive(Drop)]
 pub enum UserAnswer {
     Came(UserEvent),
     Nothing,
@@ -22,7 +22,7 @@ pub enum UserAnswer {
 }
 
 /// A call on the connections: one that gave an event, a reply, or the close of a connection.
-#[derive(Debug, Drop)]
+#[derive(Drop)]
 pub enum UserCall {
     Came(UserEvent),
     Replied { user: u64, bytes: Bytes },

@@ -15,7 +15,7 @@ use std::alloc::Global;
 use std::marker::Model;
 
 /// Users in memory. Their events are those that they were given, and after them none comes; what is done is kept.
-#[derive(Debug, Drop)]
+#[derive(Drop)]
 pub struct UsersMem {
     alloc: Global,
     answers: Vec<UserAnswer>,

@@ -9,7 +9,7 @@ use udp_node::{Address, BasePort};
 use watching::{Asked, asked_of};
 
 /// A watch: at the place of an observer, which is `own`, and what is asked of it.
-#[derive(Clone, Copy, Debug, PartialEq, Eq)]
+#[derive(Clone, Copy, PartialEq, Eq)]
 pub struct Call {
     pub at: Address,
     pub asked: Asked,

@@ -7,7 +7,7 @@ use line_fields::{is_word, number};
 use nop_types::Bytes;
 
 /// Whether one state is asked for, or that lines are written over those before; and the most turns, at least 1.
-#[derive(Clone, Copy, Debug, PartialEq, Eq)]
+#[derive(Clone, Copy, PartialEq, Eq)]
 pub struct Asked {
     pub once: bool,
     pub redraws: bool,

@@ -9,7 +9,7 @@ use nop_types::{Actor, EPOCH_STEP, NoMemory, View, leader_of};
 use transcript_text::{Field, write_line};
 
 /// A state of a cluster.
-#[derive(Clone, Copy, Debug, PartialEq, Eq)]
+#[derive(Clone, Copy, PartialEq, Eq)]
 pub struct State {
     /// The view.
     pub view: View,
@@ -22,7 +22,7 @@ pub struct State {
 }
 
 /// The view rose.
-#[derive(Clone, Copy, Debug, PartialEq, Eq)]
+#[derive(Clone, Copy, PartialEq, Eq)]
 pub struct Change {
     /// The new view.
     pub view: View,

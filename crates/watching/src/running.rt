@@ -16,7 +16,7 @@ use roll_call::Roll;
 use std::alloc::Global;
 
 /// Why a watch ended before its turns were taken or its state was shown.
-#[derive(Clone, Copy, Debug, PartialEq, Eq)]
+#[derive(Clone, Copy, PartialEq, Eq)]
 pub enum WatchError {
     /// The port could not be opened.
     PortFault,

@@ -4,7 +4,7 @@ ghost use Rattle.watching.specs.Statuses.{status_of};
 use crate::running::WatchError;
 
 /// How a program that watches ends; the number is its exit status, as that of `nopaxos`.
-#[derive(Clone, Copy, Debug, PartialEq, Eq)]
+#[derive(Clone, Copy, PartialEq, Eq)]
 pub enum Status {
     /// A state was shown.
     Done = 0,

@@ -13,7 +13,7 @@ use peer_codec::{BadPeer, decode_peer};
 use std::alloc::Global;
 
 /// What the leader of a view told: the log is synchronised up to this length.
-#[derive(Clone, Copy, Debug, PartialEq, Eq)]
+#[derive(Clone, Copy, PartialEq, Eq)]
 pub struct Telling {
     pub view: View,
     pub len: u32,

@@ -2,7 +2,7 @@ use nop_types::NoMemory as OutOfMemory;
 
 /// Why an event was not carried out. One that is refused changes nothing; where several causes hold, the first of them is
 /// told. `NoMemory` is no refusal: the world has failed then, and each later step answers it too.
-#[derive(Clone, Copy, Debug, PartialEq, Eq)]
+#[derive(Clone, Copy, PartialEq, Eq)]
 pub enum StepError {
     /// The actor is not of the configuration, or has no such input.
     NoSuchActor,
