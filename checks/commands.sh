@@ -57,7 +57,7 @@ runs README.md 'crates/nopaxos/out/nopaxos check < examples/one-put.transcript'
 grep -qx 'legal 1 1 1' "$folder/out" || differs "the put is judged '$(cat "$folder/out")'"
 runs README.md 'crates/kv_linearize/out/kv_linearize < examples/one-put.transcript'
 grep -qx 'history 1 c0 1 5000016b000176' "$folder/out" || differs "the order that is found of the put is '$(cat "$folder/out")'"
-runs README.md 'crates/kv_words/out/kv_words < examples/one-put.transcript'
+runs README.md 'crates/kv/out/kv words < examples/one-put.transcript'
 grep -qx 'submit c0 1 put k v' "$folder/out" && grep -qx 'accept c0 1 none' "$folder/out" || differs "the put in words is '$(cat "$folder/out")'"
 # `rt run` proves on its own what `rt ci` has proved, which takes long: it is run only where its program is not there.
 if [ -x crates/spacetime/out/spacetime ]; then

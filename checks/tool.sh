@@ -139,7 +139,7 @@ ends 0 5000016b000176 '' op put k v
 ends 0 'put k v' '' text 5000016b000176
 ends 0 '=v' '' result 3d76
 
-command='want a command: an op, repl, status, load, op, text or result'
+command='want a command: an op, repl, status, load, op, text, result or words'
 no_op='no op of this service, and no command: see --help'
 put='  put KEY VALUE: sets a key; gives its value before, as =VALUE or none'
 get='  get KEY: gives the value of a key, as =VALUE or none'

@@ -1,19 +1,19 @@
 #!/bin/bash
-# Schedules, transcripts, traces and refusals in words: what `kv_words` and `lock_words` make of lines whose bytes are written out by hand,
-# and that `--back` makes the same lines of them; what stays as it is; all files of examples/; how they end. It takes a few seconds, leaves
+# Schedules, transcripts, traces and refusals in words: what `kv words` and `locks words` make of lines whose bytes are written out by
+# hand, and that `--back` makes the same lines of them; what stays as it is; all files of examples/; how they end. It takes a few seconds, leaves
 # nothing behind, and ends with status 1 at any difference.
 #
-#   checks/words.sh              the programs are crates/NAME/out/NAME, or the files that KV_WORDS and LOCK_WORDS name
+#   checks/words.sh              the programs are crates/NAME/out/NAME, or the files that KV and LOCK_TOOL name
 . "$(dirname "$0")/common.bash" || exit 2
-needs "${LOCK_WORDS:-}" lock_words -- --back
-lock_words=$program
-needs "${KV_WORDS:-}" kv_words
+needs "${LOCK_TOOL:-}" locks -- --version
+locks=$program
+needs "${KV:-}" kv -- --version
 
 # line DIGITS WORDS: a line in hexadecimal and in words, each of which becomes the other.
 line() {
-    printf '%s\n' "$1" | "$program" > "$folder/out" 2> "$folder/err"
+    printf '%s\n' "$1" | "$program" words > "$folder/out" 2> "$folder/err"
     same "'$1' in words" $? 0 "$2"
-    printf '%s\n' "$2" | "$program" --back > "$folder/out" 2> "$folder/err"
+    printf '%s\n' "$2" | "$program" words --back > "$folder/out" 2> "$folder/err"
     same "'$2' in hexadecimal" $? 0 "$1"
 }
 
@@ -21,7 +21,7 @@ line() {
 stays() {
     local line
     for line in "$@"; do
-        printf '%s\n' "$line" | "$program" > "$folder/out" 2> "$folder/err"
+        printf '%s\n' "$line" | "$program" words > "$folder/out" 2> "$folder/err"
         same "'$line'" $? 0 "$line"
     done
 }
@@ -59,36 +59,36 @@ stays 'nopaxos 1 replicas 3 sequencers 1 clients 2' 'deliver 0 s0' 'tick r0 sync
 
 # files: each line, and each file again
 for file in examples/*.schedule examples/*.transcript; do
-    "$program" < "$file" > "$folder/words"
-    "$program" --back < "$folder/words" > "$folder/again"
+    "$program" words < "$file" > "$folder/words"
+    "$program" words --back < "$folder/words" > "$folder/again"
     made=$((made + 1))
     cmp -s "$folder/again" "$file" || differs "$file is not the same again"
 done
 made=$((made + 1))
-grep -qx 'submit c0 1 put k v' <("$program" < examples/one-put.transcript) || differs 'one put has no words'
+grep -qx 'submit c0 1 put k v' <("$program" words < examples/one-put.transcript) || differs 'one put has no words'
 
 # a last line without an end is given one
-printf 'submit c0 4700016b' | "$program" > "$folder/out" 2> "$folder/err"
+printf 'submit c0 4700016b' | "$program" words > "$folder/out" 2> "$folder/err"
 same 'a line without an end' $? 0 'submit c0 get k'
 
 # how it ends: a line that is too long, behind one that is written; arguments; a full disk
-{ echo 'submit c0 4700016b'; head -c 4097 /dev/zero | tr '\0' a; } | "$program" > "$folder/out" 2> "$folder/err"
+{ echo 'submit c0 4700016b'; head -c 4097 /dev/zero | tr '\0' a; } | "$program" words > "$folder/out" 2> "$folder/err"
 status=$?
 made=$((made + 1))
-if [ "$status" != 8 ] || [ "$(cat "$folder/out")" != 'submit c0 get k' ] || [ "$(cat "$folder/err")" != 'line 2 has more than 4096 bytes' ]; then
+if [ "$status" != 8 ] || [ "$(cat "$folder/out")" != 'submit c0 get k' ] || [ "$(cat "$folder/err")" != 'kv: line 2 has more than 4096 bytes' ]; then
     differs "a line that is too long: status $status, '$(head -c 300 "$folder/err")'"
 fi
-"$program" --forth > "$folder/out" 2> "$folder/err"
-same 'an argument' $? 2 'usage: kv_words [--back] < LINES' err
-"$program" --back more > "$folder/out" 2> "$folder/err"
-same 'two arguments' $? 2 'usage: kv_words [--back] < LINES' err
-"$program" < examples/one-put.transcript > /dev/full 2> "$folder/err"
+"$program" words --forth > "$folder/out" 2> "$folder/err"
+same 'an argument' $? 2 'kv: --forth: want no further word' err
+"$program" words --back more > "$folder/out" 2> "$folder/err"
+same 'two arguments' $? 2 'kv: more: want no further word' err
+"$program" words < examples/one-put.transcript > /dev/full 2> "$folder/err"
 status=$?
 : > "$folder/out"
-same 'a full disk' $status 4 'error writing the lines' err
+same 'a full disk' $status 4 ''
 
 # ---- the lock service
-program=$lock_words
+program=$locks
 line 'submit c0 1 4102646203616e6e' 'submit c0 1 acquire db ann'
 line 'submit c0 5202646203616e6e0000000000000001' 'submit c0 release db ann 1'
 line 'submit c0 49026462' 'submit c0 inspect db'

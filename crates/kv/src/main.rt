@@ -3,11 +3,15 @@
 //!     kv --id 7 put k v          none
 //!     kv --id 8 get k            =v
 //!     kv put --help              put KEY VALUE: ..
+//!     kv words < x.transcript    .. submit c0 1 put k v ..
 //!
 //! Proved of `main` is that it is safe and ends. What it does is said at the head of
-//! `service_tool`.
+//! `service_tool`. Results are read from words by `KvResults`, exactly as `specs/Results` says.
 #![tactic(auto)]
 
+mod results;
+
+use crate::results::KvResults;
 use kv_text::KvText;
 use service_tool::Row;
 use std::process::ExitCode;
@@ -42,5 +46,5 @@ fn main(rt: HostRuntime) -> ExitCode {
         &["put", "load-c", "3"],
         &["put", "load-d", "4"],
     ];
-    run_tool::<KvText>(&rt, "kv", &rows, load)
+    run_tool::<KvText, KvResults>(&rt, "kv", &rows, load)
 }

@@ -3,11 +3,15 @@
 //!     locks --id 7 acquire db ann        granted 1
 //!     locks --id 8 inspect db            held 1 ann
 //!     locks acquire --help               acquire NAME OWNER: ..
+//!     locks words < x.transcript         .. accept c0 1 granted 1 ..
 //!
 //! Proved of `main` is that it is safe and ends. What it does is said at the head of
-//! `service_tool`.
+//! `service_tool`. Results are read from words by `LockResults`, exactly as `specs/Results` says.
 #![tactic(auto)]
 
+mod results;
+
+use crate::results::LockResults;
 use lock_text::LockText;
 use service_tool::Row;
 use std::process::ExitCode;
@@ -32,5 +36,5 @@ fn main(rt: HostRuntime) -> ExitCode {
         },
     ];
     let load: &[&[&str]] = &[&["inspect", "load-a"], &["inspect", "load-b"]];
-    run_tool::<LockText>(&rt, "locks", &rows, load)
+    run_tool::<LockText, LockResults>(&rt, "locks", &rows, load)
 }

@@ -12,7 +12,7 @@ use Rattle.service_tool.specs.Statuses.{IsOfCall}
 use Rattle.service_tool.specs.declared.status.Status.{Status}
 use Rattle.service_tool.specs.Repl.{worse}
 use Rattle.service_tool.specs.declared.status.Status.TheVariants.{Done, Usage, ReadFault, WriteFault}
-use Rattle.service_tool.specs.declared.status.Status.TheVariants.{LinkFault, NoMemory, Unanswered}
+use Rattle.service_tool.specs.declared.status.Status.TheVariants.{LinkFault, NoMemory, Unanswered, Refuted}
 
 none_after : (was : Option CallError) (r : Result Accept CallError) → was ≡ None → ended_after was r ≡ ended_by r
 none_after was r none = ap (λ (w : Option CallError). ended_after w r) none
@@ -46,3 +46,4 @@ of_call_worse NoMemory now b n = b
 of_call_worse Unanswered now b n = b
 of_call_worse ReadFault now b n = b
 of_call_worse WriteFault now b n = b
+of_call_worse Refuted now b n = b

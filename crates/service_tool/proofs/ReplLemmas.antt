@@ -31,7 +31,7 @@ use Rattle.service_tool.specs.Repl.{goes_on, refusals_text, results_text, stop_s
 use Rattle.service_tool.specs.Statuses.{read_status, status_of}
 use Rattle.service_tool.specs.declared.status.Status.{Status}
 use Rattle.service_tool.specs.declared.status.Status.TheVariants.{Done, Usage, ReadFault, WriteFault}
-use Rattle.service_tool.specs.declared.status.Status.TheVariants.{LinkFault, NoMemory, Unanswered}
+use Rattle.service_tool.specs.declared.status.Status.TheVariants.{LinkFault, NoMemory, Unanswered, Refuted}
 use Rattle.service_tool.specs.declared.telling.Tool.{Tool}
 
 -- nothing was written
@@ -48,6 +48,7 @@ worse_done WriteFault = refl
 worse_done LinkFault = refl
 worse_done NoMemory = refl
 worse_done Unanswered = refl
+worse_done Refuted = refl
 
 worse_worse : (a b c : Status) → worse (worse a b) c ≡ worse a (worse b c)
 worse_worse Done b c = refl
@@ -57,6 +58,7 @@ worse_worse WriteFault b c = refl
 worse_worse LinkFault b c = refl
 worse_worse NoMemory b c = refl
 worse_worse Unanswered b c = refl
+worse_worse Refuted b c = refl
 
 status_push : (xs : List Taken) (x : Taken) → first_status (xs ++ x ∷ []) ≡ worse (first_status xs) (fate_status x.fate)
 status_push [] x = worse_done (fate_status x.fate)

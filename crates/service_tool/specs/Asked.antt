@@ -4,10 +4,12 @@ use Rattle.std.specs.Prelude.{if◌then◌else◌}
 use Rattle.nop_types.specs.declared.limits.TheConstants.{MAX_CLIENTS}
 use Rattle.line_fields.specs.Fields.{is_text}
 use Rattle.call_words.specs.Services.{number_in}
+use Rattle.service_words.specs.Directions.{direction_of}
+use Rattle.service_words.specs.declared.direction.Direction.{Direction}
 use Rattle.service_tool.specs.Options.{◌>>=◌, opening, options_in}
 use Rattle.service_tool.specs.declared.asked.Asked.{Asked}
 use Rattle.service_tool.specs.declared.asked.Command.{Command}
-use Rattle.service_tool.specs.declared.asked.Command.TheVariants.{Help, Version, Execute, Repl, Status, Load, Turn}
+use Rattle.service_tool.specs.declared.asked.Command.TheVariants.{Help, Version, Execute, Repl, Status, Load, Turn, Lines}
 use Rattle.service_tool.specs.declared.options.Options.{Options}
 use Rattle.service_tool.specs.declared.reason.Fault.{Fault}
 use Rattle.service_tool.specs.declared.reason.Reason.TheVariants.{NoCommand, NoId, NoLoad, BadClients, BadOp, BadOps, ExtraWord}
@@ -40,6 +42,14 @@ load_command at (word ∷ clients ∷ ops ∷ []) = load_of at clients ops
 load_command at (word ∷ clients ∷ ops ∷ more ∷ words) = Err (record { reason = ExtraWord; at = at + 3 })
 load_command at words = Err (record { reason = NoLoad; at = at })
 
+-- lines in words, or in hexadecimal, by the words behind the command with this index
+abbrev pub lines_by : ℕ → Option Direction → Result Command Fault
+lines_by at (Some way) = Ok (Lines way)
+lines_by at None = Err (record { reason = ExtraWord; at = at })
+
+abbrev pub lines_command : ℕ → List (List ℕ) → Result Command Fault
+lines_command at more = lines_by (at + length more) (direction_of more)
+
 abbrev pub op_command : ℕ → Option (List ℕ) → Result Command Fault
 op_command at (Some op) = Ok (Execute op)
 op_command at None = Err (record { reason = BadOp; at = at })
@@ -51,6 +61,7 @@ command_of op_of at (word ∷ words) =
     if is_text (codes "repl") word then one_word at (word ∷ words) Repl
     else if is_text (codes "status") word then one_word at (word ∷ words) Status
     else if is_text (codes "load") word then load_command at (word ∷ words)
+    else if is_text (codes "words") word then lines_command at words
     else if is_turned word then Ok (Turn at)
     else op_command at (op_of (word ∷ words))
 

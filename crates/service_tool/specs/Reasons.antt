@@ -6,7 +6,7 @@ use Rattle.service_tool.specs.declared.reason.Reason.TheVariants.{BadId, BadObse
 use Rattle.service_tool.specs.declared.reason.Reason.TheVariants.{ExtraWord, LongInput}
 
 abbrev pub text_of : Reason → List ℕ
-text_of NoCommand = codes "want a command: an op, repl, status, load, op, text or result"
+text_of NoCommand = codes "want a command: an op, repl, status, load, op, text, result or words"
 text_of UnknownOption = codes "no such option: see --help"
 text_of NoValue = codes "want a value behind this option"
 text_of BadBase = codes "want a port from 1024 to 65000"

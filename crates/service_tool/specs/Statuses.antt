@@ -1,9 +1,11 @@
--- The status for each error of a call, and what is told of it.
+-- The status for each error of a call, of the input and of its lines, and what is told of it.
 use Rattle.std.specs.Prelude.{ℕ, List, codes, ⊤}
 use Rattle.client_call.specs.declared.errors.CallError.{CallError}
 use Rattle.client_call.specs.declared.errors.CallError.TheVariants as errors
 use Rattle.line_reader.specs.declared.read_error.ReadError.{ReadError}
 use Rattle.line_reader.specs.declared.read_error.ReadError.TheVariants as reads
+use Rattle.service_words.specs.declared.error.WordsError.{WordsError}
+use Rattle.service_words.specs.declared.error.WordsError.TheVariants as words
 use Rattle.service_tool.specs.declared.status.Status.{Status}
 use Rattle.service_tool.specs.declared.status.Status.TheVariants as statuses
 
@@ -16,6 +18,12 @@ status_of errors.NoMemory = statuses.NoMemory
 abbrev pub read_status : ReadError → Status
 read_status reads.ReadFault = statuses.ReadFault
 read_status reads.NoMemory = statuses.NoMemory
+
+abbrev pub words_status : WordsError → Status
+words_status (words.Refused line) = statuses.Refuted
+words_status words.ReadFault = statuses.ReadFault
+words_status words.WriteFault = statuses.WriteFault
+words_status words.NoMemory = statuses.NoMemory
 
 abbrev pub call_text : CallError → List ℕ
 call_text errors.PortFault = codes "the client's port is in use, or its number was used before: take one that never was"
@@ -32,4 +40,5 @@ read_text reads.NoMemory = codes "memory ran out"
 abbrev pub IsOfCall : Status → Type 0
 IsOfCall statuses.ReadFault = ⊥
 IsOfCall statuses.WriteFault = ⊥
+IsOfCall statuses.Refuted = ⊥
 IsOfCall status = ⊤

@@ -2,7 +2,7 @@
 
 ghost use Rattle.std.specs.Prelude.{◌≡◌, ◌+◌, ◌<◌, ◌^◌, IfOk, length};
 ghost use Rattle.service_tool.specs.Asked.{asked_by, asked_of, command_of, is_turned, needs_id};
-ghost use Rattle.service_tool.specs.Asked.{ends_in_help, load_command, load_of, one_word, op_command};
+ghost use Rattle.service_tool.specs.Asked.{ends_in_help, lines_command, load_command, load_of, one_word, op_command};
 
 use crate::options::{Options, options_in};
 use crate::reason::{Fault, Reason};
@@ -10,6 +10,7 @@ use call_words::number_in;
 use line_fields::is_word;
 use nop_types::{Bytes, MAX_CLIENTS, NoMemory, Op};
 use op_text::OpText;
+use service_words::{Direction, direction_of};
 use std::alloc::Global;
 
 /// What a tool does.
@@ -28,6 +29,8 @@ pub enum Command {
     Load(u32, u64),
     /// The words from this index on are turned: an op into bytes, or bytes into words.
     Turn(usize),
+    /// The lines of the input are written in words, or in hexadecimal.
+    Lines(Direction),
 }
 
 /// A command, and what the options before it say.
@@ -106,6 +109,20 @@ fn load_command(at: usize, words: &[Bytes]) -> Result<Command, Fault>
     }
 }
 
+/// The command `words` that has this index, with the words behind it.
+fn lines_command(at: usize, more: &[Bytes]) -> Result<Command, Fault>
+    requires { at + length more.now < 2 ^ 64 }
+    ensures { result ≡ lines_command at more.now }
+{
+    match direction_of(more) {
+        Some(way) => Ok(Command::Lines(way)),
+        None => Err(Fault {
+            reason: Reason::ExtraWord,
+            at: at + more.len(),
+        }),
+    }
+}
+
 fn op_command(at: usize, op: Option<Op>) -> Result<Command, Fault>
     ensures { result ≡ op_command at op }
 {
@@ -127,7 +144,7 @@ fn command_of<T: OpText>(
     requires { at + length words.now < 2 ^ 64 }
     ensures { IfOk result (λ r. r ≡ command_of T.op_of at words.now) }
 {
-    let [word, ..] = words else {
+    let [word, more @ ..] = words else {
         return Ok(Err(Fault {
             reason: Reason::NoCommand,
             at,
@@ -141,6 +158,9 @@ fn command_of<T: OpText>(
     }
     if is_word(word.as_slice(), "load") {
         return Ok(load_command(at, words));
+    }
+    if is_word(word.as_slice(), "words") {
+        return Ok(lines_command(at, more));
     }
     if is_turned(word.as_slice()) {
         return Ok(Ok(Command::Turn(at)));

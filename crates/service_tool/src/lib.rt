@@ -5,6 +5,7 @@
 //!     kv --id 9 repl < ops           the results of the ops of all lines, as they come
 //!     kv status                      who leads, and how far the service is
 //!     kv --id 16 load 16 100000      a load, its rate and times
+//!     kv words < x.transcript        the lines of a transcript, with words in place of hexadecimal
 //!
 //! A program brings an `OpText` and a `Tool`, its name and its words. What it writes on standard
 //! output are results; why there is none, and what would be right, it tells on standard error.
@@ -20,7 +21,7 @@
 //! that an error comes exactly where a write failed, and ReadFault only where a read did. Of
 //! `tell_watch`: what is told of a watch that ended, with which status, exactly (`specs/Watched`).
 //! What `status` shows is said at the head of `watching`, what `load` does at that of
-//! `service_load`.
+//! `service_load`, what becomes of lines at that of `service_words`.
 //!
 //! Calls, for `tool_program`: `told`, `run_command` and `tell_watch`, with `Tool` and `Row`. Files:
 //! `options`, `asked`, `reason` (the words), `telling` (texts), `status`, `calling` and `repl` (ops),

@@ -44,7 +44,8 @@ impl Reason {
         ensures { result.now ≡ text_of self }
     {
         match self {
-            Reason::NoCommand => "want a command: an op, repl, status, load, op, text or result",
+            Reason::NoCommand =>
+                "want a command: an op, repl, status, load, op, text, result or words",
             Reason::UnknownOption => "no such option: see --help",
             Reason::NoValue => "want a value behind this option",
             Reason::BadBase => "want a port from 1024 to 65000",

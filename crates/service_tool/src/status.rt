@@ -1,8 +1,9 @@
 ghost use Rattle.std.specs.Prelude.{◌≡◌};
-ghost use Rattle.service_tool.specs.Statuses.{call_text, read_status, read_text, status_of};
+ghost use Rattle.service_tool.specs.Statuses.{call_text, read_status, read_text, status_of, words_status};
 
 use client_call::CallError;
 use line_reader::ReadError;
+use service_words::WordsError;
 
 /// How a tool ends; the number is its exit status, as that of `nopaxos`.
 #[derive(Clone, Copy, PartialEq, Eq)]
@@ -19,6 +20,8 @@ pub enum Status {
     NoMemory = 6,
     /// The turns of an op ended. It may still be executed.
     Unanswered = 7,
+    /// A line of the input is too long to be written in words, or one too many.
+    Refuted = 8,
 }
 
 impl From<CallError> for Status {
@@ -40,6 +43,19 @@ impl From<ReadError> for Status {
         match e {
             ReadError::ReadFault => Status::ReadFault,
             ReadError::NoMemory => Status::NoMemory,
+        }
+    }
+}
+
+impl From<WordsError> for Status {
+    ghost from_gives = { λ e s. s ≡ words_status e };
+
+    fn from(e: WordsError) -> Status {
+        match e {
+            WordsError::Refused { .. } => Status::Refuted,
+            WordsError::ReadFault => Status::ReadFault,
+            WordsError::WriteFault => Status::WriteFault,
+            WordsError::NoMemory => Status::NoMemory,
         }
     }
 }

@@ -1,4 +1,4 @@
--- What the arguments of a program ask for.
+-- What the words behind a command ask for.
 use Rattle.std.specs.Prelude.{ℕ, List, [], ◌∷◌, Option, Some, None, codes, if◌then◌else◌}
 use Rattle.line_fields.specs.Fields.{is_text}
 use Rattle.service_words.specs.declared.direction.Direction.{Direction}

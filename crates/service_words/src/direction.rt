@@ -11,12 +11,12 @@ pub enum Direction {
     ToHex,
 }
 
-/// What the arguments of a program ask for: nothing is to words, `--back` to hexadecimal; None for any
+/// What the words behind a command ask for: none is to words, `--back` to hexadecimal; None for any
 /// others.
-pub fn direction_of(arguments: &[Bytes]) -> Option<Direction>
-    ensures { result ≡ direction_of arguments.now }
+pub fn direction_of(words: &[Bytes]) -> Option<Direction>
+    ensures { result ≡ direction_of words.now }
 {
-    match arguments {
+    match words {
         [] => Some(Direction::ToWords),
         [word] if is_word(word.as_slice(), "--back") => Some(Direction::ToHex),
         _ => None,

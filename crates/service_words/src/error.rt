@@ -1,6 +1,3 @@
-ghost use Rattle.std.specs.Prelude.{◌≡◌};
-ghost use Rattle.service_words.specs.Errors.{status_of};
-
 use line_reader::ReadError;
 use nop_types::NoMemory as OutOfMemory;
 use outside::WriteError;
@@ -50,34 +47,6 @@ impl From<WriteError> for WordsError {
         match e {
             WriteError::Failed => WordsError::WriteFault,
             WriteError::NoMemory => WordsError::NoMemory,
-        }
-    }
-}
-
-/// How such a program ends; the number is its exit status, as that of `nopaxos`.
-#[derive(Clone, Copy, PartialEq, Eq)]
-pub enum Status {
-    /// All lines were written.
-    Done = 0,
-    /// The arguments are none of those that a program takes.
-    Usage = 2,
-    ReadFault = 3,
-    WriteFault = 4,
-    NoMemory = 6,
-    /// A line is too long.
-    Refuted = 8,
-}
-
-impl WordsError {
-    /// The status of a program that met it.
-    pub fn status(self) -> Status
-        ensures { result ≡ status_of self }
-    {
-        match self {
-            WordsError::Refused { .. } => Status::Refuted,
-            WordsError::ReadFault => Status::ReadFault,
-            WordsError::WriteFault => Status::WriteFault,
-            WordsError::NoMemory => Status::NoMemory,
         }
     }
 }

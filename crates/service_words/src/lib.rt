@@ -13,12 +13,11 @@
 //! at no other answer. Law `words_are_read_back`: a line that was changed into words is what it was
 //! once it is in hexadecimal again, whatever the service says of words.
 //!
-//! Calls: `run_program`, for the programs `kv_words` and `lock_words`; `translate`; `direction_of`, for the
-//! arguments of a program; `ResultText`, for a service; `fields_of` and `is_too_much`, of a line, for
-//! `service_tool`, which takes lines too.
+//! Calls: `translate`, for `tool_program`; `direction_of`, for the words behind a command; `ResultText`,
+//! for a service; `fields_of` and `is_too_much`, of a line, for `service_tool`, which takes lines too.
 //!
-//! Files, in reading order: `row`, `result_text`, `fields`, `line`; `error`, `running`; `direction`,
-//! `program`; `laws`.
+//! Files, in reading order: `row`, `result_text`, `fields`, `line`; `error`, `running`; `direction`;
+//! `laws`.
 #![tactic(auto)]
 
 mod direction;
@@ -27,16 +26,14 @@ mod fields;
 mod laws;
 mod limits;
 mod line;
-mod program;
 mod result_text;
 mod row;
 mod running;
 
 pub use direction::{Direction, direction_of};
-pub use error::{Status, WordsError};
+pub use error::WordsError;
 pub use fields::fields_of;
 pub use laws::words_are_read_back;
 pub use limits::MAX_TEXT_LINES;
-pub use program::run_program;
 pub use result_text::ResultText;
 pub use running::{is_too_much, translate};

@@ -15,6 +15,7 @@ use op_text::{OpText, Words};
 use outside::{WriteError, WriteMem, write_all};
 use roll_call::Roll;
 use service_tool::{Asked, Command, Options, Row, Status, Tool, run_command, tell_watch, told};
+use service_words::{Direction, ResultText, WordsError, translate};
 use standard_io::{StandardIn, StandardOut};
 use std::fs;
 use std::io::ErrorKind;
@@ -302,6 +303,34 @@ fn turn<T: OpText>(
     }
 }
 
+/// Tells why not all lines were written.
+fn complain(rt: &HostRuntime, tool: &Tool<'_>, e: WordsError) -> Status {
+    match e {
+        WordsError::Refused { line } => {
+            match format!(in rt.alloc(); "line {line} has more than 4096 bytes") {
+                Ok(reason) => tell(rt, tool, reason.as_str(), Status::from(e)),
+                Err(_) => Status::NoMemory,
+            }
+        }
+        WordsError::ReadFault => tell(rt, tool, "the input can't be read", Status::from(e)),
+        WordsError::WriteFault | WordsError::NoMemory => Status::from(e),
+    }
+}
+
+/// Writes the lines of standard input in words, or in hexadecimal.
+fn turn_lines<T: OpText, P: ResultText>(
+    rt: &HostRuntime,
+    tool: &Tool<'_>,
+    direction: Direction,
+) -> Status {
+    let mut source = StandardIn::new(rt.reader());
+    let mut out = StandardOut::new(std::io::writer(rt));
+    match translate::<T, P, _, _>(rt.alloc(), direction, &mut source, &mut out) {
+        Ok(()) => Status::Done,
+        Err(e) => complain(rt, tool, e),
+    }
+}
+
 /// Does what is asked for, at the places of a list of hosts, or at the ports of this machine.
 fn run_at<T: OpText>(
     rt: &HostRuntime,
@@ -329,16 +358,20 @@ fn run_at<T: OpText>(
 }
 
 /// Does what is asked for.
-fn run_asked<T: OpText>(
+fn run_asked<T: OpText, P: ResultText>(
     rt: &HostRuntime,
     tool: &Tool<'_>,
     load: &[&[&str]],
     words: &[Bytes],
     asked: &Asked,
 ) -> Status {
-    if let Command::Turn(at) = asked.command {
-        let (_options, turned) = words.split_at(at.min(words.len()));
-        return status_of(turn::<T>(rt, tool, turned));
+    match asked.command {
+        Command::Turn(at) => {
+            let (_options, turned) = words.split_at(at.min(words.len()));
+            return status_of(turn::<T>(rt, tool, turned));
+        }
+        Command::Lines(direction) => return turn_lines::<T, P>(rt, tool, direction),
+        _ => {}
     }
     match asked.options.hosts {
         None => run_at::<T>(rt, tool, load, None, asked),
@@ -350,7 +383,7 @@ fn run_asked<T: OpText>(
 }
 
 /// Does what the words ask for, but for the first one, which is the program's name.
-fn run_words<T: OpText>(
+fn run_words<T: OpText, P: ResultText>(
     rt: &HostRuntime,
     tool: &Tool<'_>,
     load: &[&[&str]],
@@ -362,7 +395,7 @@ fn run_words<T: OpText>(
     let mut out = StandardOut::new(std::io::writer(rt));
     let mut err = StandardOut::new(rt.stderr());
     match told::<T, _, _>(rt.alloc(), tool, words.as_slice(), &mut out, &mut err) {
-        Ok(Ok(asked)) => run_asked::<T>(rt, tool, load, words.as_slice(), &asked),
+        Ok(Ok(asked)) => run_asked::<T, P>(rt, tool, load, words.as_slice(), &asked),
         Ok(Err(status)) => status,
         Err(WriteError::Failed) => Status::WriteFault,
         Err(WriteError::NoMemory) => Status::NoMemory,
@@ -386,7 +419,7 @@ fn words_in(rt: &HostRuntime, tool: &Tool<'_>) -> Result<Vec<String>, Status> {
 
 /// The program of a tool, whose rows are the ops of a service: does what the command line asks for,
 /// and ends with its status. A load consists of the ops of these words, at least one.
-pub fn run_tool<T: OpText>(
+pub fn run_tool<T: OpText, P: ResultText>(
     rt: &HostRuntime,
     program: &str,
     ops: &[Row<'_>],
@@ -400,7 +433,7 @@ pub fn run_tool<T: OpText>(
         rows: &rows,
     };
     let status = match words_in(rt, &tool) {
-        Ok(words) => run_words::<T>(rt, &tool, load, &words),
+        Ok(words) => run_words::<T, P>(rt, &tool, load, &words),
         Err(status) => status,
     };
     ExitCode::from(status as u8)

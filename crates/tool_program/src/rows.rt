@@ -37,6 +37,11 @@ const COMMON: &[Row<'static>] = &[
         about: "gives the words of a result",
     },
     Row {
+        word: "words",
+        form: "words [--back]",
+        about: "gives the lines of standard input, of a schedule, a transcript or a trace, with words in place of hexadecimal",
+    },
+    Row {
         word: "--id",
         form: "--id ID",
         about: "the client's number, which was never used before; every op wants one",

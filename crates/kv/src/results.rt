@@ -1,7 +1,7 @@
 //! Results of the key-value service, read from words.
 
 ghost use Rattle.std.specs.Prelude.{◌≡◌, IfOk};
-ghost use Rattle.kv_words.specs.Results.{result_of, value_of};
+ghost use Rattle.kv.specs.Results.{result_of, value_of};
 
 use nop_types::{Bytes, NoMemory};
 use op_text::bytes_of;

@@ -2,7 +2,7 @@
 
 ghost use Rattle.std.specs.Prelude.{◌≡◌, ◌++◌, IfOk};
 ghost use Rattle.lock_host.specs.Fields.{number_bytes};
-ghost use Rattle.lock_words.specs.Results.{granted_of, held_of, result_of};
+ghost use Rattle.locks.specs.Results.{granted_of, held_of, result_of};
 
 use line_fields::{is_word, number};
 use nop_types::{Bytes, NoMemory};
