@@ -1,18 +1,19 @@
 #!/bin/sh
 # Measures what the gate takes from nothing: what .ci/run does, with `rt ci --anew`, over a clone of what is committed, in a temporary
-# folder, whose processes are watched while it runs. Each check has one job, as there. It writes the table docs/GATE-TIMES.md.
+# folder, whose processes are watched while it runs. Each check has one job, as there. The table goes to standard output; what was last
+# seen, and why, is in docs/GATE-TIMES.md.
 #
 #   bench/gate-times.sh [CRATE..]
 #
-# With names it measures `rt ci` alone over these crates and those below them, and the table goes to standard output. For figures that
-# mean something nothing else runs on the machine. Checks beside each other slow each other down, since they share the memory: under
-# `taskset -c 0,1` two go on at a time, as on a machine with two processors.
+# With names it measures `rt ci` alone over these crates and those below them. For figures that mean something nothing else runs on the
+# machine. Checks beside each other slow each other down, since they share the memory: under `taskset -c 0,1` two go on at a time, as on a
+# machine with two processors.
 #
 # A crate has the seconds of all its processes together, each with the last figures that were seen of it, five times a second, and the
 # memory of its largest process. Proof: the crate itself, and what builds a program. Tests: the crate proved once more with its tests, and
-# what builds them. Edits: each must-fail edit. What `rt` does beside them, runs of tests and programs, and checks/*.sh are in the last line alone. Lines of code have
-# the contracts and no tests. Crates that take less than 100 seconds in all stand in one row. `rt selftest`, which proves and builds one example of the toolchain, runs first, and its seconds stand below the
-# table: how fast the machine is by itself.
+# what builds them. Edits: each must-fail edit. What `rt` does beside them, runs of tests and programs, and checks/*.sh are in the last
+# line alone. Lines of code have the contracts and no tests. Crates that take less than 100 seconds in all stand in one row. `rt selftest`,
+# which proves and builds one example of the toolchain, runs first, and its seconds stand below the table: how fast the machine is by itself.
 set -eu
 
 exec python3 - "$(cd "$(dirname "$0")/.." && pwd)" "$@" <<'PYTHON'
@@ -140,21 +141,8 @@ try:
     whole = f"The whole run: {clock:.0f} minutes by the clock, {minutes:.0f} processor minutes on {processors} processors,\n"
     whole += f"with {given['RT_JOBS']} checks beside each other, each with one job; `{verdict}`. By itself\n"
     whole += f"`rt selftest`, an example of the toolchain, takes {example:.0f} processor seconds on this machine."
-    if names:
-        print(table_of(seen, [it for it in crates if any(key[0] == it for key, _, _ in seen.values())]))
-        print("\n" + whole)
-    else:
-        with open(root + "/docs/GATE-TIMES.md", "w", encoding="utf-8") as file:
-            file.write(f"""# Times of the gate
-
-Lines, and what the gate takes for each crate from nothing, in seconds of all processors together, as `bench/gate-times.sh`
-saw it: the proof of the crate, for a program (`nopaxos`, `spacetime`) with what builds it twice; its must-fail edits; its
-tests, with the crate proved once more and what builds them. Lines of code have the contracts and no tests.
-
-{table_of(seen, crates)}
-
-{whole}
-""")
+    print(table_of(seen, [it for it in crates if any(key[0] == it for key, _, _ in seen.values())]))
+    print("\n" + whole)
 finally:
     shutil.rmtree(folder, ignore_errors=True)
 PYTHON
