@@ -20,8 +20,6 @@
 mod asking;
 mod laws;
 mod near_observer;
-#[cfg(test)]
-mod tests;
 
 pub use laws::positions_never_fall;
 pub use near_observer::NearObserver;

@@ -1,7 +1,8 @@
 //! An observer of three replicas. What is expected was worked out from the rules of the protocol
 //! and from its formats.
-use crate::NearObserver;
+
 use kv_host::KvHost;
+use near_observer::NearObserver;
 use nop_types::{Config, Key};
 use std::alloc::Global;
 use std::process::Abort;
