@@ -1,3 +1,4 @@
+pub mod AsItIs
 pub mod Behinds
 pub mod Readings
 pub mod RowLemmas

@@ -1,3 +1,4 @@
+pub mod AsRead
 pub mod Claims
 pub mod Reading
 pub mod Steps

@@ -10,7 +10,7 @@ use Rattle.line_reader.specs.declared.first_line.FirstLine.{FirstLine}
 use Rattle.nop_types.specs.Headers.{is_header}
 use Rattle.nop_types.specs.declared.header.Header.{Header}
 use Rattle.nop_types.specs.declared.limits.TheConstants.{MAX_LINE_BYTES}
-use Rattle.transcript_reader.specs.Steps.{SoFar, nothing_yet, so_far, step, run}
+use Rattle.transcript_reader.specs.Steps.{SoFar, so_far, step, run}
 use Rattle.transcript_reader.specs.Transcripts.{AllFit, Transcript, Spells, places_of, said, transcript_lines}
 use Rattle.transcript_reader.specs.declared.check_error.CheckError.{CheckError}
 use Rattle.transcript_reader.specs.declared.check_error.CheckError.TheVariants.{Refuted, ReadFault, NoMemory}
@@ -93,11 +93,6 @@ pub record RefusesLine (all : List ℕ) (was_ended : Bool) (line clause : ℕ) :
 
 -- ---- steps
 
--- a text is the row that comes next, or no row that may
-abbrev pub IsTaken : ℕ → List ℕ → SoFar → SoFar → Bool → Type 0
-IsTaken line text old new true = (row : Row) × RowFits row × (row_text row ≡ whole text) × (step line old row ≡ Some new)
-IsTaken line text old new false = IsMisplaced line (After old) text
-
 -- a line that is whole was taken
 pub record Advances (old new : Reading) (first : FirstLine) : Type 0 where
   pub fits : old.line < MAX_TRANSCRIPT_LINES
@@ -108,11 +103,6 @@ pub record Advances (old new : Reading) (first : FirstLine) : Type 0 where
   pub pending : new.pending ≡ drop first.end old.pending
   pub ended : new.ended ≡ old.ended
 
-abbrev pub RefusesFirst : Reading → FirstLine → Place → CheckError → Type 0
-RefusesFirst r first place (Refuted line clause) = (line ≡ r.line + 1) × RefusesCut r.line place (cut_of first r.pending) clause
-RefusesFirst r first place ReadFault = ⊥
-RefusesFirst r first place NoMemory = ⊤
-
 -- ---- the whole
 
 -- bytes went from the source, and the source has none left where it ended
@@ -120,17 +110,7 @@ pub record Went (before left : Option (List ℕ)) (all : List ℕ) (ended : Bool
   pub source : Consumes before left all
   pub end : ended ≡ true → IsEnd before left
 
--- what was read behind the first line
-pub record Reads (before left : Option (List ℕ)) (r : Reading) (s : SoFar) : Type 0 where
-  pub all : List ℕ
-  pub went : Went before left all r.ended
-  pub texts : List (List ℕ)
-  pub behind : Behind texts all r
-  pub header : Header
-  pub rows : List Row
-  pub admits : Admits texts header rows s
-
--- before it
+-- what was read before the first line
 pub record ReadsNone (before left : Option (List ℕ)) (r : Reading) : Type 0 where
   pub all : List ℕ
   pub went : Went before left all r.ended
@@ -187,14 +167,3 @@ abbrev pub IsNoLine : Reading → CheckError → Type 0
 IsNoLine r (Refuted line clause) = ⊥
 IsNoLine r ReadFault = (r.ended ≡ false) × (lines_before r false [] ≡ [])
 IsNoLine r NoMemory = ⊤
-
--- the first line was taken
-abbrev pub ReadsFirst : Option (List ℕ) → Option (List ℕ) → Reading → Type 0
-ReadsFirst before left r = Reads before left r nothing_yet
-
--- the transcript is whole, or its last line is missing
-abbrev pub IsFinished : SoFar → ℕ → Result (Taken × ℕ) CheckError → Type 0
-IsFinished s lines (Ok p) = (so_far p.0 ≡ s) × (p.1 ≡ lines) × (s.part ≡ Over)
-IsFinished s lines (Err (Refuted line clause)) = (line ≡ lines + 1) × (clause ≡ 2) × (s.part ≡ Over → ⊥)
-IsFinished s lines (Err ReadFault) = ⊥
-IsFinished s lines (Err NoMemory) = ⊥

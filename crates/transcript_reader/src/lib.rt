@@ -14,9 +14,11 @@
 //! transcripts that they spell say the same (`laws`).
 //!
 //! `read_transcript` is the call, for `judge`. It keeps nothing of a line that claims nothing.
+//! `read_rows` is the same over any `RowTaker`, which may read a line as another text, for
+//! `unnoted_reader`; what it answers is in `specs/AsRead`.
 //!
-//! To read in this order: `read`, `taking`, `taken`; then `specs/Transcripts`, `specs/Steps`,
-//! `specs/Reading`.
+//! To read in this order: `read`, `taking`, `row_taker`, `taken`; then `specs/Transcripts`,
+//! `specs/Steps`, `specs/Reading`, `specs/AsRead`.
 #![tactic(auto)]
 
 mod check_error;
@@ -25,6 +27,7 @@ mod laws;
 mod limits;
 mod part;
 mod read;
+mod row_taker;
 mod taken;
 mod taking;
 
@@ -33,5 +36,6 @@ pub use claim::Claim;
 pub use laws::{read_in_one_way, written_is_not_refused};
 pub use limits::MAX_TRANSCRIPT_LINES;
 pub use part::Part;
-pub use read::read_transcript;
+pub use read::{read_rows, read_transcript};
+pub use row_taker::RowTaker;
 pub use taken::Taken;

@@ -1,20 +1,24 @@
 -- What a row adds to the claims, and to their marks.
-use Rattle.std.proofs.Common.{◌≡◌, ◌∙◌, ◌≤◌, ◌<◌, ℕ, ◌+◌, Bool, true, false, List, [], ◌∷◌, ◌++◌, length, map, Option, Some, None, refl, sym, ap, append-nil, arith, inl, inr}
+use Rattle.std.proofs.Common.{◌≡◌, ◌∙◌, ◌≤◌, ◌<◌, ℕ, ◌+◌, Bool, true, false, List, [], ◌∷◌, ◌++◌, length, map, Option, Some, None, refl, sym, ap, append-nil, append_assoc, arith, inl, inr}
 use Rattle.std.specs.Prelude.{◌⊎◌, ◌==◌, if◌then◌else◌, IfOk, Result, Ok, Err}
 use Rattle.std.proofs.Common.{length-append}
 use Rattle.std.proofs.lemmas.List.{length-map}
 use Rattle.nop_types.specs.Lines.{Line}
 use Rattle.transcript_reader.specs.Steps.{SoFar, event_step, is_events, is_over, may_have_observers, may_have_states}
-use Rattle.transcript_reader.specs.Steps.{step, IsStep}
-use Rattle.transcript_reader.proofs.RowLemmas.{same_row}
+use Rattle.transcript_reader.specs.Steps.{so_far, step, IsStep}
+use Rattle.transcript_reader.proofs.RowLemmas.{taken_row, no_row}
+use Rattle.transcript_reader.specs.AsRead as rows
+use Rattle.transcript_reader.specs.AsRead.{IsTaken}
+use Rattle.transcript_reader.specs.Claims.{line_of}
 use Rattle.transcript_reader.specs.Reading.{whole}
 use Rattle.transcript_reader.specs.Transcripts.{said_by}
 use Rattle.transcript_rows.specs.declared.row.Row.{Row}
 use Rattle.transcript_rows.specs.declared.row.Row.TheVariants.{Dead, Submit, Accept, Busy, Read, Answer, Sent, State, Slot, Watching}
 use Rattle.transcript_rows.specs.declared.row.Row.TheVariants.{Member, End}
 use Rattle.transcript_rows.specs.Rows.{RowFits, row_text}
-use Rattle.unnoted_reader.specs.Reading.{IsTaken, TakesRow}
-use Rattle.unnoted_reader.specs.Unnoted.{as_read, is_unnoted}
+use Rattle.unnoted_reader.specs.Reading.{IsTranscript, KeepsMarks, TakesRow, read_so_far}
+use Rattle.unnoted_reader.specs.Unnoted.{as_read, is_unnoted, marks_of}
+use Rattle.unnoted_reader.specs.declared.unnoted.Unnoted.{Unnoted}
 
 if_some : (b : Bool) (s n : SoFar) → (if b then Some s else None) ≡ Some n → s ≡ n
 if_some true s n e = cc
@@ -95,24 +99,59 @@ pub not_stepped : (o : Option SoFar) (took : Bool) (n : SoFar) → took ≡ fals
 not_stepped (Some s) took n e h = let t : true ≡ false = sym h.0 ∙ e in absurd cc
 not_stepped None took n e h = refl
 
--- each claim has a mark
-pub taken_marks : (line : ℕ) (text : List ℕ) (old new : SoFar) (marks marks_now : List Bool)
-    → IsTaken line text old marks new marks_now true → length marks ≡ length old.said → length marks_now ≡ length new.said
-taken_marks line text old new marks marks_now took e =
-    let row = took.0 in
-    let claims = said_count line old row new took.3 (is_unnoted text) in
-    let now = ap length took.4 ∙ length-append marks (map (λ l. is_unnoted text) (said_by row)) in
-    omega (arith, claims, now, e, length-map (said_by row) (λ (l : Line). is_unnoted text))
+marks_push : (texts : List (List ℕ)) (rows : List Row) (text : List ℕ) (row : Row) → length texts ≡ length rows
+    → marks_of (texts ++ text ∷ []) (rows ++ row ∷ []) ≡ marks_of texts rows ++ map (λ l. is_unnoted text) (said_by row)
+marks_push [] [] text row e = append-nil (map (λ l. is_unnoted text) (said_by row))
+marks_push [] (r ∷ rows) text row e = absurd cc
+marks_push (t ∷ texts) [] text row e = absurd cc
+marks_push (t ∷ texts) (r ∷ rows) text row e =
+    ap (λ (xs : List Bool). map (λ l. is_unnoted t) (said_by r) ++ xs) (marks_push texts rows text row (omega (arith, e)))
+    ∙ sym (append_assoc (map (λ l. is_unnoted t) (said_by r)) (marks_of texts rows) (map (λ l. is_unnoted text) (said_by row)))
 
 -- the row of a text as it is read was taken, with its mark
-module _ (line : ℕ) (text : List ℕ) (row : Row) (unnoted : Bool) (old new : SoFar) (marks marks_now : List Bool) (fits : RowFits row)
+module _ (line : ℕ) (text : List ℕ) (row : Row) (unnoted : Bool) (old new : Unnoted) (fits : RowFits row)
     (same : row_text row ≡ whole (as_read text)) (mark : unnoted ≡ is_unnoted text) where
-  by_row : (took : Bool) → TakesRow line row unnoted old marks new marks_now took → IsTaken line text old marks new marks_now took
-  by_row true h =
-      (row, fits, same, h.0, h.1 ∙ ap (λ (b : Bool). marks ++ map (λ (l : Line). b) (said_by row)) mark)
-  by_row false h = λ r r_fits r_is. ap (step line old) (same_row r row (as_read text) r_fits fits r_is same) ∙ h
+  -- each claim has its mark
+  keeps_marks : step line (so_far old.taken) row ≡ Some (so_far new.taken)
+      → new.marks.items ≡ old.marks.items ++ map (λ l. is_unnoted text) (said_by row) → (texts : List (List ℕ)) (rows : List Row)
+      → length texts ≡ length rows → KeepsMarks old texts rows → KeepsMarks new (texts ++ text ∷ []) (rows ++ row ∷ [])
+  keeps_marks taken now texts rows count keeps =
+      let claims = said_count line (so_far old.taken) row (so_far new.taken) taken (is_unnoted text) in
+      let more = ap length now ∙ length-append old.marks.items (map (λ l. is_unnoted text) (said_by row)) in
+      let as_many = keeps.1 in (
+        now ∙ ap (λ (xs : List Bool). xs ++ map (λ l. is_unnoted text) (said_by row)) keeps.0 ∙ sym (marks_push texts rows text row count),
+        omega (arith, claims, more, as_many, length-map (said_by row) (λ (l : Line). is_unnoted text)),
+      )
 
-  pub row_is_taken : {E : Type 0} (r : Result Bool E) → IfOk r (TakesRow line row unnoted old marks new marks_now)
-      → IfOk r (IsTaken line text old marks new marks_now)
+  by_row : (took : Bool) → TakesRow line row unnoted (so_far old.taken) old.marks.items (so_far new.taken) new.marks.items took
+      → IsTaken as_read read_so_far KeepsMarks line text old new took
+  by_row true h =
+      taken_row as_read read_so_far KeepsMarks line text row old new fits same h.0
+      (keeps_marks h.0 (h.1 ∙ ap (λ (b : Bool). old.marks.items ++ map (λ (l : Line). b) (said_by row)) mark))
+  by_row false h = no_row as_read read_so_far KeepsMarks line text row old new fits same h
+
+  pub row_is_taken : {E : Type 0} (r : Result Bool E)
+      → IfOk r (TakesRow line row unnoted (so_far old.taken) old.marks.items (so_far new.taken) new.marks.items)
+      → IfOk r (IsTaken as_read read_so_far KeepsMarks line text old new)
   row_is_taken (Ok took) h = by_row took h
   row_is_taken (Err e) h = tt
+
+-- ---- the whole
+
+module _ (before left : Option (List ℕ)) (u : Unnoted) (count : ℕ)
+    (read : rows.IsTranscript as_read read_so_far KeepsMarks before left u count) where
+  pub transcript : IsTranscript before left (so_far u.taken) u.marks.items
+  transcript = record {
+    first = read.first;
+    texts = read.texts;
+    went = read.went;
+    transcript = read.transcript;
+    spells = read.spells;
+    claims = read.claims;
+    places = read.places;
+    history = read.history;
+    marks_are = read.keeps.0;
+  }
+
+  pub marks_count : length u.marks.items ≡ length u.taken.claims.items
+  marks_count = read.keeps.1 ∙ length-map u.taken.claims.items line_of

@@ -3,7 +3,8 @@
 //!
 //! A line that begins `accept ` and ends in `?` is read with `-`, the result of no byte, in its place (`as_read`
 //! in `specs/Unnoted`), and its claim has a mark. All else is as in `transcript_reader`, whose definitions are
-//! cited: which row may come where, and which line breaks a clause.
+//! cited: which row may come where, and which line breaks a clause. The reader is its `read_rows`, over an
+//! `Unnoted`, which takes rows as they are read.
 //!
 //! Proved of `read_unnoted`: at Ok the source has none left; as they are read, its lines spell a transcript, of
 //! which the answer is the claims and the history (`specs/Reading`, `IsTranscript`), and each claim has a mark
@@ -11,7 +12,7 @@
 //! the first that breaks a clause. ReadFault, NoMemory and the count of faults are as in `transcript_reader`.
 //!
 //! For `linearize`. To read in this order: `read`, `taking`, `dash`, `unnoted`; then `specs/Unnoted`,
-//! `specs/Reading`.
+//! `specs/Reading` and `transcript_reader`'s `specs/AsRead`.
 #![tactic(auto)]
 
 mod dash;
