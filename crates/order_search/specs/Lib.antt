@@ -5,5 +5,6 @@ pub mod Outcomes
 pub mod Placing
 pub mod Reads
 pub mod Searching
+pub mod States
 pub mod Turns
 pub mod Waiting

@@ -1,3 +1,5 @@
+//! Whether an answer agrees with what claims accept.
+
 ghost use Rattle.std.specs.Prelude.{◌≡◌, Some, length, slice_get, MatchBool};
 ghost use Rattle.nop_types.specs.Legality.{AcceptedOnce};
 ghost use Rattle.nop_types.specs.Lines.{Submit};

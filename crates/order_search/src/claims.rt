@@ -1,3 +1,5 @@
+//! The claims of a search by their places.
+
 ghost use Rattle.std.specs.Prelude.{◌≡◌, ◌<◌, Some, length, slice_get};
 ghost use Rattle.pairs.specs.Said.{said_by};
 ghost use Rattle.transcript_reader.specs.Claims.{line_of};

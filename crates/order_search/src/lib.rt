@@ -35,21 +35,24 @@
 //! each front a claim is passed once and a request tried once, and what is left of `most_steps` falls with each
 //! step (`steps_left`, `IsCounted`).
 //!
-//! Files, in reading order: `search`, where it stands and what a step does, with `step`, `agreeing`, `reads`
-//! and `claims`; `failed`, which alone knows the set of what is kept; `outcome` and `stopped`. Definitions:
-//! `specs/Searching` (`IsSearching`), then `Waiting`, `Placing`, `Reads`, `Failing`, `Agreeing`, `Turns`,
-//! `Outcomes`, `Bounds`.
+//! Files, in reading order: `search`, its state, with `step`; `finding`, the search as a whole; `turning`, one
+//! step; `placing`, with `agreeing`, `reads` and `claims`; `failed`, which alone knows the set of what is kept;
+//! `outcome` and `stopped`. Definitions: `specs/States` (`IsSearch`: what holds between two steps), `Searching`
+//! (`IsSearching`), then `Waiting`, `Placing`, `Reads`, `Failing`, `Agreeing`, `Turns`, `Outcomes`, `Bounds`.
 #![tactic(auto)]
 
 mod agreeing;
 mod claims;
 mod failed;
+mod finding;
 mod outcome;
+mod placing;
 mod reads;
 mod search;
 mod step;
 mod stopped;
+mod turning;
 
+pub use finding::find_order;
 pub use outcome::{Outcome, Placed};
-pub use search::find_order;
 pub use stopped::Stopped;

@@ -1,3 +1,5 @@
+//! A step of a search that can be taken back.
+
 /// One step of a search: a request was placed.
 #[derive(Drop)]
 pub(crate) struct Step<U> {

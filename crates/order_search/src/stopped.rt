@@ -1,3 +1,5 @@
+//! Why a search decided nothing.
+
 use nop_types::NoMemory as OutOfMemory;
 
 /// Why nothing was decided.

@@ -11,7 +11,7 @@ use Rattle.pairs.specs.Said.{said_by}
 pub index-requires : goal.index-requires
 index-requires g c =
     let l = slice_get_within (said_by c.args.claims.now) c.args.self.now.line _ c.requires.line.1 in
-    omega (arith, l, c.requires.paired.submits_length, length_said c.args.claims.now)
+    omega (arith, l, c.requires.input.paired.submits_length, length_said c.args.claims.now)
 
 pub index-requires-2 : goal.index-requires-2
 index-requires-2 g c =
@@ -20,13 +20,13 @@ index-requires-2 g c =
     let pairs = c.args.pairs.now in
     let old = c.args.self.now in
     let l = slice_get_within lines old.line _ c.requires.line.1 in
-    let within : old.line < length pairs.submits.items = omega (arith, l, c.requires.paired.submits_length, length_said claims) in
+    let within : old.line < length pairs.submits.items = omega (arith, l, c.requires.input.paired.submits_length, length_said claims) in
     let read = slice_get_read pairs.submits.items _ old.line c.index.result.now refl within c.index.ensures in
     let here = read ∙ ap (λ (t : Option ℕ). Some t) c.in-Some.is in
-    let x = submit_there lines (length claims) (length_said claims) pairs.accepts.items pairs.submits.items c.requires.paired old.line
+    let x = submit_there lines (length claims) (length_said claims) pairs.accepts.items pairs.submits.items c.requires.input.paired old.line
     c.in-Some.submit c.args.client c.args.id c.requires.line.0 c.requires.line.1 here in
     let n = slice_get_within lines c.in-Some.submit (Submit x.0) x.1 in
-    omega (arith, n, c.requires.searching.are_marked.count)
+    omega (arith, n, c.requires.search.searching.are_marked.count)
 
 pub returns : goal.returns
 returns g c =
@@ -35,16 +35,16 @@ returns g c =
     let pairs = c.args.pairs.now in
     let old = c.args.self.now in
     let l = slice_get_within lines old.line _ c.requires.line.1 in
-    let within : old.line < length pairs.submits.items = omega (arith, l, c.requires.paired.submits_length, length_said claims) in
+    let within : old.line < length pairs.submits.items = omega (arith, l, c.requires.input.paired.submits_length, length_said claims) in
     let read = slice_get_read pairs.submits.items _ old.line c.index.result.now refl within c.index.ensures in
     let here = read ∙ ap (λ (t : Option ℕ). Some t) c.in-Some.is in
-    let x = submit_there lines (length claims) (length_said claims) pairs.accepts.items pairs.submits.items c.requires.paired old.line
+    let x = submit_there lines (length claims) (length_said claims) pairs.accepts.items pairs.submits.items c.requires.input.paired old.line
     c.in-Some.submit c.args.client c.args.id c.requires.line.0 c.requires.line.1 here in
     let n = slice_get_within lines c.in-Some.submit (Submit x.0) x.1 in
-    let marked : c.in-Some.submit < length old.placed.items = omega (arith, n, c.requires.searching.are_marked.count) in
+    let marked : c.in-Some.submit < length old.placed.items = omega (arith, n, c.requires.search.searching.are_marked.count) in
     let mark = slice_get_read old.placed.items _ c.in-Some.submit c.index-2.result.now refl marked c.index-2.ensures in
     placed_or_stuck g.H.Host.meaning g.H.Host.undo_of lines (front_of lines old.steps.items) old.placed.items old.line c.in-Some.submit
-    c.args.client c.args.id c.requires.line.0 x.0 c.index-2.result.now c.requires.searching.are_marked c.requires.line.1 x.1 x.2 mark
+    c.args.client c.args.id c.requires.line.0 x.0 c.index-2.result.now c.requires.search.searching.are_marked c.requires.line.1 x.1 x.2 mark
 
 pub unreachable-requires : goal.unreachable-requires
 unreachable-requires g c =
@@ -53,9 +53,9 @@ unreachable-requires g c =
     let pairs = c.args.pairs.now in
     let old = c.args.self.now in
     let l = slice_get_within lines old.line _ c.requires.line.1 in
-    let within : old.line < length pairs.submits.items = omega (arith, l, c.requires.paired.submits_length, length_said claims) in
+    let within : old.line < length pairs.submits.items = omega (arith, l, c.requires.input.paired.submits_length, length_said claims) in
     let read = slice_get_read pairs.submits.items _ old.line c.index.result.now refl within c.index.ensures in
-    let s = c.requires.paired.founded old.line c.args.client c.args.id c.requires.line.0 (omega (arith, l, length_said claims))
+    let s = c.requires.input.paired.founded old.line c.args.client c.args.id c.requires.line.0 (omega (arith, l, length_said claims))
     c.requires.line.1 in
     let e : Some (Some s.place) ≡ Some None = sym s.there ∙ (read ∙ ap (λ (t : Option ℕ). Some t) c.in_default.is) in
     absurd cc

@@ -7,35 +7,50 @@ use Rattle.pairs.specs.Said.{said_by}
 use Rattle.transcript_reader.specs.Claims.{line_of}
 use Rattle.transcript_reader.specs.declared.claim.Claim.{Claim}
 
-pub returns-in_ok-push-in-Submitted-clause-searching : goal.returns-in_ok-push-in-Submitted-clause-searching
-returns-in_ok-push-in-Submitted-clause-searching g c =
+pub returns-in_ok-push-in-Submitted-clause-search : goal.returns-in_ok-push-in-Submitted-clause-search
+returns-in_ok-push-in-Submitted-clause-search g c =
     let old = c.args.self.now in
     let claims = c.args.claims.now in
+    let lines = said_by claims in
+    let was = c.requires.search in
     let e = length_said claims in
-    let within : old.line < length (said_by claims) = omega (arith, c.requires.within, e) in
+    let within : old.line < length lines = omega (arith, c.requires.within, e) in
     let at = c.claim_at.ensures ∙ ap (λ (t : Claim). Some (line_of t)) c.in-Submitted.is in
     let pushed : c.push.new.self.items ≡ old.waiting.items ++ old.line ∷ [] = search rules in
-    rw (pushed, add-one old.line) (search_waits g.H.Host.meaning g.H.Host.undo_of (said_by claims) (g.H.Host.state old.host) old.line old.next
-    old.steps.items old.waiting.items old.placed.items c.requires.searching c.requires.once c.in-Submitted.field-0 at within)
+    record {
+      searching =
+          rw (pushed, add-one old.line)
+          (search_waits g.H.Host.meaning g.H.Host.undo_of lines (g.H.Host.state old.host) old.line old.next old.steps.items
+          old.waiting.items old.placed.items was.searching c.requires.input.submitted c.in-Submitted.field-0 at within);
+      fits = was.fits;
+      counted =
+          rw (pushed, add-one old.line)
+          (counts_wait lines old.line old.next old.steps.items old.waiting.items was.counted c.in-Submitted.field-0 at);
+      failed = was.failed;
+    }
 
-pub returns-else-not-is_placed-clause-searching : goal.returns-else-not-is_placed-clause-searching
-returns-else-not-is_placed-clause-searching g c =
+pub returns-else-not-is_placed-clause-search : goal.returns-else-not-is_placed-clause-search
+returns-else-not-is_placed-clause-search g c =
     let old = c.args.self.now in
     let claims = c.args.claims.now in
+    let lines = said_by claims in
+    let was = c.requires.search in
     let e = length_said claims in
-    let within : old.line < length (said_by claims) = omega (arith, c.requires.within, e) in
+    let within : old.line < length lines = omega (arith, c.requires.within, e) in
     let at = c.claim_at.ensures ∙ ap (λ (t : Claim). Some (line_of t)) c.in-Accepted.is in
-    rw (add-one old.line) (search_passes g.H.Host.meaning g.H.Host.undo_of (said_by claims) (g.H.Host.state old.host) old.line old.next
-    old.steps.items old.waiting.items old.placed.items c.requires.searching c.in-Accepted.client c.in-Accepted.id c.in-Accepted.result at within
-    c.if-not-is_placed.ensures)
-
-pub returns-in_ok-push-in-Submitted-clause-counted : goal.returns-in_ok-push-in-Submitted-clause-counted
-returns-in_ok-push-in-Submitted-clause-counted g c =
-    let old = c.args.self.now in
-    let at = c.claim_at.ensures ∙ ap (λ (t : Claim). Some (line_of t)) c.in-Submitted.is in
-    let pushed : c.push.new.self.items ≡ old.waiting.items ++ old.line ∷ [] = search rules in
-    rw (pushed, add-one old.line) (counts_wait (said_by c.args.claims.now) old.line old.next old.steps.items old.waiting.items
-    c.requires.counted c.in-Submitted.field-0 at)
+    record {
+      searching =
+          rw (add-one old.line)
+          (search_passes g.H.Host.meaning g.H.Host.undo_of lines (g.H.Host.state old.host) old.line old.next old.steps.items
+          old.waiting.items old.placed.items was.searching c.in-Accepted.client c.in-Accepted.id c.in-Accepted.result at within
+          c.if-not-is_placed.ensures);
+      fits = was.fits;
+      counted =
+          rw (add-one old.line)
+          (counts_pass lines old.line old.next old.steps.items old.waiting.items was.counted c.in-Accepted.client
+          c.in-Accepted.id c.in-Accepted.result at);
+      failed = was.failed;
+    }
 
 pub returns-in_ok-push-in-Submitted-clause-falls : goal.returns-in_ok-push-in-Submitted-clause-falls
 returns-in_ok-push-in-Submitted-clause-falls g c _ =
@@ -44,15 +59,8 @@ returns-in_ok-push-in-Submitted-clause-falls g c _ =
     let e = length_said claims in
     let within : old.line < length (said_by claims) = omega (arith, c.requires.within, e) in
     let at = c.claim_at.ensures ∙ ap (λ (t : Claim). Some (line_of t)) c.in-Submitted.is in
-    rw (add-one old.line) (falls_wait (said_by claims) old.line old.next old.steps.items old.waiting.items c.requires.counted
+    rw (add-one old.line) (falls_wait (said_by claims) old.line old.next old.steps.items old.waiting.items c.requires.search.counted
     c.in-Submitted.field-0 at within)
-
-pub returns-else-not-is_placed-clause-counted : goal.returns-else-not-is_placed-clause-counted
-returns-else-not-is_placed-clause-counted g c =
-    let old = c.args.self.now in
-    let at = c.claim_at.ensures ∙ ap (λ (t : Claim). Some (line_of t)) c.in-Accepted.is in
-    rw (add-one old.line) (counts_pass (said_by c.args.claims.now) old.line old.next old.steps.items old.waiting.items c.requires.counted
-    c.in-Accepted.client c.in-Accepted.id c.in-Accepted.result at)
 
 pub returns-else-not-is_placed-clause-falls : goal.returns-else-not-is_placed-clause-falls
 returns-else-not-is_placed-clause-falls g c _ =
@@ -60,5 +68,5 @@ returns-else-not-is_placed-clause-falls g c _ =
     let claims = c.args.claims.now in
     let e = length_said claims in
     let within : old.line < length (said_by claims) = omega (arith, c.requires.within, e) in
-    rw (add-one old.line) (falls_pass (said_by claims) old.line old.next old.steps.items old.waiting.items c.requires.counted
+    rw (add-one old.line) (falls_pass (said_by claims) old.line old.next old.steps.items old.waiting.items c.requires.search.counted
     c.if-not-is_placed.ensures within)

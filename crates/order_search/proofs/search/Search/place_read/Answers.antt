@@ -13,7 +13,7 @@ bounds-reads-submit g c =
     let claims = c.args.claims.now in
     let stands = slice_get_read old.waiting.items _ c.args.at c.index-submit.result.now refl c.requires.waits c.index-submit.ensures in
     let l = waits_within g.H.Host.meaning g.H.Host.undo_of (said_by claims) (g.H.Host.state old.host) old.line old.next old.steps.items
-    old.waiting.items old.placed.items c.requires.searching c.args.at c.index-submit.result.now stands in
+    old.waiting.items old.placed.items c.requires.search.searching c.args.at c.index-submit.result.now stands in
     omega (arith, l, length_said claims, c.requires.reads.count)
 
 pub try_at-requires-clause-settles : goal.try_at-requires-clause-settles
@@ -23,12 +23,12 @@ try_at-requires-clause-settles g c =
     let submit = c.index-submit.result.now in
     let stands = slice_get_read old.waiting.items _ c.args.at submit refl c.requires.waits c.index-submit.ensures in
     let l = waits_within g.H.Host.meaning g.H.Host.undo_of (said_by claims) (g.H.Host.state old.host) old.line old.next old.steps.items
-    old.waiting.items old.placed.items c.requires.searching c.args.at submit stands in
+    old.waiting.items old.placed.items c.requires.search.searching c.args.at submit stands in
     let within : submit < length c.args.reads.now = omega (arith, l, length_said claims, c.requires.reads.count) in
     let mark : slice_get c.args.reads.now submit ≡ Some true =
     slice_get-get_or c.args.reads.now submit false within ∙ ap (λ (t : Bool). Some t) c.if-not-reads-submit.false in
     read_settles g.H.Host.meaning g.H.Host.undo_of (said_by claims) (g.H.Host.state old.host) old.line old.next old.steps.items
-    old.waiting.items old.placed.items c.requires.searching c.requires.submitted c.args.at c.len-all.result
+    old.waiting.items old.placed.items c.requires.search.searching c.requires.input.submitted c.args.at c.len-all.result
     (λ i r there at.
     c.requires.reads.marked i r
     (subst (λ (t : ℕ). slice_get c.args.reads.now t ≡ Some true) (same_Some-at (slice_get old.waiting.items c.args.at) submit i stands there) mark)

@@ -3,6 +3,7 @@ use Rattle.std.specs.Prelude.{remove}
 use Rattle.std.proofs.lemmas.Option.{slice_get_read}
 use Rattle.pairs.proofs.SaidLemmas.{length_said}
 use Rattle.order_search.proofs.CountLemmas.{counts_place, falls_place}
+use Rattle.order_search.proofs.Edits.{one_less}
 use Rattle.order_search.proofs.SearchLemmas.{waits_within, waits_submits, search_places, disagrees}
 use Rattle.order_search.proofs.StepLemmas.{fit_push, fit_still}
 use Rattle.order_search.proofs.search.Search.try_at.Goals as goal
@@ -19,7 +20,7 @@ claim_at-requires g c =
     let e = length_said claims in
     let stands = slice_get_read old.waiting.items _ c.args.at c.index-submit.result.now refl c.requires.waits c.index-submit.ensures in
     let l = waits_within g.H.Host.meaning g.H.Host.undo_of (said_by claims) (g.H.Host.state old.host) old.line old.next old.steps.items
-    old.waiting.items old.placed.items c.requires.searching c.args.at c.index-submit.result.now stands in
+    old.waiting.items old.placed.items c.requires.search.searching c.args.at c.index-submit.result.now stands in
     omega (arith, l, e)
 
 pub agrees-requires-clause-line : goal.agrees-requires-clause-line
@@ -31,46 +32,24 @@ place-requires-clause-marked g c =
     let claims = c.args.claims.now in
     let stands = slice_get_read old.waiting.items _ c.args.at c.index-submit.result.now refl c.requires.waits c.index-submit.ensures in
     let l = waits_within g.H.Host.meaning g.H.Host.undo_of (said_by claims) (g.H.Host.state old.host) old.line old.next old.steps.items
-    old.waiting.items old.placed.items c.requires.searching c.args.at c.index-submit.result.now stands in
-    omega (arith, l, c.requires.searching.are_marked.count)
-
-pub returns-clause-fits : goal.returns-clause-fits
-returns-clause-fits g c =
-    let old = c.args.self.now in
-    let fits = g.H.Host.fits in
-    fit_still (fits c.apply.new.self) (fits c.undo.new.self) c.undo.ensures.still_fits old.steps.items
-    (fit_still (fits old.host) (fits c.apply.new.self) c.in_ok-answer.ensures.still_fits old.steps.items c.requires.fits)
+    old.waiting.items old.placed.items c.requires.search.searching c.args.at c.index-submit.result.now stands in
+    omega (arith, l, c.requires.search.searching.are_marked.count)
 
 pub unreachable-requires : goal.unreachable-requires
 unreachable-requires g c =
     let old = c.args.self.now in
     let stands = slice_get_read old.waiting.items _ c.args.at c.index-submit.result.now refl c.requires.waits c.index-submit.ensures in
     let r = waits_submits g.H.Host.meaning g.H.Host.undo_of (said_by c.args.claims.now) (g.H.Host.state old.host) old.line old.next
-    old.steps.items old.waiting.items old.placed.items c.requires.searching c.args.at c.index-submit.result.now stands in
+    old.steps.items old.waiting.items old.placed.items c.requires.search.searching c.args.at c.index-submit.result.now stands in
     let at = c.claim_at.ensures ∙ ap (λ (t : Claim). Some (line_of t)) c.in_default.is in
     absurd (let x = sym at ∙ r.1 in cc)
 
-pub returns-then-agrees-clause-fits : goal.returns-then-agrees-clause-fits
-returns-then-agrees-clause-fits g c =
+pub returns-then-agrees-clause-search : goal.returns-then-agrees-clause-search
+returns-then-agrees-clause-search g c =
     let old = c.args.self.now in
-    let fits = g.H.Host.fits in
-    let step : Step g.row.H-Undo.Denot = record {
-      submit = c.index-submit.result.now;
-      line = old.line;
-      at = c.args.at;
-      others = length (remove old.waiting.items c.args.at);
-      tried = c.args.tried;
-      undo = c.in_ok-answer.undo;
-    } in
-    let fit = fit_push (fits c.apply.new.self) old.steps.items step
-    (fit_still (fits old.host) (fits c.apply.new.self) c.in_ok-answer.ensures.still_fits old.steps.items c.requires.fits)
-    c.in_ok-answer.ensures.fits in
-    rw (c.in_ok-place.ensures.steps, c.place.ensures.host) fit
-
-pub returns-then-agrees-clause-searching : goal.returns-then-agrees-clause-searching
-returns-then-agrees-clause-searching g c =
-    let old = c.args.self.now in
+    let was = c.requires.search in
     let m = g.H.Host.meaning in
+    let fits = g.H.Host.fits in
     let lines = said_by c.args.claims.now in
     let request = c.in-Submitted.request in
     let submit = c.index-submit.result.now in
@@ -85,11 +64,75 @@ returns-then-agrees-clause-searching g c =
     let agrees : AllAccept lines request.client request.id (m.answer s0 request.op) = λ a h. sym said ∙ c.if-agrees.ensures a h in
     let e = length_said c.args.claims.now in
     let within : old.line < length lines = omega (arith, c.requires.within, e) in
-    let done = search_places m g.H.Host.undo_of lines s0 old.line old.next old.steps.items old.waiting.items old.placed.items
-    c.requires.searching c.requires.submitted c.args.at submit request stands at within c.args.tried c.requires.settles agrees
-    (g.H.Host.state c.apply.new.self) after c.in_ok-answer.undo undo_is in
+    let step : Step g.row.H-Undo.Denot = record {
+      submit = submit;
+      line = old.line;
+      at = c.args.at;
+      others = length (remove old.waiting.items c.args.at);
+      tried = c.args.tried;
+      undo = c.in_ok-answer.undo;
+    } in
     let placed = c.in_ok-place.ensures in
-    rw (placed.next, placed.waiting, placed.placed, placed.steps, placed.host, placed.line) done
+    record {
+      searching =
+          rw (placed.next, placed.waiting, placed.placed, placed.steps, c.place.ensures.host, c.place.ensures.line)
+          (search_places m g.H.Host.undo_of lines s0 old.line old.next old.steps.items old.waiting.items old.placed.items
+          was.searching c.requires.input.submitted c.args.at submit request stands at within c.args.tried c.requires.settles agrees
+          (g.H.Host.state c.apply.new.self) after c.in_ok-answer.undo undo_is);
+      fits =
+          rw (placed.steps, c.place.ensures.host)
+          (fit_push (fits c.apply.new.self) old.steps.items step
+          (fit_still (fits old.host) (fits c.apply.new.self) c.in_ok-answer.ensures.still_fits old.steps.items was.fits)
+          c.in_ok-answer.ensures.fits);
+      counted =
+          rw (placed.next, placed.waiting, placed.steps, c.place.ensures.line)
+          (counts_place lines old.line old.next old.steps.items old.waiting.items was.counted step c.args.at refl refl
+          c.requires.stuck submit stands);
+      failed = rw c.place.ensures.failed was.failed;
+    }
+
+pub returns-then-agrees-clause-places : goal.returns-then-agrees-clause-places
+returns-then-agrees-clause-places g c _ =
+    let old = c.args.self.now in
+    let stands = slice_get_read old.waiting.items _ c.args.at c.index-submit.result.now refl c.requires.waits c.index-submit.ensures in
+    let step : Step g.row.H-Undo.Denot = record {
+      submit = c.index-submit.result.now;
+      line = old.line;
+      at = c.args.at;
+      others = length (remove old.waiting.items c.args.at);
+      tried = c.args.tried;
+      undo = c.in_ok-answer.undo;
+    } in
+    let placed = c.in_ok-place.ensures in
+    record {
+      less =
+          let l = one_less old.waiting.items c.args.at c.index-submit.result.now stands in
+          let n = ap length placed.waiting in
+          omega (arith, l, n);
+      begun = placed.next;
+      falls =
+          rw (placed.next, placed.steps, c.place.ensures.line)
+          (falls_place (said_by c.args.claims.now) old.line old.next old.steps.items old.waiting.items c.requires.search.counted step
+          c.args.at refl refl c.requires.further (omega (arith, c.requires.next, c.requires.waits)));
+    }
+
+pub returns-clause-search : goal.returns-clause-search
+returns-clause-search g c =
+    let old = c.args.self.now in
+    let was = c.requires.search in
+    let fits = g.H.Host.fits in
+    let undone : g.H.Host.state c.undo.new.self ≡ g.H.Host.state old.host = search rules in
+    record {
+      searching = rw undone was.searching;
+      fits =
+          fit_still (fits c.apply.new.self) (fits c.undo.new.self) c.undo.ensures.still_fits old.steps.items
+          (fit_still (fits old.host) (fits c.apply.new.self) c.in_ok-answer.ensures.still_fits old.steps.items was.fits);
+      counted = was.counted;
+      failed = was.failed;
+    }
+
+pub returns-clause-none : goal.returns-clause-none
+returns-clause-none g c _ = record { waiting = refl; next = refl; steps = refl }
 
 pub returns-clause-refused : goal.returns-clause-refused
 returns-clause-refused g c _ =
@@ -102,36 +145,5 @@ returns-clause-refused g c _ =
     let stands = slice_get_read old.waiting.items _ c.args.at submit refl c.requires.waits c.index-submit.ensures in
     let at = c.claim_at.ensures ∙ ap (λ (t : Claim). Some (line_of t)) c.in-Submitted.is in
     let said : c.as_slice-2.result.now ≡ m.answer s0 op = first_of (search rules, cc) in
-    disagrees m g.H.Host.undo_of lines s0 old.line old.next old.steps.items old.waiting.items old.placed.items c.requires.searching
-    c.requires.submitted c.args.at submit c.in-Submitted.request stands at (λ every. c.if-agrees.ensures (λ a h. said ∙ every a h))
-
-pub returns-then-agrees-clause-counted : goal.returns-then-agrees-clause-counted
-returns-then-agrees-clause-counted g c =
-    let old = c.args.self.now in
-    let stands = slice_get_read old.waiting.items _ c.args.at c.index-submit.result.now refl c.requires.waits c.index-submit.ensures in
-    let step : Step g.row.H-Undo.Denot = record {
-      submit = c.index-submit.result.now;
-      line = old.line;
-      at = c.args.at;
-      others = length (remove old.waiting.items c.args.at);
-      tried = c.args.tried;
-      undo = c.in_ok-answer.undo;
-    } in
-    let placed = c.in_ok-place.ensures in
-    rw (placed.next, placed.waiting, placed.steps, placed.line) (counts_place (said_by c.args.claims.now) old.line old.next
-    old.steps.items old.waiting.items c.requires.counted step c.args.at refl refl c.requires.stuck c.index-submit.result.now stands)
-
-pub returns-then-agrees-clause-falls : goal.returns-then-agrees-clause-falls
-returns-then-agrees-clause-falls g c _ =
-    let old = c.args.self.now in
-    let step : Step g.row.H-Undo.Denot = record {
-      submit = c.index-submit.result.now;
-      line = old.line;
-      at = c.args.at;
-      others = length (remove old.waiting.items c.args.at);
-      tried = c.args.tried;
-      undo = c.in_ok-answer.undo;
-    } in
-    let placed = c.in_ok-place.ensures in
-    rw (placed.next, placed.steps, placed.line) (falls_place (said_by c.args.claims.now) old.line old.next old.steps.items
-    old.waiting.items c.requires.counted step c.args.at refl refl c.requires.further (omega (arith, c.requires.next, c.requires.waits)))
+    disagrees m g.H.Host.undo_of lines s0 old.line old.next old.steps.items old.waiting.items old.placed.items c.requires.search.searching
+    c.requires.input.submitted c.args.at submit c.in-Submitted.request stands at (λ every. c.if-agrees.ensures (λ a h. said ∙ every a h))

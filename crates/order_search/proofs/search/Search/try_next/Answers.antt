@@ -10,10 +10,10 @@ try_at-requires-clause-settles g c =
     let old = c.args.self.now in
     rw (c.counted_to-with_it.ensures, add-one old.next)
     (next_settles g.H.Host.meaning g.H.Host.undo_of (said_by c.args.claims.now) (g.H.Host.state old.host) old.line old.next old.steps.items
-    old.waiting.items old.placed.items c.requires.searching)
+    old.waiting.items old.placed.items c.requires.search.searching)
 
-pub returns-then-not-branch-clause-searching : goal.returns-then-not-branch-clause-searching
-returns-then-not-branch-clause-searching g c =
+pub returns-then-not-branch-clause-search : goal.returns-then-not-branch-clause-search
+returns-then-not-branch-clause-search g c =
     let old = c.args.self.now in
     let new = c.try_at.new.self in
     let m = g.H.Host.meaning in
@@ -21,28 +21,26 @@ returns-then-not-branch-clause-searching g c =
     let lines = said_by c.args.claims.now in
     let s0 : g.H.Host.State = g.H.Host.state new.host in
     let not_placed : c.in_ok-try_at.field-0 ≡ false = c.if-not-branch.true in
-    let same : new.next ≡ old.next = c.in_ok-try_at.ensures.next not_placed in
+    let was = c.in_ok-try_at.ensures.search in
+    let none = c.in_ok-try_at.ensures.none not_placed in
     let refused : IsRefused m undo_of lines new.line (front_of lines new.steps.items) new.waiting.items new.next =
-    subst (λ (n : ℕ). IsRefused m undo_of lines new.line (front_of lines new.steps.items) new.waiting.items n) (sym same)
+    subst (λ (n : ℕ). IsRefused m undo_of lines new.line (front_of lines new.steps.items) new.waiting.items n) (sym none.next)
     (c.in_ok-try_at.ensures.refused not_placed) in
-    rw (c.counted_to-with_it.ensures, add-one old.next)
-    (subst (λ (n : ℕ). IsSearching m undo_of lines s0 new.line (suc n) new.steps.items new.waiting.items new.placed.items) same
-    (search_tried m undo_of lines s0 new.line new.next new.steps.items new.waiting.items new.placed.items c.in_ok-try_at.ensures.searching
-    refused))
-
-pub returns-then-not-branch-clause-counted : goal.returns-then-not-branch-clause-counted
-returns-then-not-branch-clause-counted g c =
-    let old = c.args.self.now in
-    let new = c.try_at.new.self in
-    let not_placed : c.in_ok-try_at.field-0 ≡ false = c.if-not-branch.true in
-    let e = c.in_ok-try_at.ensures in
-    rw (c.counted_to-with_it.ensures, add-one old.next, c.try_at.ensures.line, e.kept not_placed, e.same not_placed)
-    (counts_tried (said_by c.args.claims.now) old.line old.next old.steps.items old.waiting.items c.requires.counted c.requires.stuck)
+    record {
+      searching =
+          rw (c.counted_to-with_it.ensures, add-one old.next)
+          (subst (λ (n : ℕ). IsSearching m undo_of lines s0 new.line (suc n) new.steps.items new.waiting.items new.placed.items) none.next
+          (search_tried m undo_of lines s0 new.line new.next new.steps.items new.waiting.items new.placed.items was.searching refused));
+      fits = was.fits;
+      counted =
+          rw (c.counted_to-with_it.ensures, add-one old.next, c.try_at.ensures.line, none.steps, none.waiting)
+          (counts_tried lines old.line old.next old.steps.items old.waiting.items c.requires.search.counted c.requires.stuck);
+      failed = was.failed;
+    }
 
 pub returns-then-not-branch-clause-falls : goal.returns-then-not-branch-clause-falls
 returns-then-not-branch-clause-falls g c =
     let old = c.args.self.now in
-    let not_placed : c.in_ok-try_at.field-0 ≡ false = c.if-not-branch.true in
-    let e = c.in_ok-try_at.ensures in
-    rw (c.counted_to-with_it.ensures, add-one old.next, c.try_at.ensures.line, e.kept not_placed)
-    (falls_tried (said_by c.args.claims.now) old.line old.next old.steps.items old.waiting.items c.requires.counted c.requires.next)
+    let none = c.in_ok-try_at.ensures.none c.if-not-branch.true in
+    rw (c.counted_to-with_it.ensures, add-one old.next, c.try_at.ensures.line, none.steps)
+    (falls_tried (said_by c.args.claims.now) old.line old.next old.steps.items old.waiting.items c.requires.search.counted c.requires.next)

@@ -10,7 +10,7 @@ fail-requires-clause-fails g c =
     let old = c.args.self.now in
     let all : length old.waiting.items ≤ old.next = omega arith in
     search_is_over g.H.Host.meaning g.H.Host.undo_of (said_by c.args.claims.now) (g.H.Host.state old.host) old.line old.next old.steps.items
-    old.waiting.items old.placed.items c.requires.searching c.requires.stuck all
+    old.waiting.items old.placed.items c.requires.search.searching c.requires.stuck all
 
 pub try_next-requires-clause-within : goal.try_next-requires-clause-within
 try_next-requires-clause-within g c =
