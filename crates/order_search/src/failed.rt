@@ -7,7 +7,8 @@ use nop_types::NoMemory;
 use std::alloc::Global;
 use std::collections::HashSet;
 
-/// The place of a line, the places of the claims before it whose requests wait, and the state of the host as bytes.
+/// The place of a line, the places of the claims before it whose requests wait, and the state of
+/// the host as bytes.
 #[derive(Drop, PartialEq, Eq, Hash)]
 pub(crate) struct Configuration {
     pub(crate) line: usize,

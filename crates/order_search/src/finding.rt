@@ -29,8 +29,8 @@ fn further(furthest: usize, line: usize) -> usize
 }
 
 /// Finds an order of the claims, or that there is none, in at most as many steps as are left; Spent
-/// where these do not suffice. A step passes a claim, tries a request, places all reads that agree, or
-/// takes a request back.
+/// where these do not suffice. A step passes a claim, tries a request, places all reads that agree,
+/// or takes a request back.
 pub fn find_order<P: Parted>(
     alloc: Global,
     claims: &[&Claim],

@@ -32,13 +32,7 @@ fn counted_to(waiting: &Vec<usize>, at: usize) -> usize
 
 impl<H: Host> Search<H> {
     /// Whether what the claim here accepts is placed.
-    pub(crate) fn is_placed(
-        &self,
-        claims: &[&Claim],
-        pairs: &Pairs,
-        client: u32,
-        id: u64,
-    ) -> bool
+    pub(crate) fn is_placed(&self, claims: &[&Claim], pairs: &Pairs, client: u32, id: u64) -> bool
         requires line { (result : List ℕ)
             × (slice_get (said_by claims.now) self.now.line ≡ Some (Accept client id result)) }
         requires input { IsInput claims.now pairs.now }
@@ -166,8 +160,8 @@ impl<H: Host> Search<H> {
     }
 
     /// Places the request that waits at `at`, where it is a read, its answer agrees, and the claim
-    /// here accepts what is not placed yet. Where the front goes on, it goes on with it: so where it
-    /// leads to no legal history, none that waits does.
+    /// here accepts what is not placed yet. Where the front goes on, it goes on with it: so where
+    /// it leads to no legal history, none that waits does.
     fn place_read(
         &mut self,
         claims: &[&Claim],

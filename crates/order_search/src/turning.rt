@@ -59,8 +59,8 @@ impl<H: Host> Search<H> {
         }
     }
 
-    /// Takes the last step back, from a front that goes nowhere; then the next one that waited there
-    /// is tried, if one is left.
+    /// Takes the last step back, from a front that goes nowhere; then the next one that waited
+    /// there is tried, if one is left.
     fn go_back(&mut self, claims: &[&Claim]) -> Result<Turn, NoMemory>
         requires once { SubmittedOnce (said_by claims.now) }
         requires search { IsSearch H.Host (said_by claims.now) self.old }
