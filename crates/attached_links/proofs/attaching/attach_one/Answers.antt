@@ -1,0 +1,42 @@
+use Rattle.std.proofs.Common.{refl, ◌∙◌, ap, arith, length}
+use Rattle.outside.proofs.Counts.{counts_after, counts_none}
+use Rattle.attached_links.proofs.AttachingLemmas.{given_back}
+use Rattle.attached_links.proofs.attaching.attach_one.Goals as goal
+
+pub returns-in-Ok-push-clause-attaches : goal.returns-in-Ok-push-clause-attaches
+returns-in-Ok-push-clause-attaches g c = record {
+  held = _;
+  added = c.in-Ok-push.ensures.items;
+  is_at = refl;
+  fresh = record {
+    lost = refl;
+    port = c.in-Ok.ensures.port ∙ c.port_of.ensures.port;
+    faults = c.in-Ok.ensures.faults;
+    losses = c.in-Ok.ensures.losses;
+  };
+  content = c.in-Ok.ensures.content;
+  attached = c.in-Ok.ensures.attached;
+  room = c.in-Ok.ensures.room;
+  given = c.in-Ok.ensures.detached;
+}
+
+pub returns-in-Err-push-clause-attaches : goal.returns-in-Err-push-clause-attaches
+returns-in-Err-push-clause-attaches g c = record {
+  same = c.in-Err-push.ensures.items;
+  balance = given_back (g.P.Ports.attached c.args.ports.now) (g.P.Ports.attached c.attach.new.self)
+      (g.P.Ports.attached c.detach_one.new.ports) (g.P.Ports.detached c.args.ports.now) (g.P.Ports.detached c.attach.new.self)
+      (g.P.Ports.detached c.detach_one.new.ports) _ c.in-Ok.ensures.attached c.in-Ok.ensures.detached c.detach_one.ensures.attached
+      c.detach_one.ensures.detached;
+}
+
+pub returns-in-Err-push-clause-count : goal.returns-in-Err-push-clause-count
+returns-in-Err-push-clause-count g c = counts_none _ _ _ (c.detach_one.ensures.faults ∙ c.in-Ok.ensures.count) (λ failed. cc)
+
+pub returns-in-Err-clause-attaches : goal.returns-in-Err-clause-attaches
+returns-in-Err-clause-attaches g c = record {
+  same = refl;
+  balance = omega (arith, c.in-Err.ensures.err, ap length c.attach.ensures.detached);
+}
+
+pub returns-in-Err-clause-count : goal.returns-in-Err-clause-count
+returns-in-Err-clause-count g c = counts_after _ _ _ c.in-Err.ensures.later c.in-Err.ensures.count
