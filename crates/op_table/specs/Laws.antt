@@ -1,7 +1,7 @@
 -- Proofs: nothing here has to be believed.
 -- The words of an op name it.
 use Rattle.std.proofs.Common.{◌≡◌, ℕ, Bool, true, false, cond, List, [], ◌∷◌, ◌++◌, length, Option, Some, None, refl, sym, ap, subst, eqb-true}
-use Rattle.std.proofs.Common.{◌∙◌, arith}
+use Rattle.std.proofs.Common.{◌∙◌, append-nil, arith}
 use Rattle.std.specs.Prelude.{IfSome, decimal, nat_le, not, option_map, ◌==◌, ◌&&◌, ◌||◌}
 use Rattle.std.specs.List.{list_any}
 use Rattle.std.proofs.lemmas.Bool.Decides.{nat_tests}
@@ -18,8 +18,9 @@ use Rattle.saved_fields.specs.Numbers.{BeginsNumber, number_at, number_bytes}
 use Rattle.saved_fields.specs.Reading.{number_at-begins, text_at-begins}
 use Rattle.saved_fields.specs.Texts.{BeginsText, text_at, text_bytes}
 use Rattle.op_table.specs.declared.table.FieldShape.{FieldShape}
-use Rattle.op_table.specs.declared.table.FieldShape.TheVariants.{Number, Text}
-use Rattle.op_table.specs.Shapes.{OpShape, are_apart, by_kind, by_name, field_of, fields_of, named_words, op_of, word_at, words_at, words_of}
+use Rattle.op_table.specs.declared.table.FieldShape.TheVariants.{Number, Text, Rest}
+use Rattle.op_table.specs.Shapes.{AreFields, IsOpOf, OpShape, are_apart, by_kind, by_name, field_of, fields_of, named_words, op_of, word_at}
+use Rattle.op_table.specs.Shapes.{words_at, words_of}
 
 bytes_front : (xs ys : List ℕ) → IsBytes (xs ++ ys) → IsBytes xs
 bytes_front [] ys all = no_bytes
@@ -43,25 +44,32 @@ number_begins bytes all (Some (n, rest)) h = record {
   behind = bytes_back (number_bytes n) rest (subst IsBytes h.spelled all);
 }
 
-text_begins : (most : ℕ) (bytes : List ℕ) → IsBytes bytes → (o : Option (List ℕ × List ℕ)) → IfSome o (BeginsText most bytes)
-    → IfSome (option_map (λ t. (word_of t.0, t.1)) o) (BeginsField (Text most) bytes)
+text_by : (least most : ℕ) (bytes : List ℕ) → IsBytes bytes → (t : List ℕ × List ℕ) → BeginsText most bytes t → (b : Bool)
+    → nat_le least (length t.0) ≡ b → IfSome (cond b (Some (word_of t.0, t.1)) None) (BeginsField (Text least most) bytes)
 unfolding field_of
-text_begins most bytes all None h = tt
-text_begins most bytes all (Some (t, rest)) h =
+text_by least most bytes all (t, rest) h false e = tt
+text_by least most bytes all (t, rest) h true e =
     let behind = bytes_behind (length t) (t ++ rest) (subst IsBytes h.spelled all) in
     let fits = h.fits in
     let test : nat_le (length t) most ≡ true = grind (arith, nat_tests, fits) in
     record {
       front = text_bytes t;
-      names = rw (read_back t (bytes_front t rest behind), test) refl;
+      names = rw (read_back t (bytes_front t rest behind), e, test) refl;
       spelled = h.spelled;
       behind = bytes_back t rest behind;
     }
 
+rest_begins : (bytes : List ℕ) → IsBytes bytes → BeginsField Rest bytes (word_of bytes, [])
+unfolding field_of
+rest_begins bytes all = record { front = bytes; names = read_back bytes all; spelled = sym (append-nil bytes); behind = no_bytes }
+
 field_begins : (shape : FieldShape) (bytes : List ℕ) → IsBytes bytes → IfSome (word_at shape bytes) (BeginsField shape bytes)
 unfolding word_at
 field_begins Number bytes all = number_begins bytes all (number_at bytes) (number_at-begins bytes)
-field_begins (Text most) bytes all = text_begins most bytes all (text_at most bytes) (text_at-begins most bytes)
+field_begins (Text least most) bytes all =
+    then_holds (BeginsText most bytes) (BeginsField (Text least most) bytes) (text_at most bytes) _ (text_at-begins most bytes)
+    (λ t h. text_by least most bytes all t h _ refl)
+field_begins Rest bytes all = rest_begins bytes all
 
 fields_again : (shapes : List FieldShape) (bytes : List ℕ) → IsBytes bytes
     → IfSome (words_at shapes bytes) (λ words. fields_of shapes words ≡ Some bytes)
@@ -138,3 +146,33 @@ reads_back shapes apart op all = by_length (nat_le (length op) MAX_OP_BYTES) ref
         → IfSome (cond b (named_words shapes op) None) (λ words. op_of shapes words ≡ Some op)
     by_length true short = named_again shapes op apart all short
     by_length false short = tt
+
+-- ---- what words name
+
+some_is : {A : Type 0} (o : Option A) → IfSome o (λ x. o ≡ Some x)
+some_is None = tt
+some_is (Some x) = refl
+
+fields_are : (shapes : List FieldShape) (words : List (List ℕ)) → IfSome (fields_of shapes words) (AreFields shapes words)
+unfolding fields_of
+fields_are [] [] = refl
+fields_are [] (word ∷ words) = tt
+fields_are (shape ∷ shapes) [] = tt
+fields_are (shape ∷ shapes) (word ∷ words) =
+    then_holds (λ prefix. field_of shape word ≡ Some prefix) (AreFields (shape ∷ shapes) (word ∷ words)) (field_of shape word) _
+    (some_is (field_of shape word)) (λ prefix e.
+    then_holds (AreFields shapes words) (AreFields (shape ∷ shapes) (word ∷ words)) (fields_of shapes words) _ (fields_are shapes words)
+    (λ rest are. (prefix, rest, e, are, refl)))
+
+one : (P : List ℕ → Type 0) (b : Bool) (bytes : List ℕ) → P bytes → IfSome (cond b (Some bytes) None) P
+one P true bytes h = h
+one P false bytes h = tt
+
+pub op_is : (shapes : List OpShape) (word : List ℕ) (words : List (List ℕ)) → IfSome (op_of shapes (word ∷ words)) (IsOpOf shapes word words)
+unfolding op_of
+op_is shapes word words =
+    then_holds (λ shape. by_name shapes word ≡ Some shape) (IsOpOf shapes word words) (by_name shapes word) _
+    (some_is (by_name shapes word)) (λ shape e.
+    then_holds (AreFields shape.fields words) (IsOpOf shapes word words) (fields_of shape.fields words) _ (fields_are shape.fields words)
+    (λ fields are. one (IsOpOf shapes word words) (nat_le (length (shape.kind ∷ fields)) MAX_OP_BYTES) (shape.kind ∷ fields)
+    (record { shape = shape; fields = fields; named = e; are = are; spelled = refl })))

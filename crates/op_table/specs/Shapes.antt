@@ -10,7 +10,7 @@ use Rattle.saved_fields.specs.Numbers.{number_at, number_bytes}
 use Rattle.saved_fields.specs.Texts.{text_at, text_bytes}
 use Rattle.op_table.specs.declared.table.AnswerRow.{AnswerRow}
 use Rattle.op_table.specs.declared.table.FieldShape.{FieldShape}
-use Rattle.op_table.specs.declared.table.FieldShape.TheVariants.{Number, Text}
+use Rattle.op_table.specs.declared.table.FieldShape.TheVariants.{Number, Text, Rest}
 use Rattle.op_table.specs.declared.table.OpRow.{OpRow}
 
 pub record OpShape : Type 0 where
@@ -37,9 +37,10 @@ by_name (s ∷ shapes) word = if is_text s.name word then Some s else by_name sh
 -- the bytes of the field for which the word stands
 unfoldable pub field_of : FieldShape → List ℕ → Option (List ℕ)
 field_of Number word = option_map number_bytes (number_of word)
-field_of (Text most) word = do
+field_of (Text least most) word = do
   text ← bytes_of word
-  if nat_le (length text) most then Some (text_bytes text) else None
+  if nat_le least (length text) && nat_le (length text) most then Some (text_bytes text) else None
+field_of Rest word = bytes_of word
 
 -- the bytes of the fields, where there are as many words
 unfoldable pub fields_of : List FieldShape → List (List ℕ) → Option (List ℕ)
@@ -66,7 +67,10 @@ by_kind (s ∷ shapes) kind = if s.kind == kind then Some s else by_kind shapes 
 -- the word of a field, and what follows the field
 unfoldable pub word_at : FieldShape → List ℕ → Option (List ℕ × List ℕ)
 word_at Number bytes = option_map (λ n. (decimal n.0, n.1)) (number_at bytes)
-word_at (Text most) bytes = option_map (λ t. (word_of t.0, t.1)) (text_at most bytes)
+word_at (Text least most) bytes = do
+  text ← text_at most bytes
+  if nat_le least (length text.0) then Some (word_of text.0, text.1) else None
+word_at Rest bytes = Some (word_of bytes, [])
 
 -- the words of the fields, where nothing follows
 unfoldable pub words_at : List FieldShape → List ℕ → Option (List (List ℕ))
@@ -123,3 +127,20 @@ PutsWords old new done (Some words) = (done ≡ true) × (new ≡ old ++ words)
 abbrev pub are_apart : List OpShape → Bool
 are_apart [] = true
 are_apart (s ∷ shapes) = not (list_any (λ t. is_text t.name s.name) shapes) && are_apart shapes
+
+-- ---- what the bytes of an op are
+
+-- the bytes of these fields for these words, one after the other
+abbrev pub AreFields : List FieldShape → List (List ℕ) → List ℕ → Type 0
+AreFields [] [] bytes = bytes ≡ []
+AreFields (f ∷ fields) (word ∷ words) bytes =
+    (prefix : List ℕ) × (rest : List ℕ) × (field_of f word ≡ Some prefix) × AreFields fields words rest × (bytes ≡ prefix ++ rest)
+AreFields _ _ bytes = ⊥
+
+-- the bytes of an op: the kind of the shape that the first word names, and the fields of the others
+pub record IsOpOf (shapes : List OpShape) (word : List ℕ) (words : List (List ℕ)) (bytes : List ℕ) : Type 0 where
+  pub shape : OpShape
+  pub fields : List ℕ
+  pub named : by_name shapes word ≡ Some shape
+  pub are : AreFields shape.fields words fields
+  pub spelled : bytes ≡ shape.kind ∷ fields

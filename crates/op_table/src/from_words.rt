@@ -33,16 +33,17 @@ fn field(alloc: Global, shape: FieldShape, word: &[u8]) -> Result<Option<Bytes>,
             };
             put_number(&mut bytes, number)?;
         }
-        FieldShape::Text(most) => {
+        FieldShape::Text(least, most) => {
             let Some(text) = bytes_of(alloc, word)? else {
                 return Ok(None);
             };
             let text = text.as_slice();
-            if text.len() > most as usize {
+            if text.len() < least as usize || text.len() > most as usize {
                 return Ok(None);
             }
             put_text(&mut bytes, text)?;
         }
+        FieldShape::Rest => return bytes_of(alloc, word),
     }
     Ok(Some(Bytes::from_vec(bytes)))
 }

@@ -1,13 +1,17 @@
+//! The rows of a table.
+
 ghost use Rattle.std.specs.Prelude.{◌≡◌, List, map, true};
 ghost use Rattle.op_table.specs.Shapes.{AnswerShape, OpShape, answer_shape, are_apart, op_shape};
 
-/// A field of an op or of an answer, as `saved_fields` has it.
+/// A field of an op or of an answer; numbers and texts as `saved_fields` has them.
 #[derive(Clone, Copy)]
 pub enum FieldShape {
     /// A number, as a word in decimal.
     Number,
-    /// A text of at most so many bytes.
-    Text(u8),
+    /// A text of at least so many bytes, and of at most so many.
+    Text(u8, u8),
+    /// All bytes that follow, as they are.
+    Rest,
 }
 
 /// An op: in words its name and its fields; in bytes its kind and its fields.

@@ -1,3 +1,5 @@
+//! The text form by a table.
+
 use crate::from_words::op_in;
 use crate::table::OpTable;
 use crate::to_words::{result_in, words_in};

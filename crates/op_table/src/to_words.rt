@@ -39,13 +39,17 @@ fn put_word<'a>(
             }
             None => Ok(None),
         },
-        FieldShape::Text(most) => match text(bytes, most as usize) {
-            Some((text, rest)) => {
+        FieldShape::Text(least, most) => match text(bytes, most as usize) {
+            Some((text, rest)) if least as usize <= text.len() => {
                 to.put_bytes("", text)?;
                 Ok(Some(rest))
             }
-            None => Ok(None),
+            _ => Ok(None),
         },
+        FieldShape::Rest => {
+            to.put_bytes("", bytes)?;
+            Ok(Some(&[]))
+        }
     }
 }
 
