@@ -6,17 +6,18 @@ use Rattle.std.proofs.lemmas.Option.{none-some}
 use Rattle.lemmas.proofs.Bytes as services
 use Rattle.lemmas.proofs.Bytes.{bytes_behind, bytes_both, bytes_back, small_bytes}
 use Rattle.nop_types.specs.Services.{IsBytes, AnswersAreBytes}
+use Rattle.saved_fields.specs.Numbers.{number_bytes}
+use Rattle.saved_fields.specs.Reading.{number_is_bytes}
 use Rattle.lock_host.specs.declared.locks.TheConstants.{MAX_LOCKS, LAST_TOKEN}
 use Rattle.lock_host.specs.declared.lock.Lock.{Lock}
 use Rattle.lock_host.specs.declared.op.LockOp.{LockOp}
 use Rattle.lock_host.specs.declared.op.LockOp.TheVariants.{Acquire, Release, Inspect, Bad}
 use Rattle.lock_host.specs.declared.op.TheConstants.{ACQUIRE}
-use Rattle.lock_host.specs.Fields.{name_bytes, number_bytes}
+use Rattle.lock_host.specs.Fields.{name_bytes}
 use Rattle.lock_host.specs.Finding.{IsFound, found_is}
 use Rattle.lock_host.specs.Locks.{Places, Locks, Step, is_same, is_free, found, granted, held, holder_text, says, granted_at, acquire, holds}
 use Rattle.lock_host.specs.Locks.{release, step}
 use Rattle.lock_host.specs.Op.{read_op}
-use Rattle.lock_host.specs.Reading.{eight_below}
 use Rattle.lock_host.specs.Service.{lock_meaning}
 use Rattle.lock_host.specs.Spelling.{Spells}
 use Rattle.lock_host.proofs.ReadLemmas.{reads_only_spelled}
@@ -59,16 +60,13 @@ by_write places i place lock all is (inr new) = subst OwnerIs new is
 
 -- ---- answers
 
-number_is : (n : ℕ) → IsBytes (number_bytes n)
-number_is n = small_bytes (number_bytes n) (eight_below n)
-
 granted_is : (token : ℕ) → IsBytes (granted token)
-granted_is token = bytes_both (codes "granted") (number_bytes token) (small_bytes (codes "granted") refl) (number_is token)
+granted_is token = bytes_both (codes "granted") (number_bytes token) (small_bytes (codes "granted") refl) (number_is_bytes token)
 
 held_is : (lock : Lock) → IsBytes lock.owner → IsBytes (held lock)
 held_is lock owner =
     bytes_both (codes "held") (number_bytes lock.token ++ lock.owner) (small_bytes (codes "held") refl)
-    (bytes_both (number_bytes lock.token) lock.owner (number_is lock.token) owner)
+    (bytes_both (number_bytes lock.token) lock.owner (number_is_bytes lock.token) owner)
 
 -- ---- steps
 

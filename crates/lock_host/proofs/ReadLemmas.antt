@@ -8,9 +8,11 @@ use Rattle.lemmas.proofs.Options.{then_holds}
 use Rattle.lock_host.specs.declared.op.TheConstants.{ACQUIRE, RELEASE, INSPECT}
 use Rattle.lock_host.specs.declared.op.LockOp.{LockOp}
 use Rattle.lock_host.specs.declared.op.LockOp.TheVariants.{Acquire, Release, Inspect, Bad}
-use Rattle.lock_host.specs.Fields.{NameFits, name_bytes, number_bytes, name_at, number_at}
+use Rattle.saved_fields.specs.Numbers.{BeginsNumber, number_bytes, number_at}
+use Rattle.saved_fields.specs.Reading.{number_at-begins, number_at-number}
+use Rattle.lock_host.specs.Fields.{NameFits, name_bytes, name_at}
 use Rattle.lock_host.specs.Op.{at_end, read_acquire, read_release, read_inspect, read_fields, read_op}
-use Rattle.lock_host.specs.Reading.{Field, BeginsName, BeginsNumber, name_at-begins, name_at-name, number_at-begins, number_at-number}
+use Rattle.lock_host.specs.Reading.{Field, BeginsName, name_at-begins, name_at-name}
 use Rattle.lock_host.specs.Spelling.{Spells, ReadsSpelled, ReadsOnlySpelled}
 
 -- ---- what is spelled is read

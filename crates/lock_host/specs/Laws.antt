@@ -14,9 +14,11 @@ use Rattle.lock_host.specs.declared.op.TheConstants.{ACQUIRE, RELEASE, INSPECT}
 use Rattle.lock_host.specs.declared.lock.Lock.{Lock}
 use Rattle.lock_host.specs.declared.op.LockOp.{LockOp}
 use Rattle.lock_host.specs.declared.op.LockOp.TheVariants.{Acquire, Release, Inspect, Bad}
-use Rattle.lock_host.specs.Fields.{NameFits, number_bytes, name_at, number_at}
+use Rattle.saved_fields.specs.Numbers.{number_bytes, number_at}
+use Rattle.saved_fields.specs.Reading.{length-number}
+use Rattle.lock_host.specs.Fields.{NameFits, name_at}
 use Rattle.lock_host.specs.Op.{at_end, read_acquire, read_release, read_inspect, read_fields, read_op}
-use Rattle.lock_host.specs.Reading.{Field, BeginsName, name_at-begins, length-number}
+use Rattle.lock_host.specs.Reading.{Field, BeginsName, name_at-begins}
 use Rattle.lock_host.specs.Locks.{Places, Locks, Step, is_same, is_free, is_named, found, granted, held, holder_text, says, granted_at, acquire}
 use Rattle.lock_host.specs.Locks.{holds, release, step, undone}
 use Rattle.lock_host.specs.Finding.{IsFound, found_is, IsFree, free_is}

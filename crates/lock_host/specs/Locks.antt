@@ -9,7 +9,7 @@ use Rattle.lock_host.specs.declared.undo.LockUndo.{LockUndo}
 use Rattle.lock_host.specs.declared.undo.LockUndo.TheVariants.{Nothing, Last, Back}
 use Rattle.lock_host.specs.declared.op.LockOp.{LockOp}
 use Rattle.lock_host.specs.declared.op.LockOp.TheVariants.{Acquire, Release, Inspect, Bad}
-use Rattle.lock_host.specs.Fields.{number_bytes}
+use Rattle.saved_fields.specs.Numbers.{number_bytes}
 
 -- at a place stands a lock that is held; or the place is free, and the next lock that is granted stands there
 abbrev pub Places : Type 0

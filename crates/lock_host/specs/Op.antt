@@ -1,9 +1,11 @@
 -- The ops of the lock service, and how their bytes are read.
 use Rattle.std.specs.Prelude.{ℕ, List, [], ◌∷◌, Option, Some, None, unwrap_or, ◌==◌, if◌then◌else◌}
+use Rattle.saved_fields.specs.Lists.{◌>>=◌}
+use Rattle.saved_fields.specs.Numbers.{number_at}
 use Rattle.lock_host.specs.declared.op.TheConstants.{ACQUIRE, RELEASE, INSPECT}
 use Rattle.lock_host.specs.declared.op.LockOp.{LockOp}
 use Rattle.lock_host.specs.declared.op.LockOp.TheVariants.{Acquire, Release, Inspect, Bad}
-use Rattle.lock_host.specs.Fields.{◌>>=◌, name_at, number_at}
+use Rattle.lock_host.specs.Fields.{name_at}
 
 -- the op, where nothing follows
 abbrev pub at_end : List ℕ → LockOp → Option LockOp

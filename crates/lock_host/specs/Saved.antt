@@ -2,9 +2,11 @@
 use Rattle.std.specs.Prelude.{ℕ, zero, suc, List, [], ◌∷◌, ◌++◌, length, Bool, false, ◌&&◌, ◌||◌, not, ◌==◌, nat_le}
 use Rattle.std.specs.Prelude.{Option, Some, None, if◌then◌else◌}
 use Rattle.std.specs.List.{flat_map, list_any}
+use Rattle.saved_fields.specs.Lists.{◌>>=◌}
+use Rattle.saved_fields.specs.Numbers.{number_bytes, number_at}
 use Rattle.lock_host.specs.declared.lock.Lock.{Lock}
 use Rattle.lock_host.specs.declared.locks.TheConstants.{MAX_LOCKS}
-use Rattle.lock_host.specs.Fields.{◌>>=◌, name_bytes, number_bytes, name_at, number_at}
+use Rattle.lock_host.specs.Fields.{name_bytes, name_at}
 use Rattle.lock_host.specs.Locks.{Places, Locks, is_same}
 
 -- a free place is one zero; so it differs from a name, which has a byte

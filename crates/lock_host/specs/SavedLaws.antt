@@ -8,11 +8,12 @@ use Rattle.std.proofs.lemmas.Bool.Decides.{nat_tests}
 use Rattle.std.proofs.lemmas.List.{length-append, append-nil}
 use Rattle.lemmas.proofs.Options.{then_holds}
 use Rattle.nop_types.specs.declared.limits.TheConstants.{MAX_HOST_BYTES}
+use Rattle.saved_fields.specs.Numbers.{BeginsNumber, number_bytes, number_at}
+use Rattle.saved_fields.specs.Reading.{length-number, number_at-begins, number_at-number}
 use Rattle.lock_host.specs.declared.locks.TheConstants.{MAX_LOCKS}
 use Rattle.lock_host.specs.declared.lock.Lock.{Lock}
-use Rattle.lock_host.specs.Fields.{NameFits, name_bytes, number_bytes, name_at, number_at}
-use Rattle.lock_host.specs.Reading.{BeginsName, BeginsNumber, name_at-begins, name_at-name, number_at-begins, number_at-number}
-use Rattle.lock_host.specs.Reading.{length-number}
+use Rattle.lock_host.specs.Fields.{NameFits, name_bytes, name_at}
+use Rattle.lock_host.specs.Reading.{BeginsName, name_at-begins, name_at-name}
 use Rattle.lock_host.specs.Locks.{Places, Locks}
 use Rattle.lock_host.specs.Saved.{place_bytes, saved, clashes, is_allowed, lock_at, place_at, nothing_after, with_places, loaded}
 use Rattle.lock_host.specs.Service.{LockFits, PlaceFits, PlacesFit, IsApart, AreApart, IsSound}

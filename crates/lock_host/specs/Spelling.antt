@@ -1,9 +1,10 @@
 -- How an op is spelled in bytes.
 use Rattle.std.specs.Prelude.{◌≡◌, ℕ, ◌<◌, ◌^◌, List, ◌∷◌, ◌++◌, ◌⊎◌}
+use Rattle.saved_fields.specs.Numbers.{number_bytes}
 use Rattle.lock_host.specs.declared.op.TheConstants.{ACQUIRE, RELEASE, INSPECT}
 use Rattle.lock_host.specs.declared.op.LockOp.{LockOp}
 use Rattle.lock_host.specs.declared.op.LockOp.TheVariants.{Acquire, Release, Inspect, Bad}
-use Rattle.lock_host.specs.Fields.{NameFits, name_bytes, number_bytes}
+use Rattle.lock_host.specs.Fields.{NameFits, name_bytes}
 use Rattle.lock_host.specs.Op.{read_op}
 
 -- the bytes spell the op; no bytes spell `Bad`

@@ -3,9 +3,9 @@
 ghost use Rattle.std.specs.Prelude.{◌≡◌, ◌≤◌, length, IfOk};
 ghost use Rattle.lock_host.specs.Locks.{granted, held, holder_text};
 
-use crate::fields::put_number;
 use crate::lock::Lock;
 use nop_types::{Bytes, NoMemory};
+use saved_fields::put_number;
 use std::alloc::Global;
 
 /// `granted` and the token.

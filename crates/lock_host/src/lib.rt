@@ -43,7 +43,6 @@ mod op;
 mod saved;
 mod undo;
 
-pub use fields::number;
 pub use host::LockHost;
 pub use laws::{
     a_grant_is_answered, a_lock_has_one_holder, answers_and_states_are_limited, answers_are_bytes,

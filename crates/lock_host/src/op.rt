@@ -1,8 +1,9 @@
 ghost use Rattle.std.specs.Prelude.{◌≡◌};
 ghost use Rattle.lock_host.specs.Op.{at_end, read_acquire, read_release, read_inspect, read_op};
 
-use crate::fields::{name, number};
+use crate::fields::name;
 use crate::name::Name;
+use saved_fields::number;
 
 /// The first byte of an acquire.
 pub const ACQUIRE: u8 = b'A';

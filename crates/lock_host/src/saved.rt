@@ -4,10 +4,11 @@ ghost use Rattle.lock_host.specs.Saved.{place_bytes, saved, clashes, is_allowed,
 ghost use Rattle.lock_host.specs.Saved.{nothing_after};
 ghost use Rattle.lock_host.specs.Saved.{with_places, loaded};
 
-use crate::fields::{name, number, put_name, put_number};
+use crate::fields::{name, put_name};
 use crate::lock::Lock;
 use crate::locks::{LockTable, MAX_LOCKS};
 use nop_types::{Bytes, NoMemory};
+use saved_fields::{number, put_number};
 use std::alloc::Global;
 
 /// Appends a place.

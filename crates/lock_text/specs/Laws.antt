@@ -1,124 +1,32 @@
 -- Proofs: nothing here has to be believed.
--- The words of an op name it, and what words name is spelled by their bytes.
-use Rattle.std.proofs.Common.{◌≡◌, ℕ, zero, suc, ◌<◌, ◌^◌, Bool, true, false, cond, List, [], ◌∷◌, ◌++◌, length, Option, Some, None, refl, sym, ap, subst}
-use Rattle.std.proofs.Common.{◌∙◌, arith, append-nil, inl, inr, decimal, lit<}
-use Rattle.std.specs.Prelude.{⊤, IfSome, nat_le, nat_lt, ◌&&◌, ◌==◌, ◌*◌, ◌+◌, ◌-◌, codes}
-use Rattle.std.specs.Option.{option_and_then}
+-- What words name is spelled by their bytes, what is spelled has words, and the words of answers.
+use Rattle.std.proofs.Common.{◌≡◌, ℕ, suc, ◌<◌, ◌≤◌, ◌^◌, Bool, true, false, cond, List, [], ◌∷◌, ◌++◌, length, Option, Some, None, refl, sym, ap, subst}
+use Rattle.std.proofs.Common.{◌∙◌, arith, append-nil, decimal, lit<, length-append}
+use Rattle.std.specs.Prelude.{IfSome, nat_le, nat_lt, option_map, ◌&&◌, ◌==◌, ◌*◌, ◌+◌, ◌-◌, codes}
 use Rattle.std.proofs.lemmas.Bool.{and_parts, leb-true, ltb-true}
 use Rattle.std.proofs.lemmas.Bool.Decides.{nat_tests}
-use Rattle.hex.specs.Hex.{IsBytes}
+use Rattle.lemmas.proofs.Options.{same_Some-at}
 use Rattle.line_fields.specs.Fields.{is_text, digit_on, number_on, number_of}
-use Rattle.line_fields.proofs.FieldTexts.{number_again}
 use Rattle.op_text.specs.Words.{bytes_of, word_of}
-use Rattle.op_text.proofs.WordLemmas.{read_back}
+use Rattle.saved_fields.specs.Numbers.{number_bytes, number_at}
+use Rattle.saved_fields.specs.Reading.{length-number, number_at-number, text_at-text}
+use Rattle.saved_fields.specs.Texts.{text_at}
+use Rattle.op_table.specs.declared.table.FieldShape.TheVariants.{Number, Rest, Text}
+use Rattle.op_table.specs.Laws.{op_is}
+use Rattle.op_table.specs.Shapes as table
+use Rattle.op_table.specs.Shapes.{AreFields, OpShape, field_of, named_words, row_words, word_at, words_at}
 use Rattle.lock_host.specs.declared.name.TheConstants.{MAX_NAME_BYTES}
 use Rattle.lock_host.specs.declared.op.TheConstants.{ACQUIRE, RELEASE, INSPECT}
 use Rattle.lock_host.specs.declared.op.LockOp.{LockOp}
 use Rattle.lock_host.specs.declared.op.LockOp.TheVariants.{Acquire, Release, Inspect, Bad}
 use Rattle.lock_host.specs.declared.lock.Lock.{Lock}
-use Rattle.lock_host.specs.Fields.{NameFits, name_bytes, number_bytes, number_at}
+use Rattle.lock_host.specs.Fields.{NameFits, name_bytes}
 use Rattle.lock_host.specs.Locks.{granted, held}
-use Rattle.lock_host.specs.Op.{read_op}
-use Rattle.lock_host.specs.Reading.{number_at-number}
 use Rattle.lock_host.specs.Spelling.{Spells}
-use Rattle.lock_host.proofs.ReadLemmas.{reads_only_spelled}
-use Rattle.lock_text.specs.Text.{fits_name, name_of, named, spell, op_of, words_in, words_of, result_words}
+use Rattle.lock_text.specs.Text.{IsNamed, Names, a_name, acquire_of, acquire_shape, fits_name, inspect_of, inspect_shape, lock_answers, lock_ops}
+use Rattle.lock_text.specs.Text.{name_of, named, op_of, release_of, release_shape, result_words, words_in, words_of}
 
--- ---- the names of an op of bytes are bytes
-
-bytes_prefix : (xs ys : List ℕ) → IsBytes (xs ++ ys) → IsBytes xs
-bytes_prefix [] ys all i = omega arith
-bytes_prefix (x ∷ xs) ys all zero = all 0
-bytes_prefix (x ∷ xs) ys all (suc i) = bytes_prefix xs ys (λ j. all (suc j)) i
-
-bytes_back : (xs ys : List ℕ) → IsBytes (xs ++ ys) → IsBytes ys
-bytes_back [] ys all = all
-bytes_back (x ∷ xs) ys all = bytes_back xs ys (λ j. all (suc j))
-
-first_is : (name rest : List ℕ) → IsBytes (name_bytes name ++ rest) → IsBytes name
-first_is name rest all = bytes_prefix name rest (λ j. all (suc j))
-
-rest_is : (name rest : List ℕ) → IsBytes (name_bytes name ++ rest) → IsBytes rest
-rest_is name rest all = bytes_back name rest (λ j. all (suc j))
-
-last_is : (name : List ℕ) → IsBytes (name_bytes name) → IsBytes name
-last_is name all j = all (suc j)
-
-after_kind : (kind : ℕ) (bytes fields : List ℕ) → bytes ≡ kind ∷ fields → IsBytes bytes → IsBytes fields
-after_kind kind bytes fields e all j = subst IsBytes e all (suc j)
-
--- a name of bytes that has a length in its range
-abbrev IsName : List ℕ → Type 0
-IsName name = NameFits name × IsBytes name
-
-abbrev IsOp : LockOp → Type 0
-IsOp (Acquire name owner) = IsName name × IsName owner
-IsOp (Release name owner token) = IsName name × IsName owner × (token < 2 ^ 64)
-IsOp (Inspect name) = IsName name
-IsOp Bad = ⊤
-
-op_is : (op : LockOp) (bytes : List ℕ) → Spells op bytes → IsBytes bytes → IsOp op
-op_is (Acquire name owner) bytes (n, o, e) all =
-    let fields = after_kind ACQUIRE bytes (name_bytes name ++ name_bytes owner) e all in
-    ((n, first_is name (name_bytes owner) fields), (o, last_is owner (rest_is name (name_bytes owner) fields)))
-op_is (Release name owner token) bytes (n, o, t, e) all =
-    let fields = after_kind RELEASE bytes (name_bytes name ++ (name_bytes owner ++ number_bytes token)) e all in
-    let behind = rest_is name (name_bytes owner ++ number_bytes token) fields in
-    ((n, first_is name (name_bytes owner ++ number_bytes token) fields), (o, first_is owner (number_bytes token) behind), t)
-op_is (Inspect name) bytes (n, e) all = (n, last_is name (after_kind INSPECT bytes (name_bytes name) e all))
-op_is Bad bytes h all = absurd h
-
--- ---- the words of an op name it
-
-name_fits : (name : List ℕ) → NameFits name → fits_name name ≡ true
-name_fits name fits =
-    let least = fits.least in
-    let most = fits.most in
-    grind (arith, nat_tests)
-
-name_again : (name : List ℕ) → IsName name → name_of (word_of name) ≡ Some name
-unfolding name_of
-name_again name n = rw (read_back name n.1) (rw (name_fits name n.0) refl)
-
-named_again : (op : LockOp) → IsOp op → IfSome (words_in op) (λ words. named words ≡ Some op)
-unfolding named
-named_again (Acquire name owner) (n, o) = rw (name_again name n, name_again owner o) refl
-named_again (Release name owner token) (n, o, t) = rw (name_again name n, name_again owner o, number_again token t) refl
-named_again (Inspect name) n = rw (name_again name n) refl
-named_again Bad h = tt
-
-spelled_again : (op : LockOp) (bytes : List ℕ) → Spells op bytes → spell op ≡ Some bytes
-spelled_again (Acquire name owner) bytes (n, o, e) = ap Some (sym e)
-spelled_again (Release name owner token) bytes (n, o, t, e) = ap Some (sym e)
-spelled_again (Inspect name) bytes (n, e) = ap Some (sym e)
-spelled_again Bad bytes h = absurd h
-
-both : (words : Option (List (List ℕ))) (op : LockOp) (bytes : List ℕ) → IfSome words (λ w. named w ≡ Some op) → spell op ≡ Some bytes
-    → IfSome words (λ w. op_of w ≡ Some bytes)
-both None op bytes h e = tt
-both (Some w) op bytes h e = ap (λ (o : Option LockOp). option_and_then spell o) h ∙ e
-
-pub reads_back : (op : List ℕ) → IsBytes op → IfSome (words_of op) (λ words. op_of words ≡ Some op)
-reads_back op all = elim (reads_only_spelled op) [
-  | inl bad ↦ subst (λ (o : LockOp). IfSome (words_in o) (λ words. op_of words ≡ Some op)) (sym bad) tt
-  | inr spelled ↦ both (words_in (read_op op)) (read_op op) op (named_again (read_op op) (op_is (read_op op) op spelled all))
-      (spelled_again (read_op op) op spelled)
-]
-
--- ---- what words name is spelled
-
--- the names have lengths in their range, and the token is of 64 bits
-abbrev OpFits : LockOp → Type 0
-OpFits (Acquire name owner) = NameFits name × NameFits owner
-OpFits (Release name owner token) = NameFits name × NameFits owner × (token < 2 ^ 64)
-OpFits (Inspect name) = NameFits name
-OpFits Bad = ⊤
-
--- what is read in two steps has what the second step gives of what the first gave
-both_fit : {A B : Type 0} (P : A → Type 0) (Q : B → Type 0) (o : Option A) (f : A → Option B) → IfSome o P
-    → ((x : A) → P x → IfSome (f x) Q) → IfSome (option_and_then f o) Q
-both_fit P Q None f h k = tt
-both_fit P Q (Some x) f h k = k x h
+-- ---- fields
 
 guarded : {A : Type 0} (P : A → Type 0) (b : Bool) (x : A) → (b ≡ true → P x) → IfSome (cond b (Some x) None) P
 guarded P true x h = h refl
@@ -128,15 +36,6 @@ name_fits_back : (name : List ℕ) → fits_name name ≡ true → NameFits name
 name_fits_back name e =
     let p = and_parts (nat_le 1 (length name)) (nat_le (length name) MAX_NAME_BYTES) e in
     record { least = leb-true 1 (length name) p.0; most = leb-true (length name) MAX_NAME_BYTES p.1 }
-
-whatever : (o : Option (List ℕ)) → IfSome o (λ x. ⊤)
-whatever None = tt
-whatever (Some x) = tt
-
-name_fits_of : (word : List ℕ) → IfSome (name_of word) NameFits
-unfolding name_of
-name_fits_of word =
-    both_fit (λ x. ⊤) NameFits (bytes_of word) _ (whatever (bytes_of word)) (λ name h. guarded NameFits (fits_name name) name (name_fits_back name))
 
 abbrev Is64 : ℕ → Type 0
 Is64 n = n < 2 ^ 64
@@ -164,45 +63,173 @@ number_fits (d ∷ e ∷ ds) = either (d == 48)
     either true = tt
     either false = number_on_fits (Some 0) (d ∷ e ∷ ds) (lit< tt)
 
-named_fits : (words : List (List ℕ)) → IfSome (named words) OpFits
-unfolding named
-named_fits [] = tt
-named_fits (word ∷ []) = tt
-named_fits (word ∷ lock ∷ []) =
-    both_fit NameFits OpFits (name_of lock) _ (name_fits_of lock) (λ l n. guarded OpFits (is_text (codes "inspect") word) (Inspect l) (λ e. n))
-named_fits (word ∷ lock ∷ owner ∷ []) =
-    both_fit NameFits OpFits (name_of lock) _ (name_fits_of lock)
-    (λ l n. both_fit NameFits OpFits (name_of owner) _ (name_fits_of owner)
-    (λ o m. guarded OpFits (is_text (codes "acquire") word) (Acquire l o) (λ e. (n, m))))
-named_fits (word ∷ lock ∷ owner ∷ token ∷ []) =
-    both_fit NameFits OpFits (name_of lock) _ (name_fits_of lock)
-    (λ l n. both_fit NameFits OpFits (name_of owner) _ (name_fits_of owner)
-    (λ o m. both_fit Is64 OpFits (number_of token) _ (number_fits token)
-    (λ t k. guarded OpFits (is_text (codes "release") word) (Release l o t) (λ e. (n, m, k)))))
-named_fits (word ∷ lock ∷ owner ∷ token ∷ more ∷ words) = tt
+-- the field is that of a name for which the word stands
+record IsNameIn (word bytes : List ℕ) : Type 0 where
+  name : List ℕ
+  named : name_of word ≡ Some name
+  fits : NameFits name
+  spelled : bytes ≡ name_bytes name
 
-spelled_op : (op : LockOp) (bytes : List ℕ) → OpFits op → spell op ≡ Some bytes → Spells op bytes
-spelled_op (Acquire name owner) bytes (n, o) e = (n, o, cc)
-spelled_op (Release name owner token) bytes (n, o, t) e = (n, o, t, cc)
-spelled_op (Inspect name) bytes n e = (n, cc)
-spelled_op Bad bytes h e = absurd cc
+name_by : (word name bytes : List ℕ) → bytes_of word ≡ Some name → (b : Bool) → fits_name name ≡ b
+    → cond b (Some (name_bytes name)) None ≡ Some bytes → IsNameIn word bytes
+unfolding name_of
+name_by word name bytes is false e given = absurd cc
+name_by word name bytes is true e given =
+    record { name = name; named = rw (is, e) refl; fits = name_fits_back name e; spelled = cc }
+
+name_from : (word bytes : List ℕ) (o : Option (List ℕ)) → bytes_of word ≡ o
+    → Rattle.std.specs.Option.option_and_then (λ name. cond (fits_name name) (Some (name_bytes name)) None) o ≡ Some bytes
+    → IsNameIn word bytes
+name_from word bytes None is given = absurd cc
+name_from word bytes (Some name) is given = name_by word name bytes is (fits_name name) refl given
+
+name_in : (word bytes : List ℕ) → field_of a_name word ≡ Some bytes → IsNameIn word bytes
+unfolding field_of
+name_in word bytes given = name_from word bytes (bytes_of word) refl given
+
+-- the field is that of a number for which the word stands
+record IsNumberIn (word bytes : List ℕ) : Type 0 where
+  number : ℕ
+  named : number_of word ≡ Some number
+  fits : number < 2 ^ 64
+  spelled : bytes ≡ number_bytes number
+
+number_from : (word bytes : List ℕ) (o : Option ℕ) → number_of word ≡ o → IfSome o Is64 → option_map number_bytes o ≡ Some bytes
+    → IsNumberIn word bytes
+number_from word bytes None is fits given = absurd cc
+number_from word bytes (Some n) is fits given = record { number = n; named = is; fits = fits; spelled = cc }
+
+number_in : (word bytes : List ℕ) → field_of Number word ≡ Some bytes → IsNumberIn word bytes
+unfolding field_of
+number_in word bytes given = number_from word bytes (number_of word) refl (number_fits word) given
+
+-- ---- what words name is spelled
+
+last_field : (l r a fields : List ℕ) → fields ≡ l ++ r → l ≡ a → r ≡ [] → fields ≡ a
+last_field l r a fields s e none = s ∙ rw (none, e) (append-nil a)
+
+first_field : (l r a b fields : List ℕ) → fields ≡ l ++ r → l ≡ a → r ≡ b → fields ≡ a ++ b
+first_field l r a b fields s e f = s ∙ rw (e, f) refl
+
+acquire_is : (words : List (List ℕ)) (fields : List ℕ) → AreFields acquire_shape.fields words fields
+    → Names (acquire_of words) (ACQUIRE ∷ fields)
+acquire_is [] fields are = absurd are
+acquire_is (lock ∷ []) fields (l, r, e, are, s) = absurd are
+acquire_is (lock ∷ owner ∷ []) fields (l, r, e, (o, q, g, none, t), s) =
+    let name = name_in lock l e in
+    let holder = name_in owner o g in
+    (Acquire name.name holder.name, rw (name.named, holder.named) refl, (name.fits, holder.fits,
+    ap (λ (bytes : List ℕ). ACQUIRE ∷ bytes) (first_field l r _ _ fields s name.spelled (last_field o q _ r t holder.spelled none))))
+acquire_is (lock ∷ owner ∷ more ∷ words) fields (l, r, e, (o, q, g, none, t), s) = absurd none
+
+release_is : (words : List (List ℕ)) (fields : List ℕ) → AreFields release_shape.fields words fields
+    → Names (release_of words) (RELEASE ∷ fields)
+release_is [] fields are = absurd are
+release_is (lock ∷ []) fields (l, r, e, are, s) = absurd are
+release_is (lock ∷ owner ∷ []) fields (l, r, e, (o, q, g, are, t), s) = absurd are
+release_is (lock ∷ owner ∷ token ∷ []) fields (l, r, e, (o, q, g, (n, z, h, none, u), t), s) =
+    let name = name_in lock l e in
+    let holder = name_in owner o g in
+    let number = number_in token n h in
+    (Release name.name holder.name number.number, rw (name.named, holder.named, number.named) refl,
+    (name.fits, holder.fits, number.fits,
+    ap (λ (bytes : List ℕ). RELEASE ∷ bytes)
+    (first_field l r _ _ fields s name.spelled
+    (first_field o q _ _ r t holder.spelled (last_field n z _ q u number.spelled none)))))
+release_is (lock ∷ owner ∷ token ∷ more ∷ words) fields (l, r, e, (o, q, g, (n, z, h, none, u), t), s) = absurd none
+
+inspect_is : (words : List (List ℕ)) (fields : List ℕ) → AreFields inspect_shape.fields words fields
+    → Names (inspect_of words) (INSPECT ∷ fields)
+inspect_is [] fields are = absurd are
+inspect_is (lock ∷ []) fields (l, r, e, none, s) =
+    let name = name_in lock l e in
+    (Inspect name.name, rw (name.named) refl, (name.fits,
+    ap (λ (bytes : List ℕ). INSPECT ∷ bytes) (last_field l r _ fields s name.spelled none)))
+inspect_is (lock ∷ more ∷ words) fields (l, r, e, none, s) = absurd none
+
+by_name : (a r i : Bool) (words : List (List ℕ)) → IfSome (cond a (Some acquire_shape) (cond r (Some release_shape) (cond i (Some inspect_shape) None)))
+    (λ shape. (fields : List ℕ) → AreFields shape.fields words fields
+    → Names (cond a (acquire_of words) (cond r (release_of words) (cond i (inspect_of words) None))) (shape.kind ∷ fields))
+by_name true r i words = acquire_is words
+by_name false true i words = release_is words
+by_name false false true words = inspect_is words
+by_name false false false words = tt
+
+all_named : (word : List ℕ) (words : List (List ℕ)) (o : Option (List ℕ)) → IfSome o (table.IsOpOf lock_ops word words)
+    → IfSome o (IsNamed (word ∷ words))
+all_named word words None h = tt
+all_named word words (Some bytes) h =
+    let is =
+    subst (λ (o : Option OpShape). IfSome o (λ shape. (fields : List ℕ) → AreFields shape.fields words fields
+        → IsNamed (word ∷ words) (shape.kind ∷ fields))) h.named
+    (by_name (is_text (codes "acquire") word) (is_text (codes "release") word) (is_text (codes "inspect") word) words) in
+    subst (IsNamed (word ∷ words)) (sym h.spelled) (is h.fields h.are)
+
+no_words : IfSome (op_of []) (IsNamed [])
+unfolding table.op_of
+no_words = tt
+
+pub op_named : (words : List (List ℕ)) → IfSome (op_of words) (IsNamed words)
+op_named [] = no_words
+op_named (word ∷ words) = all_named word words (op_of (word ∷ words)) (op_is lock_ops word words)
+
+same_op : (words : List (List ℕ)) (op : LockOp) (bytes : List ℕ) → named words ≡ Some op → IsNamed words bytes → Spells op bytes
+same_op words op bytes n (x, e, spells) =
+    subst (λ (o : LockOp). Spells o bytes) (same_Some-at (named words) x op e n) spells
 
 pub named_spelled : (words : List (List ℕ)) (op : LockOp) (bytes : List ℕ) → named words ≡ Some op → op_of words ≡ Some bytes
     → Spells op bytes
 named_spelled words op bytes n e =
-    spelled_op op bytes (subst (λ (o : Option LockOp). IfSome o OpFits) n (named_fits words))
-    (sym (ap (λ (o : Option LockOp). option_and_then spell o) n) ∙ e)
+    same_op words op bytes n (subst (λ (o : Option (List ℕ)). IfSome o (IsNamed words)) e (op_named words))
+
+-- ---- what is spelled has words
+
+name_word : (name rest : List ℕ) → NameFits name → word_at a_name (name_bytes name ++ rest) ≡ Some (word_of name, rest)
+unfolding word_at
+name_word name rest fits =
+    let least = fits.least in
+    let test : nat_le 1 (length name) ≡ true = grind (arith, nat_tests, least) in
+    rw (text_at-text MAX_NAME_BYTES name rest fits.most, test) refl
+
+last_name : (name : List ℕ) → NameFits name → word_at a_name (name_bytes name) ≡ Some (word_of name, [])
+last_name name fits = ap (word_at a_name) (sym (append-nil (name_bytes name))) ∙ name_word name [] fits
+
+last_number : (n : ℕ) → n < 2 ^ 64 → number_at (number_bytes n) ≡ Some (n, [])
+last_number n fits = ap number_at (sym (append-nil (number_bytes n))) ∙ number_at-number n [] fits
+
+number_word : (n : ℕ) → n < 2 ^ 64 → word_at Number (number_bytes n) ≡ Some (decimal n, [])
+unfolding word_at
+number_word n fits = rw (last_number n fits) refl
+
+short : (op : List ℕ) → length op ≤ 139 → nat_le (length op) 640 ≡ true
+short op fits = grind (arith, nat_tests)
+
+pub spelled_words : (op : LockOp) (bytes : List ℕ) → Spells op bytes → words_of bytes ≡ words_in op
+unfolding table.words_of named_words words_at
+spelled_words (Acquire name owner) bytes (n, o, e) =
+    let l = length-append (name_bytes name) (name_bytes owner) in
+    let few : length (ACQUIRE ∷ (name_bytes name ++ name_bytes owner)) ≤ 139 = omega (arith, l, n.most, o.most) in
+    ap (λ (b : List ℕ). words_of b) e
+    ∙ rw (short _ few, name_word name (name_bytes owner) n, last_name owner o) refl
+spelled_words (Release name owner token) bytes (n, o, t, e) =
+    let l = length-append (name_bytes name) (name_bytes owner ++ number_bytes token) in
+    let m = length-append (name_bytes owner) (number_bytes token) in
+    let k = length-number token in
+    let few : length (RELEASE ∷ (name_bytes name ++ (name_bytes owner ++ number_bytes token))) ≤ 139 = omega (arith, l, m, k, n.most, o.most) in
+    ap (λ (b : List ℕ). words_of b) e
+    ∙ rw (short _ few, name_word name (name_bytes owner ++ number_bytes token) n, name_word owner (number_bytes token) o, number_word token t) refl
+spelled_words (Inspect name) bytes (n, e) =
+    let few : length (INSPECT ∷ name_bytes name) ≤ 139 = omega (arith, n.most) in
+    ap (λ (b : List ℕ). words_of b) e ∙ rw (short _ few, last_name name n) refl
+spelled_words Bad bytes h = absurd h
 
 -- ---- the words of answers
 
-last_number : (token : ℕ) → token < 2 ^ 64 → number_at (number_bytes token) ≡ Some (token, [])
-last_number token fits = ap number_at (sym (append-nil (number_bytes token))) ∙ number_at-number token [] fits
-
 pub granted_words_of : (token : ℕ) → token < 2 ^ 64 → result_words (granted token) ≡ codes "granted" ∷ decimal token ∷ []
-unfolding result_words
-granted_words_of token fits = rw (last_number token fits) refl
+unfolding table.result_words row_words words_at
+granted_words_of token fits = rw (number_word token fits) refl
 
 pub held_words_of : (lock : Lock) → lock.token < 2 ^ 64
     → result_words (held lock) ≡ codes "held" ∷ decimal lock.token ∷ word_of lock.owner ∷ []
-unfolding result_words
+unfolding table.result_words row_words words_at word_at
 held_words_of lock fits = rw (number_at-number lock.token lock.owner fits) refl

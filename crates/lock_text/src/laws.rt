@@ -1,18 +1,25 @@
 //! What the definitions say together.
 
-ghost use Rattle.std.specs.Prelude.{◌≡◌, ◌<◌, ◌^◌, ◌∷◌, [], ℕ, List, Some, codes, decimal};
+ghost use Rattle.std.specs.Prelude.{◌≡◌, ◌<◌, ◌^◌, ◌∷◌, [], ℕ, List, IfSome, Some, codes, decimal};
 ghost use Rattle.lock_host.specs.Locks.{granted, held};
 ghost use Rattle.lock_host.specs.Spelling.{Spells};
 ghost use Rattle.lock_host.specs.declared.lock.Lock.{Lock};
 ghost use Rattle.lock_host.specs.declared.op.LockOp.{LockOp};
-ghost use Rattle.lock_text.specs.Text.{named, op_of, result_words};
+ghost use Rattle.lock_text.specs.Text.{IsNamed, named, op_of, result_words, words_in, words_of};
 ghost use Rattle.op_text.specs.Words.{word_of};
 
-/// The bytes that words give spell the op that the words name.
-#[tactic(auto, using(crate::specs::Laws::named_spelled))]
+/// The bytes that words give spell the op that the words name; and words that give bytes name one.
+#[tactic(auto, using(crate::specs::Laws::named_spelled, crate::specs::Laws::op_named))]
 pub fn named_ops_are_spelled()
-    ensures { (words : List (List ℕ)) (op : LockOp) (bytes : List ℕ) → named words ≡ Some op
-        → op_of words ≡ Some bytes → Spells op bytes }
+    ensures spelled { (words : List (List ℕ)) (op : LockOp) (bytes : List ℕ)
+        → named words ≡ Some op → op_of words ≡ Some bytes → Spells op bytes }
+    ensures named { (words : List (List ℕ)) → IfSome (op_of words) (IsNamed words) }
+{}
+
+/// The words of bytes that spell an op are those of the op.
+#[tactic(auto, using(crate::specs::Laws::spelled_words))]
+pub fn spelled_ops_have_words()
+    ensures { (op : LockOp) (bytes : List ℕ) → Spells op bytes → words_of bytes ≡ words_in op }
 {}
 
 /// The words of an answer tell the token that it grants, or by which the lock is held, and its owner.

@@ -2,21 +2,19 @@
 //! TOKEN`, `inspect LOCK`; `granted TOKEN`, `held TOKEN OWNER`, `released`, `refused`, `free`,
 //! `full`, `spent`, `bad`. A token is a number in decimal.
 //!
-//! `LockText` meets the trait `OpText`. Words name an op exactly where `named` reads one from them,
-//! with names of 1 to 64 bytes; its bytes are then those that spell it (law `named_ops_are_spelled`).
-//! Each op that its bytes spell has words (`words_in`), and they name it (`reads_back`); bytes that
-//! spell none have no words. The words of an answer tell its token and owner (law
-//! `answers_are_told_in_words`).
+//! `LockText` is the table of these ops and answers (`op_table`), and so meets the trait `OpText`.
+//! Words name an op exactly where `named` reads one from them, with names of 1 to 64 bytes; its
+//! bytes are then those that spell it (law `named_ops_are_spelled`). Each op that its bytes spell
+//! has words (`words_in`, law `spelled_ops_have_words`), and they name it (`reads_back` of
+//! `op_table`). The words of an answer tell its token and owner (law `answers_are_told_in_words`).
 //!
 //! Calls: `LockText`, by the trait, for the programs of the lock service, as `locks`.
 //!
-//! Files: `spell` (from an op to bytes), `text` (from words, and to words), `laws`. Definitions:
-//! `specs/Text`.
+//! Files: `table`, `laws`. Definitions: `specs/Text`; `specs/Laws` proves the laws.
 #![tactic(auto)]
 
 mod laws;
-mod spell;
-mod text;
+mod table;
 
-pub use laws::{answers_are_told_in_words, named_ops_are_spelled};
-pub use text::LockText;
+pub use laws::{answers_are_told_in_words, named_ops_are_spelled, spelled_ops_have_words};
+pub use table::LockText;

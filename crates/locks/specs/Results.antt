@@ -2,8 +2,8 @@
 use Rattle.std.specs.Prelude.{ℕ, List, [], ◌∷◌, ◌++◌, Option, Some, None, codes, if◌then◌else◌}
 use Rattle.std.specs.Option.{option_and_then}
 use Rattle.line_fields.specs.Fields.{is_text, number_of}
-use Rattle.lock_host.specs.Fields.{number_bytes}
 use Rattle.op_text.specs.Words.{bytes_of}
+use Rattle.saved_fields.specs.Numbers.{number_bytes}
 
 infixl 10 ◌>>=◌
 abbrev pub ◌>>=◌ : {A B : Type 0} → Option A → (A → Option B) → Option B

@@ -1,12 +1,13 @@
 //! Results of the lock service, read from words.
 
 ghost use Rattle.std.specs.Prelude.{◌≡◌, ◌++◌, IfOk};
-ghost use Rattle.lock_host.specs.Fields.{number_bytes};
 ghost use Rattle.locks.specs.Results.{granted_of, held_of, result_of};
+ghost use Rattle.saved_fields.specs.Numbers.{number_bytes};
 
 use line_fields::{is_word, number};
 use nop_types::{Bytes, NoMemory};
 use op_text::bytes_of;
+use saved_fields::put_number;
 use service_words::ResultText;
 use std::alloc::Global;
 
@@ -14,12 +15,11 @@ use std::alloc::Global;
 pub struct LockResults;
 
 /// A word and the bytes of a token.
-#[tactic(auto, unfolding(lock_host::specs::Fields::number_bytes))]
 fn with_token(alloc: Global, word: &str, token: u64) -> Result<Vec<u8>, NoMemory>
     ensures { IfOk result (λ bytes. bytes.items ≡ word.now ++ number_bytes token) }
 {
     let mut bytes = Vec::from_slice(alloc, word.as_bytes())?;
-    bytes.extend_from_slice(&token.to_be_bytes())?;
+    put_number(&mut bytes, token)?;
     Ok(bytes)
 }
 
