@@ -73,6 +73,20 @@ same() {
     : > "$folder/err"
 }
 
+# rows FILE COMMAND..: runs the command once for each row of a file, with two more words: what stands above the row's line => and what stands
+# below it. Lines ---- stand between rows.
+rows() {
+    local text row
+    IFS= read -r -d '' text < "$1"
+    [ -n "$text" ] || differs "$1 has no rows"
+    while [ -n "$text" ]; do
+        row=${text%%----$'\n'*}
+        text=${text#"$row"}
+        text=${text#----$'\n'}
+        "${@:2}" "${row%%=>*}" "${row#*=>}"
+    done
+}
+
 # concludes: says how many were looked at, and ends with status 1 where one differs.
 concludes() {
     if [ "$wrong" != 0 ]; then

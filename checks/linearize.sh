@@ -171,6 +171,17 @@ answers 'few steps' 9 'unknown steps 3' --most 3 < <(transcript "submit c0 1 $ge
 answers 'no steps' 9 'unknown steps 0' --most 0 < <(transcript "submit c0 1 $get")
 answers 'the most steps' 0 "$(transcript "submit c0 1 $get")" --most 18446744073709551615 < <(transcript "submit c0 1 $get")
 
+# The rows of checks/linearize/rows.txt: a history, the status, and what is written.
+answered() {
+    made=$((made + 1))
+    linearizes < <(printf %s "$1")
+    [ "$status" = "${2:1:1}" ] && [ ! -s "$folder/err" ] && cmp -s "$folder/out" - <<< "$(tail -n +2 <<< "$2")" ||
+        differs "the history '$1': status $status, '$(head -c 300 "$folder/out")'"
+}
+rows checks/linearize/rows.txt answered
+one=$(transcript "submit c0 1 $get" "accept c0 1 $none")
+for most in 0 2; do answers "$most steps" 9 "unknown steps $most" --most $most <<< "$one"; done
+
 # keys COUNT RESULT: so many keys are put, one after the other; the last put has this result.
 keys() {
     transcript "$(awk -v count="$1" -v last="$2" 'BEGIN {
@@ -185,14 +196,20 @@ answers 'the same with room' 8 'none part - line 8195' < <(keys 4097 $none)
 answers 'as many keys as it has room for' 8 'none part 1000 line 8193' < <(keys 4096 66756c6c)
 
 # ---- arguments and faults
-for words in '--most' '--most x' '--most -1' '--most 03' '--most 18446744073709551616' '--most 1 --most 2' '--most=3' '-most 3' 'check' '--help'; do
+for words in '--most' '--most x' '--most -1' '--most 03' '--most 18446744073709551616' '--most 1 --most 2' '--most=3' '-most 3' '--steps 5' 5 '--most 5 5' 'check' '--help'; do
     # shellcheck disable=SC2086
     answers "the words $words" 2 'usage: kv_linearize [--most STEPS] < HISTORY' $words < /dev/null
 done
+made=$((made + 1))
+[ "$({ "$program" --most 05 2> /dev/null > /dev/null; cat; } <<< "$one")" = "$one" ] || differs 'words that are not taken: the history is read'
 answers 'a folder as input' 3 '' < "$folder"
 transcript | "$program" > /dev/full 2> "$folder/err"
 same 'a full disk' $? 4 ''
 program=$lock_linearize
+locked=('submit c0 1 4102646203616e6e' 'submit c1 1 4102646203626f62' 'accept c1 1 6772616e7465640000000000000001'
+    'accept c0 1 68656c640000000000000001626f62')
+answers 'who asks last is granted the lock first' 0 "$(transcript "${locked[@]}" 'history 1 c1 1 4102646203626f62' \
+    'history 2 c0 1 4102646203616e6e')" < <(transcript "${locked[@]}")
 answers 'locks, a word' 2 'usage: lock_linearize [--most STEPS] < HISTORY' --help < /dev/null
 
 concludes

@@ -100,31 +100,12 @@ history 76'
 "$program" gen 7 1 > /dev/full 2> "$folder/err"
 same 'a summary on a full disk' $? 4 ''
 
-# ---- words; the last ones have a key of 65 bytes, an op of 641, and 65 ops
+# ---- words that are not taken; the last ones have a key of 65 bytes, an op of 641, and 65 ops
 big=$(printf '78%.0s' {1..640})
-for words in '' 'stop' 'replay replay' 'gen 1 0' 'gen 1 100001' 'node' 'node --help' \
-    'node --id 0 --replicas 3 --sequencers 1 --id 0' \
-    'node --id 0 --replicas 3 --replicas 3 --sequencers 1' \
-    'node --id 3 --replicas 3 --sequencers 1' \
-    'node --id 0 --replicas 2 --sequencers 1' \
-    'node --id 0 --replicas 3 --sequencers 1 --base 65001' \
-    'controller --replicas 3 --sequencers 1' \
-    'controller --id 4 --replicas 3 --sequencers 1' \
-    'controller --id 0 --replicas 3 --sequencers 1 --session 2' \
-    'client --id 0 --replicas 3 --sequencers 1' \
-    'client --id 0 --replicas 3 --sequencers 1 5x' \
-    'node --id 0 --replicas 3 --sequencers 1 --observers 5' \
-    'observer --id 4 --replicas 3 --sequencers 1' \
-    'observer --id 0 --replicas 3 --sequencers 1 6b' \
-    'read --id 0 --replicas 3 --sequencers 1 6b' \
-    'read --id 0 --observer 4 --replicas 3 --sequencers 1 6b' \
-    'read --id 0 --observer 0 --replicas 3 --sequencers 1' \
-    'read --id 0 --observer 0 --replicas 3 --sequencers 1 6' \
-    'read --id 0 --observer 0 --replicas 3 --sequencers 1 6b 6b' \
-    'node --id 0 --replicas 3 --sequencers 1 --trace --trace' \
-    'node --id 0 --replicas 3 --sequencers 1 --trace=1' \
-    'cluster --replicas 3 --sequencers 1 --clients 1 --trace 50' \
-    'replay --trace' 'audit --trace' 'audit audit' \
+mapfile -t refused < checks/processes/words.txt
+made=$((made + 1))
+[ "${#refused[@]}" -gt 60 ] || differs 'checks/processes/words.txt lacks lines'
+for words in '' "${refused[@]}" \
     "read --id 0 --observer 0 --replicas 3 --sequencers 1 ${big:0:130}" \
     "client --id 0 --replicas 3 --sequencers 1 ${big}78" \
     "client --id 0 --replicas 3 --sequencers 1 $(printf '50 %.0s' {1..65})"; do
@@ -135,6 +116,8 @@ done
 # shellcheck disable=SC2086
 "$program" read --id 0 --observer 0 $site '' > "$folder/out" 2> "$folder/err"
 same 'a key without bytes' $? 2 "$usage"
+"$program" read '' --id 0 --observer 0 --replicas 3 --sequencers 1 > "$folder/out" 2> "$folder/err"
+same 'a word without bytes' $? 2 "$usage"
 "$program" $'\377' > "$folder/out" 2> "$folder/err"
 same 'a word that is not UTF-8' $? 2 "$usage"
 "$program" replay $'a\200' < "$schedule" > "$folder/out" 2> "$folder/err"
@@ -189,6 +172,16 @@ served 1 lost 0"
     wait "$server" 2> /dev/null
     server=
 }
+
+# ---- a cluster in one process, of the most clients and ops: all are accepted
+made=$((made + 1))
+# shellcheck disable=SC2086,SC2046
+timeout 60 "$program" cluster $site --clients 16 $(printf '5000016b000176 %.0s' {1..64}) > "$folder/out" 2> "$folder/err"
+status=$?
+sed '1,/^transcript /{/^transcript /!d}; /^served /d' "$folder/out" > "$folder/transcript"
+[ $status = 0 ] && [ ! -s "$folder/err" ] && grep -q '^history 64 c[0-9]* 4 5000016b000176$' "$folder/out" &&
+    [ "$("$program" check < "$folder/transcript")" = 'legal 64 64 64' ] || differs "the cluster of 16 clients: status $status"
+: > "$folder/out"
 
 # ---- an observer beside three replicas, which tell two observers what is synchronised; one of these is not there
 . checks/nodes.bash

@@ -74,12 +74,43 @@ echo "$header" | "$braid" > /dev/full 2> "$folder/err"
 same 'braid, a full disk' $? 4 'error writing the order' err
 echo "$header" | "$braid" 2> "$folder/err" >&-
 same 'braid, no output' $? 4 'error writing the order' err
+# Orders by hand, each also of traces without their last line end.
+ordered_row() {
+    local given status
+    for given in "$1" "${1%$'\n'}"; do
+        made=$((made + 1))
+        printf %s "$given" | "$braid" > "$folder/out" 2> "$folder/err"
+        status=$?
+        [ $status = 0 ] && [ ! -s "$folder/err" ] && cmp -s "$folder/out" - <<< "${2:1:-1}" ||
+            differs "braid, the row '$given': status $status, '$(head -c 300 "$folder/out")'"
+    done
+}
+rows checks/traces/orders.txt ordered_row
 longest=$(head -c 4096 /dev/zero | tr '\0' x)
 braided 'a line of 4,096 bytes' "$header
 $longest" "$header
 $longest"
+braided 'a line of 4,096 bytes and its end' "$header
+$longest
+" "$header
+$longest"
+braided 'a line of 4,096 bytes before a step' "$header
+$longest
+in r0" "$header
+$longest
+in r0"
+for rest in '' $'\nin r0'; do
+    printf %s "$header
+${longest}x$rest" | "$braid" > "$folder/out" 2> "$folder/err"
+    same "braid, a line of 4,097 bytes before '$rest'" $? 8 'braid line 2 fault 1' err
+done
 printf '%s\n' "$header" "${longest}x" "${longest}x" | "$braid" > "$folder/out" 2> "$folder/err"
 same 'braid, a line of 4,097 bytes' $? 8 'braid line 2 fault 1' err
+yes '' | head -n 4000000 | "$braid" > "$folder/out" 2> "$folder/err"
+status=$?
+made=$((made + 1))
+[ $status = 0 ] && [ "$(tr -d '\n' < "$folder/out" | wc -c) $(wc -l < "$folder/out")" = '0 4000000' ] && [ ! -s "$folder/err" ] ||
+    differs "braid, the most lines: status $status"
 yes | head -n 4000001 | "$braid" > "$folder/out" 2> "$folder/err"
 same 'braid, a line too many' $? 8 'braid line 4000001 fault 1' err
 # 900,000 steps do not fit into 10 MB.
@@ -109,6 +140,29 @@ audited 'an actor that is not there' 8 'audit line 2 fault 2' "$header" 'in c1 t
 audited 'a line that is none' 8 'audit line 2 fault 1' "$header" 'served 1 lost 0'
 audited 'a first line alone' 0 "$header
 audited 0" "$header"
+# Traces and what is written for them: a request that is taken by the sequencer; a put with its answer, a read of an observer, and inputs
+# that give little; no steps; a client that is busy, of which no trace can tell; a put that three replicas log and the leader synchronises;
+# two controllers that move to one sequencer, of which one goes on in an epoch above the other's. Datagrams are those of docs/FORMATS.md.
+audited_row() {
+    local wanted=0 status
+    [[ $2 != $'\n'audit\ line\ * ]] || wanted=8
+    made=$((made + 1))
+    printf %s "$1" | "$program" audit > "$folder/out" 2> "$folder/err"
+    status=$?
+    [ $status = $wanted ] && [ ! -s "$folder/err" ] && cmp -s "$folder/out" - <<< "${2:1:-1}" ||
+        differs "audit, the row '$1': status $status, '$(head -c 300 "$folder/out")'"
+}
+rows checks/traces/audits.txt audited_row
+# Lines behind a first step that is whole, and behind one whose last output is missing: the number of the fault, of which a line has one or
+# two. In lines `in` and `out` it is each that there can be, and each two that there can be.
+whole="${header/1 replicas/3 replicas} controllers 2 observers 1
+$submits"
+torn=$(head -n 3 <<< "$whole")
+while IFS='|' read -r after line fault; do
+    line=${line//UNSENT/${request%76}77}
+    printf '%s\n%s' "${!after}" "${line//SENT/$request}" | "$program" audit > "$folder/out" 2> "$folder/err"
+    same "audit, '$line' behind a $after step" $? 8 "audit line $(($(wc -l <<< "${!after}") + 1)) fault $fault"
+done < checks/traces/faults.txt
 "$program" audit < /dev/null > "$folder/out" 2> "$folder/err"
 same 'audit, no bytes' $? 8 'audit line 1 fault 1'
 "$program" audit < "$folder" > "$folder/out" 2> "$folder/err"

@@ -1,6 +1,7 @@
 #!/bin/bash
-# Replays each schedule of examples/ and compares the output and the exit status with the transcript beside it; then schedules
-# with a line that is too long to store. It takes a few seconds, leaves nothing behind, and ends with status 1 at any difference.
+# Replays each schedule of examples/ and compares the output and the exit status with the transcript beside it; then the rows of
+# checks/transcripts/rows.txt, schedules with a line that is too long to store, and a long one. It takes a few seconds, leaves nothing
+# behind, and ends with status 1 at any difference.
 #
 #   checks/transcripts.sh        the program is crates/nopaxos/out/nopaxos, or the file that NOPAXOS names
 . "$(dirname "$0")/common.bash" || exit 2
@@ -33,6 +34,26 @@ for schedule in examples/*.schedule; do
     row=$(cat "$schedule" - "$transcript" <<< '=>')
     [[ $table == *[\\-]$'\n'"$row"$'\n'[-\"]* ]] || differs "$name is not in the tables of example_transcripts"
 done
+
+# ---- the rows: no events, crashes, refused events, a checkpoint that is told, observers that follow or don't, actors that are not there
+replayed() {
+    printf %s "$1" > "$folder/schedule"
+    printf %s "${2#$'\n'}" > "$folder/transcript"
+    same "the row '$1'" "$folder/schedule" "$folder/transcript"
+}
+rows checks/transcripts/rows.txt replayed
+
+# ---- a request that is stamped in each of 100,998 lines
+{
+    printf 'nopaxos 1 replicas 1 sequencers 1 clients 1\nsubmit c0 -\n'
+    yes 'deliver 0 s0' | head -n 100998
+} > "$folder/schedule"
+{
+    printf 'transcript 1 replicas 1 sequencers 1 clients 1\nsubmit c0 1 -\nsend 0 c0 s* request 18\n'
+    seq -f 'send %.0f s0 r* stamped 34' 100998
+    printf 'replica r0 up normal 0 1 0 0\nend\n'
+} > "$folder/transcript"
+same 'a long schedule' "$folder/schedule" "$folder/transcript"
 
 # ---- a line of 4,097 bytes without an end, and one of 4,096 bytes with its end
 header='replicas 3 sequencers 1 clients 1'
