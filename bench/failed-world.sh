@@ -1,9 +1,10 @@
 #!/bin/bash
-# A world, a replica, a sequencer and a controller that ran out of memory: once a step answered so, each later one has to, whatever it
-# is given. Runs the two tests that say so once for each allocation that they make, with that one refused; each run has to pass. Prints
-# how many runs there were, and in how many a step failed. Ends with status 1 where a run did not pass or none failed.
+# A replica, a sequencer and a controller that ran out of memory: once a step answered so, each later one has to, whatever it is given.
+# (Of a world the contract of `step` says so.) Runs the test that says so once for each allocation that it makes, with that one refused;
+# each run has to pass. Prints how many runs there were, and in how many a step failed. Ends with status 1 where a run did not pass or
+# none failed.
 #
-#   bench/failed-world.sh        it proves and builds the tests first (rt test), where they are not built
+#   bench/failed-world.sh        it proves and builds the test first (rt test), where it is not built
 #
 # The allocator that refuses is that of refused-memory.sh. Needs a C compiler. It takes some seconds after the build.
 set -u
@@ -38,6 +39,5 @@ sweep() {
     fi
 }
 
-sweep world_tests failing::a_world_fails_for_good
 sweep core_tests failing::cores_fail_for_good
 exit "$wrong"

@@ -1,10 +1,13 @@
-//! One way to run the program over devices in memory, of which a text says what they hold and which of their calls fail.
+//! One way to run the program, and the tools that look for an order, over devices in memory, of
+//! which a text says what they hold and which of their calls fail.
 
 ghost use Rattle.std.specs.Prelude.{◌≤◌, length, true};
 ghost use Rattle.outside.specs.Memory.{IsFresh, MayAnswer};
 
-use commands::{Status, run};
+use braiding::{BraidError, braid};
+use commands::run;
 use kv_host::KvHost;
+use kv_parts::ByKey;
 use nop_types::{Bytes, MAX_DATAGRAM_BYTES};
 use outside::{
     CallPlan, ClockMem, Failing, LinkCall, LinkMem, PollAnswer, PortsMem, ReadMem, WriteMem,
@@ -20,7 +23,7 @@ pub const ONE_PUT: &str =
 /// How a run ended, what it wrote, and a line for each port and datagram that its links sent.
 #[derive(Drop)]
 pub struct Outcome {
-    pub status: Status,
+    pub status: u8,
     pub written: Vec<u8>,
     pub sent: String,
 }
@@ -95,7 +98,7 @@ pub fn datagram(rt: &impl Abort, alloc: Global, word: &str) -> Bytes
 }
 
 /// What a poll answers: a failure, nothing, or a datagram.
-fn answer(rt: &impl Abort, alloc: Global, word: &str) -> PollAnswer
+pub fn answer(rt: &impl Abort, alloc: Global, word: &str) -> PollAnswer
     ensures { MayAnswer true result }
 {
     match word {
@@ -105,7 +108,8 @@ fn answer(rt: &impl Abort, alloc: Global, word: &str) -> PollAnswer
     }
 }
 
-/// What a poll answers by its number, from 1. A line `instead` has the answer of one poll, and its number.
+/// What a poll answers by its number, from 1. A line `instead` has the answer of one poll, and its
+/// number.
 fn poll<'a>(rt: &impl Abort, head: &'a str, number: usize) -> &'a str {
     let (word, changed) = field(head, "instead ").split_once(' ').unwrap_or(("", "0"));
     if changed.parse::<usize>().expect(rt, "a number") == number {
@@ -161,24 +165,46 @@ fn sent_lines<P: CallPlan>(rt: &impl Abort, alloc: Global, links: &[LinkMem<P>])
     lines
 }
 
-/// Runs the words of the first line. Each further line says of a device, behind a word, how many bytes a call moves and which fail, or
-/// what it answers.
+/// The exit status of the program `braid`.
+fn braided(alloc: Global, source: &mut ReadMem<Failing>, sink: &mut WriteMem<Failing>) -> u8 {
+    match braid(alloc, source, sink) {
+        Ok(()) => 0,
+        Err(BraidError::ReadFault) => 3,
+        Err(BraidError::WriteFault) => 4,
+        Err(BraidError::NoMemory) => 6,
+        Err(BraidError::Refuted { .. }) => 8,
+    }
+}
+
+/// The exit status of a run, of the program that the first word names.
+fn status_of(
+    alloc: Global,
+    words: &[String],
+    source: &mut ReadMem<Failing>,
+    sink: &mut WriteMem<Failing>,
+    ports: &mut PortsMem<Failing>,
+) -> u8 {
+    match words.first().map(|word| word.as_str()) {
+        Some("braid") => braided(alloc, source, sink),
+        Some("linearize") => linearize::run::<ByKey, _, _>(alloc, "", words, source, sink) as u8,
+        _ => {
+            let mut clock = ClockMem::new(alloc);
+            run::<KvHost, _, _, _, _>(
+                alloc, "nopaxos", words, source, sink, ports, &mut clock,
+            ) as u8
+        }
+    }
+}
+
+/// Runs the words of the first line. Each further line says of a device, behind a word, how many
+/// bytes a call moves and which fail, or what it answers.
 pub fn outcome_of(rt: &impl Abort, alloc: Global, head: &str, schedule: &str) -> Outcome {
     let line = head.lines().next().unwrap_or("");
     let mut source = source_of(rt, alloc, head, schedule);
     let mut sink = sink_of(rt, alloc, head);
     let mut ports = ports_of(rt, alloc, head);
-    let mut clock = ClockMem::new(alloc);
     let words = words_of(rt, alloc, line);
-    let status = run::<KvHost, _, _, _, _>(
-        alloc,
-        "nopaxos",
-        &words,
-        &mut source,
-        &mut sink,
-        &mut ports,
-        &mut clock,
-    );
+    let status = status_of(alloc, &words, &mut source, &mut sink, &mut ports);
     Outcome {
         status,
         written: sink.into_vec(),
@@ -186,15 +212,12 @@ pub fn outcome_of(rt: &impl Abort, alloc: Global, head: &str, schedule: &str) ->
     }
 }
 
-/// The status, what was written, with a bar behind it, and what was sent.
-fn text_of(rt: &impl Abort, alloc: Global, outcome: &Outcome) -> String {
-    let written = std::str::from_utf8(&outcome.written).expect(rt, "text");
-    let text = format!(in alloc; "{:?}\n{written}|\n{}", outcome.status, outcome.sent);
-    text.expect(rt, "memory")
-}
-
-/// Compares what a run ends with.
+/// Compares what a run ends with: the status, what was written, with a bar behind it, and what was
+/// sent.
 pub fn check_outcome(rt: &impl Abort, alloc: Global, head: &str, schedule: &str, wanted: &str) {
-    let given = text_of(rt, alloc, &outcome_of(rt, alloc, head, schedule));
+    let outcome = outcome_of(rt, alloc, head, schedule);
+    let written = std::str::from_utf8(&outcome.written).expect(rt, "text");
+    let given = format!(in alloc; "{}\n{written}|\n{}", outcome.status, outcome.sent);
+    let given = given.expect(rt, "memory");
     assert_eq!(rt; given.as_str(), wanted, "{head}");
 }

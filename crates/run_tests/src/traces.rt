@@ -1,11 +1,11 @@
-use super::runs::check_run;
+//! Runs of nodes with `--trace`, as data.
 
-/// Runs of nodes that write a trace, in the form of `RUNS`. A write that fails leaves what came before it, and the datagrams of the
-/// steps before.
-const TRACES: &str = "\
+/// Runs of nodes that write a trace, in the form that `runs` says. A write that fails leaves what
+/// came before it, and the datagrams of the steps before.
+pub const TRACES: &str = "\
 nopaxos sequencer --id 0 --replicas 3 --sequencers 1 --turns 1 --trace
 polls request
-=> Done
+=> 0
 in s0 packet 4e4f030100000000000000000000000100075000016b000176
 out s0 send r* 4e4f03020000000000000001000000000000000100000000000000000000000100075000016b000176
 |
@@ -16,7 +16,7 @@ out s0 send r* 4e4f0302000000000000000100000000000000010000000000000000000000010
 nopaxos sequencer --id 0 --replicas 3 --sequencers 1 --turns 1 --trace
 polls request
 sends of 1: 2
-=> Done
+=> 0
 in s0 packet 4e4f030100000000000000000000000100075000016b000176
 out s0 send r* 4e4f03020000000000000001000000000000000100000000000000000000000100075000016b000176
 |
@@ -26,7 +26,7 @@ out s0 send r* 4e4f0302000000000000000100000000000000010000000000000000000000010
 nopaxos sequencer --id 0 --replicas 3 --sequencers 1 --turns 2 --trace
 polls request request
 writes 162 2
-=> WriteFault
+=> 4
 in s0 packet 4e4f030100000000000000000000000100075000016b000176
 out s0 send r* 4e4f03020000000000000001000000000000000100000000000000000000000100075000016b000176
 |
@@ -37,13 +37,13 @@ out s0 send r* 4e4f0302000000000000000100000000000000010000000000000000000000010
 nopaxos sequencer --id 0 --replicas 3 --sequencers 1 --turns 1 --trace
 polls request
 writes 80 2
-=> WriteFault
+=> 4
 in s0 packet 4e4f030100000000000000000000000100075000016b000176
 out s0 send r* 4|
 ----
 nopaxos controller --id 0 --replicas 3 --sequencers 1 --install 0 --turns 1 --trace
 polls nothing
-=> Done
+=> 0
 in ctl install s0
 out ctl send s0 4e4f030400000000000000000002
 |
@@ -51,7 +51,7 @@ out ctl send s0 4e4f030400000000000000000002
 ----
 nopaxos client --trace --id 0 --replicas 3 --sequencers 1 --turns 3 5000016b000176
 polls reply follower
-=> Done
+=> 0
 in c0 submit 5000016b000176
 out c0 submit 1 5000016b000176
 out c0 send s* 4e4f030100000000000000000000000100075000016b000176
@@ -63,7 +63,7 @@ out c0 accept 1 6e6f6e65
 ----
 nopaxos client --id 0 --replicas 3 --sequencers 1 --turns 2 --trace 5000016B000176
 polls nothing
-=> Unanswered
+=> 7
 in c0 submit 5000016b000176
 out c0 submit 1 5000016b000176
 out c0 send s* 4e4f030100000000000000000000000100075000016b000176
@@ -72,7 +72,7 @@ out c0 send s* 4e4f030100000000000000000000000100075000016b000176
 ----
 nopaxos node --id 0 --trace --replicas 3 --sequencers 1 --turns 1
 polls stamped
-=> Done
+=> 0
 in r0 packet 4e4f03020000000000000001000000000000000100000000000000000000000100075000016b000176
 out r0 send c0 4e4f030300000000000000000000000001000000010000000000000000000000010100046e6f6e65
 |
@@ -80,7 +80,7 @@ out r0 send c0 4e4f0303000000000000000000000000010000000100000000000000000000000
 ----
 nopaxos observer --id 0 --replicas 3 --sequencers 1 --turns 1 --trace
 polls read
-=> Done
+=> 0
 in o0 packet 4e4f030900000000000000000000000100016b
 out o0 send c0 4e4f030a000000000000000000000000000000000100046e6f6e65
 |
@@ -88,7 +88,7 @@ out o0 send c0 4e4f030a000000000000000000000000000000000100046e6f6e65
 ----
 nopaxos read --id 0 --observer 0 --replicas 3 --sequencers 1 --turns 3 --trace 6B
 polls nothing answer
-=> Done
+=> 0
 in c0 read o0 6b
 out c0 read 1 o0 6b
 out c0 send o0 4e4f030900000000000000000000000100016b
@@ -99,17 +99,10 @@ out c0 answer 1 o0 0 6e6f6e65
 ----
 nopaxos read --id 0 --observer 0 --replicas 3 --sequencers 1 --turns 3 --trace 6b
 polls failure
-=> LinkFault
+=> 5
 in c0 read o0 6b
 out c0 read 1 o0 6b
 out c0 send o0 4e4f030900000000000000000000000100016b
 |
 41032 4e4f030900000000000000000000000100016b
 ";
-
-#[test]
-fn traces(rt: HostRuntime) {
-    for run in TRACES.split("----\n") {
-        check_run(&rt, rt.alloc(), run);
-    }
-}

@@ -1,12 +1,74 @@
+//! A call of a client over devices in memory, answered, unanswered, and with each fault; and a
+//! session of several ops.
+
 ghost use Rattle.std.specs.Prelude.{All, true};
 ghost use Rattle.outside.specs.Memory.{MayAnswer};
 
-use crate::calls::{push, service};
-use client_call::{CallError, Session, close_session, open_session};
-use nop_types::Op;
+use crate::outcomes::{answer, ports_of};
+use client_call::{CallError, Service, Session, close_session, open_session, submit_and_wait};
+use nop_types::{Config, Op};
 use outside::{ClockMem, Failing, LinkMem, PollAnswer, PortsMem};
 use std::alloc::Global;
 use std::process::Abort;
+use udp_node::BasePort;
+
+fn service(rt: &impl Abort) -> Service {
+    Service {
+        base: BasePort::new(41000).expect(rt, "a port"),
+        config: Config::new(3, 1, 1, 1, 0).expect(rt, "a group"),
+    }
+}
+
+/// What the devices do, how a call is answered in three turns, by the id and the slot, and how many
+/// links came back.
+static CALLS: [(&str, Result<(u64, u32), CallError>, usize); 4] = [
+    ("polls reply follower", Ok((1, 1)), 1),
+    ("polls reply nothing", Err(CallError::Unanswered), 1),
+    ("polls nothing failure", Err(CallError::LinkFault), 1),
+    (
+        "polls reply follower\nattaches 1",
+        Err(CallError::PortFault),
+        0,
+    ),
+];
+
+/// How a call is answered; its result is none.
+fn called(
+    rt: &impl Abort,
+    alloc: Global,
+    ports: &mut PortsMem<Failing>,
+) -> Result<(u64, u32), CallError> {
+    let op = Op::new(alloc, b"put").expect(rt, "an op");
+    let mut clock = ClockMem::new(alloc);
+    match submit_and_wait(alloc, &service(rt), 0, op, 3, ports, &mut clock) {
+        Ok(accept) => {
+            assert!(rt; accept.result.as_slice() == b"none".as_slice());
+            Ok((accept.id, accept.slot))
+        }
+        Err(e) => Err(e),
+    }
+}
+
+#[test]
+fn calls(rt: HostRuntime) {
+    for (head, wanted, links) in &CALLS {
+        let mut ports = ports_of(&rt, rt.alloc(), head);
+        let given = called(&rt, rt.alloc(), &mut ports);
+        assert!(rt;
+            given == *wanted && ports.detached().len() == *links,
+            "{head}"
+        );
+    }
+}
+
+/// Adds what a poll answers.
+fn push(rt: &impl Abort, alloc: Global, word: &str, answers: &mut Vec<PollAnswer>)
+    requires { All (MayAnswer true) answers.old.items }
+    ensures { All (MayAnswer true) answers.new.items }
+{
+    let given = answer(rt, alloc, word);
+    answers.push(given).expect(rt, "memory");
+}
 
 /// What the polls of the session answer: each line is an op with its turns.
 static POLLS: [&str; 8] = [
