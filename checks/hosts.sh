@@ -86,6 +86,10 @@ ends 'no actor' 2 "$usage" "$hosts" x
 ends 'no file' 3 '' "$folder/none" r0
 echo 'r0 here' > "$folder/bad"
 ends 'a list that is none' 2 'error line 1 rule 4' "$folder/bad" r0
+while read -r line rule text; do
+    printf '%b' "$text" > "$folder/bad"
+    ends "the list '$text'" 2 "error line $line rule $rule" "$folder/bad" r0
+done < <(grep -v '^#' checks/hosts/refused)
 
 # ---- 64 puts, and host 1 is lost
 put=5000016b000176
