@@ -11,6 +11,6 @@ needs "${NOPAXOS:-}" nopaxos -- replay
 python3 -B checks/vectors/tried.py "$program" "$judge" > "$folder/out" || differs "not all were tried"
 read -r made _ wrong_ones _ < <(tail -n 1 "$folder/out" | tr -d ,)
 sed '$d' "$folder/out"
-[ "${made:-0}" -ge 140 ] || differs "only ${made:-0} were tried"
+[ "${made:-0}" -ge 300 ] || differs "only ${made:-0} were tried"
 wrong=$((wrong + ${wrong_ones:-1}))
 concludes

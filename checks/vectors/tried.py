@@ -83,6 +83,6 @@ for group, name, spelled, answer in vectors:
         compare(f'{group} {name}', said([nopaxos, *spelled.split()], b'').splitlines(), answer.split('; '))
 ops = [it for it in vectors if it[0] == 'op']
 for it, found in zip(ops, results([bytes_of(spelled) for _, _, spelled, _ in ops])):
-    compare(f'op {it[1]}', found, it[3])
+    compare(f'op {it[1]}', found, text_of(it[3]) if it[3].startswith('"') else it[3])
 compare('ops that are answered', len(results([bytes_of(it[2]) for it in ops])), len(ops))
 print(f'{tried} tried, {wrong} differ')

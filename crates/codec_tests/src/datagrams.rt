@@ -1,13 +1,14 @@
+//! Datagrams: bytes and what they spell, which `peers` tries.
 ghost use Rattle.nop_types.specs.Ranges.{DatagramFits};
 
-use crate::rows::{bytes_of, check, check_text, is_expected, text};
+use crate::rows::{check, text};
 use nop_types::Datagram;
-use oum_codec::{decode, encode, read_request, read_u16, read_u32, read_u64, read_view};
+use oum_codec::{decode, encode};
 use std::alloc::Global;
 use std::process::Abort;
 
 /// The examples of the formats: bytes, and the value that they spell.
-const EXAMPLES: &str = "\
+pub const EXAMPLES: &str = "\
 4e4f0301 00000000 0000000000000001 0007 5000016b000176 = Request(Request { client: 0, id: 1, op: Op { bytes: [80, 0, 1, 107, 0, 1, 118] } })
 4e4f0302 0000000000000001 0000000000000001 00000000 0000000000000001 0007 5000016b000176 = Stamped(Stamped { session: 1, number: 1, request: Request { client: 0, id: 1, op: Op { bytes: [80, 0, 1, 107, 0, 1, 118] } } })
 4e4f0303 00 00000000 0000000000000001 00000001 00000000 0000000000000001 01 0004 6e6f6e65 = Reply(Reply { replica: 0, view: View { leader: 0, session: 1 }, slot: 1, client: 0, id: 1, tag: 1, result: Bytes { bytes: [110, 111, 110, 101] } })
@@ -23,7 +24,7 @@ const EXAMPLES: &str = "\
 4e4f030a 03 00000102 00000007 ffffffffffffffff 0002 3d76 = Answer(Answer { observer: 3, position: 258, client: 7, id: 18446744073709551615, result: Bytes { bytes: [61, 118] } })";
 
 /// Each field at its least, then at its greatest.
-const LIMITS: &str = "\
+pub const LIMITS: &str = "\
 4e4f0301 00000000 0000000000000001 0000 = Request(Request { client: 0, id: 1, op: Op { bytes: [] } })
 4e4f0301 ffffffff ffffffffffffffff 0280 ff*640 = Request(Request { client: 4294967295, id: 18446744073709551615, op: Op { bytes: [255, 255..
 4e4f0302 0000000000000001 0000000000000001 00000000 0000000000000001 0000 = Stamped(Stamped { session: 1, number: 1, request: Request { client: 0, id: 1, op: Op { bytes: [] } } })
@@ -44,13 +45,15 @@ const LIMITS: &str = "\
 4e4f030a 00 00000000 00000000 0000000000000001 0000 = Answer(Answer { observer: 0, position: 0, client: 0, id: 1, result: Bytes { bytes: [] } })
 4e4f030a 03 ffffffff ffffffff ffffffffffffffff 0101 ff*257 = Answer(Answer { observer: 3, position: 4294967295, client: 4294967295, id: 18446744073709551615, result: Bytes { bytes: [255, 255..";
 
-/// Bytes, and the first test that they fail. Among them are two versions before this one and one after it, a controller and a sequencer
-/// out of range, an op of 641 bytes, a message number of 2^48, a sequencer out of range with a byte of the round missing, a payload that
-/// is not the last and is not full, one too many, none, and an index at the count. Then there are a stamped op of 641 bytes, an op of 640
-/// with a byte behind it, a result of 258 bytes, a slot of 0, and 4,097 fragments. The last ones are reads (an id of 0, an empty key, one
-/// of 65 bytes, half a length, half a key, a byte behind it) and answers (an observer and an id out of range, a result of 258 bytes, an
-/// observer out of range with half a length, half a result, a byte behind it).
-const REFUSALS: &str = "\
+/// Bytes, and the first test that they fail. Among them are two versions before this one and one
+/// after it, a controller and a sequencer out of range, an op of 641 bytes, a message number of
+/// 2^48, a sequencer out of range with a byte of the round missing, a payload that is not the last
+/// and is not full, one too many, none, and an index at the count. Then there are a stamped op of
+/// 641 bytes, an op of 640 with a byte behind it, a result of 258 bytes, a slot of 0, and 4,097
+/// fragments. The last ones are reads (an id of 0, an empty key, one of 65 bytes, half a length,
+/// half a key, a byte behind it) and answers (an observer and an id out of range, a result of 258
+/// bytes, an observer out of range with half a length, half a result, a byte behind it).
+pub const REFUSALS: &str = "\
 4e4f03 = Short
 4e4e0101 = Magic
 4e4f0101 = Version
@@ -108,7 +111,7 @@ fn is_spelled(rt: &impl Abort, alloc: Global, datagram: &Datagram, bytes: &[u8])
 }
 
 /// What the bytes spell, or the test that they fail. What is spelled is written as the same bytes.
-fn shown(rt: &impl Abort, alloc: Global, bytes: &[u8]) -> String {
+pub fn shown(rt: &impl Abort, alloc: Global, bytes: &[u8]) -> String {
     match decode(alloc, bytes) {
         Err(bad) => text(rt, alloc, &bad),
         Ok(datagram) => {
@@ -116,61 +119,4 @@ fn shown(rt: &impl Abort, alloc: Global, bytes: &[u8]) -> String {
             text(rt, alloc, &datagram)
         }
     }
-}
-
-fn check_row(rt: &impl Abort, alloc: Global, row: &str) {
-    let (bytes, expected) = row.split_once("= ").expect(rt, "a row");
-    let given = shown(rt, alloc, &bytes_of(rt, alloc, bytes));
-    check(rt, is_expected(&given, expected), row);
-}
-
-fn check_rows(rt: &impl Abort, alloc: Global, rows: &str) {
-    for row in rows.lines() {
-        check_row(rt, alloc, row);
-    }
-}
-
-#[test]
-fn rows(rt: HostRuntime) {
-    check_rows(&rt, rt.alloc(), EXAMPLES);
-    check_rows(&rt, rt.alloc(), LIMITS);
-    check_rows(&rt, rt.alloc(), REFUSALS);
-}
-
-const REQUEST: &str = "4e4f0301 00000002 0000000000000001 0002 6b30";
-
-fn are_numbers(bytes: &[u8]) -> bool {
-    read_u16(bytes, 16) == Some(2)
-        && read_u32(bytes, 0) == Some(0x4e4f_0301)
-        && read_u64(bytes, 8) == Some(1)
-        && read_u64(bytes, 13) == None
-}
-
-/// The view that begins at this byte.
-fn view_at(rt: &impl Abort, alloc: Global, bytes: &[u8], at: usize) -> String {
-    text(rt, alloc, &read_view(bytes, at))
-}
-
-/// The request that begins at this byte.
-fn request_at(rt: &impl Abort, alloc: Global, bytes: &[u8], at: usize) -> String {
-    text(
-        rt,
-        alloc,
-        &read_request(alloc, bytes, at).expect(rt, "memory"),
-    )
-}
-
-fn check_fields(rt: &impl Abort, alloc: Global, bytes: &[u8]) {
-    check(rt, are_numbers(bytes), "numbers");
-    let view = "Some(View { leader: 1313800961, session: 8589934592 })";
-    check_text(rt, &view_at(rt, alloc, bytes, 0), view);
-    check_text(rt, &view_at(rt, alloc, bytes, 9), "None");
-    let request = "Some(Request { client: 2, id: 1, op: Op { bytes: [107, 48] } })";
-    check_text(rt, &request_at(rt, alloc, bytes, 4), request);
-}
-
-#[test]
-fn fields(rt: HostRuntime) {
-    let bytes = bytes_of(&rt, rt.alloc(), REQUEST);
-    check_fields(&rt, rt.alloc(), &bytes);
 }

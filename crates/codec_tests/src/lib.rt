@@ -1,6 +1,6 @@
 //! Tests alone, by the public calls of the crates below: shared types, datagrams and peer messages,
-//! fragments, lines of schedules, transcripts and traces, whole transcripts. Expected bytes and texts
-//! are written out by hand.
+//! fragments, lines of schedules and transcripts. Expected bytes and texts are written out by hand.
+//! What a run of a program shows stands in examples/ and checks/.
 #![tactic(auto)]
 
 #[cfg(test)]
@@ -13,9 +13,5 @@ mod peers;
 mod rows;
 #[cfg(test)]
 mod texts;
-#[cfg(test)]
-mod traces;
-#[cfg(test)]
-mod transcripts;
 #[cfg(test)]
 mod values;

@@ -1,6 +1,9 @@
+//! Messages between replicas: bytes and what they spell, logs that are borrowed, and the longest
+//! message.
 ghost use Rattle.nop_types.specs.Checkpoints.{CheckpointFits};
 ghost use Rattle.nop_types.specs.Ranges.{PeerFits};
 
+use crate::datagrams;
 use crate::joining::check_cut;
 use crate::rows::{bytes_of, check, is_expected, put, put_times, text};
 use nop_types::{Answered, Bytes, Checkpoint, Entry, LogRef, Peer, SavedClient, View};
@@ -8,10 +11,11 @@ use peer_codec::{EncodedPeer, LogBody, decode_peer, encode_peer, encode_with_log
 use std::alloc::Global;
 use std::process::Abort;
 
-/// The examples of the formats: bytes, and the message that they spell. The logs have the sync points 0, 1 and 2; the first checkpoint
-/// saves a map of one key, where one client has written it, and the second has nothing in it. The last nine messages have fields and
-/// logs at their greatest: two clients, ids and results too, eight results of one client, and a sync point with as many entries as it
-/// leaves, 4,096 or none.
+/// The examples of the formats: bytes, and the message that they spell. The logs have the sync
+/// points 0, 1 and 2; the first checkpoint saves a map of one key, where one client has written it,
+/// and the second has nothing in it. The last nine messages have fields and logs at their greatest:
+/// two clients, ids and results too, eight results of one client, and a sync point with as many
+/// entries as it leaves, 4,096 or none.
 const EXAMPLES: &str = "\
 10 01 00000000 0000000000000001 00000001 = Peer { sender: 1, view: View { leader: 0, session: 1 }, body: SlotLookup(1) }
 11 00 00000000 0000000000000001 00000001 00000000 0000000000000001 0007 5000016b000176 = Peer { sender: 0, view: View { leader: 0, session: 1 }, body: Found(1, Request { client: 0, id: 1, op: Op { bytes: [80, 0, 1, 107, 0, 1, 118] } }) }
@@ -36,13 +40,16 @@ const EXAMPLES: &str = "\
 11 00 00000000 0000000000000001 ffffffff ffffffff ffffffffffffffff 0280 ff*640 = Peer { sender: 0, view: View { leader: 0, session: 1 }, body: Found(4294967295, Request { client: 4294967295, id: 18446744073709551615, op: Op { bytes: [255, 255..
 15 06 ffffffff ffffffffffffffff ffffffff ffffffffffffffff 0001000000000000 ffffefff 00000002 ffff 00000001 ffffffff ffffffffffffffff 01 ffffffffffffffff 0101 ff*257 00001000 01ffffffffffffffffffffffff0000*4096 = Peer { sender: 6, view: View { leader: 4294967295, session: 18446744073709551615 }, body: ViewChange { last_normal: View { leader: 4294967295, session: 18446744073709551615 }, next: 281474976710656, log: Log { sync_point: 4294963199, checkpoint: Some(Checkpoint { host: Bytes { bytes: [255, 255] }, clients: [SavedClient { client: 4294967295, greatest: 18446744073709551615, kept: [Answered { id: 18446744073709551615, result: Bytes { bytes: [255, 255..";
 
-/// Bytes, and the first test that they fail: no bytes, other kinds, a sender of 7, a session of 0, a slot of 0, a next number of 2^48 + 1,
-/// bytes that are missing within a sync point and after one, 4,097 entries, a tag of 2, an op of 641 bytes, and bytes that are missing or
-/// too many. The last ones are of checkpoints: a host of 1,400,001 bytes, one of which a byte is missing, 257 clients, a client that is
-/// not there, one that comes twice, two that descend, a result of 258 bytes, one that is missing, no count of entries, an entry more than
-/// the greatest length allows, and a checkpoint behind a sync point of 0. Then of a client's results: a greatest id of 0, no count, a
-/// count of 0 and of 9, ids of 0, eight behind the greatest, equal to the one before and above the greatest, a last one that is not the
-/// greatest, and what comes after the greatest: an id, nothing, and an id after the greatest of 64 bits.
+/// Bytes, and the first test that they fail: no bytes, other kinds, a sender of 7, a session of 0,
+/// a slot of 0, a next number of 2^48 + 1, bytes that are missing within a sync point and after
+/// one, 4,097 entries, a tag of 2, an op of 641 bytes, and bytes that are missing or too many. The
+/// last ones are of checkpoints: a host of 1,400,001 bytes, one of which a byte is missing, 257
+/// clients, a client that is not there, one that comes twice, two that descend, a result of 258
+/// bytes, one that is missing, no count of entries, an entry more than the greatest length allows,
+/// and a checkpoint behind a sync point of 0. Then of a client's results: a greatest id of 0, no
+/// count, a count of 0 and of 9, ids of 0, eight behind the greatest, equal to the one before and
+/// above the greatest, a last one that is not the greatest, and what comes after the greatest: an
+/// id, nothing, and an id after the greatest of 64 bits.
 const REFUSALS: &str = "\
 = Short
 0f = Kind
@@ -101,43 +108,42 @@ fn is_spelled(rt: &impl Abort, alloc: Global, message: &Peer, bytes: &[u8]) -> b
 }
 
 /// What the bytes spell, or the test that they fail. What is spelled is written as the same bytes.
-pub fn shown(rt: &impl Abort, alloc: Global, bytes: &[u8]) -> String {
+fn shown(rt: &impl Abort, alloc: Global, bytes: &[u8]) -> String {
+    let is_read = read_peer(alloc, bytes).expect(rt, "memory").is_some();
     match decode_peer(alloc, bytes) {
-        Err(bad) => text(rt, alloc, &bad),
+        Err(bad) => {
+            check(rt, !is_read, "refused");
+            text(rt, alloc, &bad)
+        }
         Ok(message) => {
-            check(rt, is_spelled(rt, alloc, &message, bytes), "spelled");
+            let is_same = is_spelled(rt, alloc, &message, bytes);
+            check(rt, is_read && is_same, "spelled");
             text(rt, alloc, &message)
         }
     }
 }
 
-fn is_shown(rt: &impl Abort, alloc: Global, bytes: &[u8], expected: &str) -> bool {
-    is_expected(&shown(rt, alloc, bytes), expected)
-}
-
-/// Whether the bytes are a message.
-fn is_read(rt: &impl Abort, alloc: Global, bytes: &[u8]) -> bool {
-    read_peer(alloc, bytes).expect(rt, "memory").is_some()
-}
-
-fn check_row(rt: &impl Abort, alloc: Global, row: &str) {
-    let (bytes, expected) = row.split_once("= ").expect(rt, "a row");
-    let bytes = bytes_of(rt, alloc, bytes);
-    check(rt, is_shown(rt, alloc, &bytes, expected), row);
-    let is_message = expected.starts_with("Peer");
-    check(rt, is_read(rt, alloc, &bytes) == is_message, row);
-}
-
-fn check_rows(rt: &impl Abort, alloc: Global, rows: &str) {
+/// Rows of messages between replicas, or of datagrams.
+fn check_rows(rt: &impl Abort, alloc: Global, of_peers: bool, rows: &str) {
     for row in rows.lines() {
-        check_row(rt, alloc, row);
+        let (bytes, expected) = row.split_once("= ").expect(rt, "a row");
+        let bytes = bytes_of(rt, alloc, bytes);
+        let given = if of_peers {
+            shown(rt, alloc, &bytes)
+        } else {
+            datagrams::shown(rt, alloc, &bytes)
+        };
+        check(rt, is_expected(&given, expected), row);
     }
 }
 
 #[test]
 fn rows(rt: HostRuntime) {
-    check_rows(&rt, rt.alloc(), EXAMPLES);
-    check_rows(&rt, rt.alloc(), REFUSALS);
+    check_rows(&rt, rt.alloc(), false, datagrams::EXAMPLES);
+    check_rows(&rt, rt.alloc(), false, datagrams::LIMITS);
+    check_rows(&rt, rt.alloc(), false, datagrams::REFUSALS);
+    check_rows(&rt, rt.alloc(), true, EXAMPLES);
+    check_rows(&rt, rt.alloc(), true, REFUSALS);
 }
 
 /// The entries of a log of two NO-OPs, which messages borrow.
@@ -153,22 +159,19 @@ const SECOND: View = View {
     session: 1,
 };
 
-fn client(rt: &impl Abort, alloc: Global) -> SavedClient {
-    let result = Bytes::new(alloc, b"=v").expect(rt, "memory");
-    let kept = vec![in alloc; Answered { id: 2, result }].expect(rt, "memory");
-    SavedClient {
-        client: 7,
-        greatest: 2,
-        kept,
-    }
-}
-
 /// A checkpoint of a host's state of two bytes and a client.
 fn saved(rt: &impl Abort, alloc: Global) -> Checkpoint
     ensures { CheckpointFits result }
 {
+    let result = Bytes::new(alloc, b"=v").expect(rt, "memory");
+    let kept = vec![in alloc; Answered { id: 2, result }].expect(rt, "memory");
+    let client = SavedClient {
+        client: 7,
+        greatest: 2,
+        kept,
+    };
     let host = Bytes::new(alloc, b"kv").expect(rt, "memory");
-    let clients = vec![in alloc; client(rt, alloc)].expect(rt, "memory");
+    let clients = vec![in alloc; client].expect(rt, "memory");
     let checkpoint = Checkpoint::new(host, clients).expect(rt, "within the limits");
     let _host = checkpoint.host();
     checkpoint
@@ -176,9 +179,6 @@ fn saved(rt: &impl Abort, alloc: Global) -> Checkpoint
 
 const CHANGE: &str =
     "15 02 00000001 0000000000000001 00000000 0000000000000001 0000000000000003 00000001 00000002 6b76 00000001 00000007 0000000000000002 01 0000000000000002 0002 3d76 00000002 00 00";
-
-const START: &str =
-    "16 01 00000001 0000000000000001 0000000000000003 00000002 00000002 6b76 00000001 00000007 0000000000000002 01 0000000000000002 0002 3d76 00000002 00 00";
 
 /// A ViewChange of replica 2, whose log borrows.
 fn change(rt: &impl Abort, alloc: Global, checkpoint: &Checkpoint) -> EncodedPeer
@@ -197,32 +197,13 @@ fn change(rt: &impl Abort, alloc: Global, checkpoint: &Checkpoint) -> EncodedPee
     EncodedPeer::with_log(alloc, 2, SECOND, body).expect(rt, "memory")
 }
 
-/// A StartView of replica 1, whose log borrows.
-fn start(rt: &impl Abort, alloc: Global, checkpoint: &Checkpoint) -> EncodedPeer
-    requires { CheckpointFits checkpoint.now }
-{
-    let log = LogRef {
-        sync_point: 2,
-        checkpoint: Some(checkpoint),
-        entries: &NO_OPS,
-    };
-    let body = LogBody::StartView { next: 3, log };
-    EncodedPeer::with_log(alloc, 1, SECOND, body).expect(rt, "memory")
-}
-
-fn check_message(rt: &impl Abort, alloc: Global, message: &EncodedPeer, sender: u8, row: &str) {
-    check(rt, message.sender() == sender, row);
-    let bytes = bytes_of(rt, alloc, row);
-    check(rt, message.as_slice() == bytes.as_slice(), row);
-}
-
 #[test]
-fn spells_borrowed_logs(rt: HostRuntime) {
+fn spells_a_borrowed_log(rt: HostRuntime) {
     let checkpoint = saved(&rt, rt.alloc());
     let change = change(&rt, rt.alloc(), &checkpoint);
-    check_message(&rt, rt.alloc(), &change, 2, CHANGE);
-    let start = start(&rt, rt.alloc(), &checkpoint);
-    check_message(&rt, rt.alloc(), &start, 1, START);
+    check(&rt, change.sender() == 2, "its sender");
+    let bytes = bytes_of(&rt, rt.alloc(), CHANGE);
+    check(&rt, change.as_slice() == bytes.as_slice(), "its bytes");
 }
 
 /// Appends a SyncPrepare of replica 0, whose log borrows.
@@ -244,8 +225,8 @@ fn appends_a_borrowed_log(rt: HostRuntime) {
     check(&rt, to.as_slice() == bytes.as_slice(), "appended");
 }
 
-/// The parts of a ViewChange with the greatest log: all fields before its host's state, its clients without their numbers, and its
-/// entries.
+/// The parts of a ViewChange with the greatest log: all fields before its host's state, its clients
+/// without their numbers, and its entries.
 const BEFORE_HOST: &str =
     "15 06 ffffffff ffffffffffffffff ffffffff ffffffffffffffff 0001000000000000 ffffefff 00155cc0";
 
@@ -265,11 +246,6 @@ fn put_clients(rt: &impl Abort, alloc: Global, to: &mut Vec<u8>) {
     }
 }
 
-fn put_entries(rt: &impl Abort, alloc: Global, to: &mut Vec<u8>) {
-    put(rt, b"\0\0\x10\0", to);
-    put_times(rt, &bytes_of(rt, alloc, OF_ENTRY), 4096, to);
-}
-
 /// The longest message. Its clients have 550,148 bytes.
 fn longest(rt: &impl Abort, alloc: Global) -> Vec<u8> {
     let mut to = bytes_of(rt, alloc, BEFORE_HOST);
@@ -277,7 +253,8 @@ fn longest(rt: &impl Abort, alloc: Global) -> Vec<u8> {
     let before = to.len();
     put_clients(rt, alloc, &mut to);
     check(rt, to.len().saturating_sub(before) == 550_148, "clients");
-    put_entries(rt, alloc, &mut to);
+    put(rt, b"\0\0\x10\0", &mut to);
+    put_times(rt, &bytes_of(rt, alloc, OF_ENTRY), 4096, &mut to);
     to
 }
 

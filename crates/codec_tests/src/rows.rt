@@ -1,3 +1,4 @@
+//! What tests share: bytes that are written as rows, values as texts, and what is asserted.
 use nop_types::{MAX_OP_BYTES, Op, Request};
 use std::alloc::Global;
 use std::fmt::Debug;
@@ -6,15 +7,6 @@ use std::process::Abort;
 /// Ends the test where this does not hold, with what it is about.
 pub fn check(rt: &impl Abort, holds: bool, told: &str) {
     assert!(rt; holds, "{told}");
-}
-
-/// What stands before the next `|` of a row, and what stands behind it.
-pub fn cut_once<'a>(rt: &impl Abort, row: &'a str) -> (&'a str, &'a str) {
-    row.split_once('|').expect(rt, "a part of a row")
-}
-
-pub fn number(rt: &impl Abort, digits: &str) -> u32 {
-    digits.parse::<u32>().expect(rt, "a number")
 }
 
 pub fn put(rt: &impl Abort, bytes: &[u8], to: &mut Vec<u8>) {
@@ -28,17 +20,14 @@ pub fn put_times(rt: &impl Abort, bytes: &[u8], count: u32, to: &mut Vec<u8>) {
     }
 }
 
-fn put_bytes(rt: &impl Abort, alloc: Global, word: &str, bytes: &mut Vec<u8>) {
-    let (digits, count) = word.split_once('*').unwrap_or((word, "1"));
-    let piece = hex::decode(alloc, digits).expect(rt, "hexadecimal");
-    put_times(rt, &piece, number(rt, count), bytes);
-}
-
 /// The bytes of a row: words of two digits for each byte, where `ff*640` has its bytes 640 times.
 pub fn bytes_of(rt: &impl Abort, alloc: Global, row: &str) -> Vec<u8> {
     let mut bytes = Vec::new(alloc);
     for word in row.split(' ') {
-        put_bytes(rt, alloc, word, &mut bytes);
+        let (digits, count) = word.split_once('*').unwrap_or((word, "1"));
+        let piece = hex::decode(alloc, digits).expect(rt, "hexadecimal");
+        let count = count.parse::<u32>().expect(rt, "a number");
+        put_times(rt, &piece, count, &mut bytes);
     }
     bytes
 }

@@ -1,12 +1,12 @@
-//! A client that asks an observer until an answer is new enough, driven by hand. What is expected was worked out from the rules and from the
-//! formats.
+//! A client that asks an observer until an answer is new enough, driven by hand. What is expected
+//! was worked out from the rules and from the formats.
 use crate::scripts::play;
 use fresh_reads::FreshRead;
 use nop_types::{Config, Core, Key, Outbox};
 use std::slice::from_mut;
 
-/// The read is sent again while it waits. An answer at position 1 is behind: the next tick asks anew, under another id. One at position 2
-/// ends it.
+/// The read is sent again while it waits. An answer at position 1 is behind: the next tick asks
+/// anew, under another id. One at position 2 ends it.
 const BEHIND: &str = "\
 0 tick retry
   0 reading 1 0

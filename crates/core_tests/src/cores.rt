@@ -1,3 +1,5 @@
+//! A sequencer, controllers and clients that are driven by hand. What is expected was worked out
+//! from the rules of the protocol and from its formats.
 ghost use Rattle.std.specs.Prelude.{◌<◌};
 
 use crate::rows::{check_shown, check_text};
@@ -10,9 +12,10 @@ use std::alloc::Global;
 use std::process::Abort;
 use std::slice::from_mut;
 
-/// Sequencer 1 stamps nothing without a session, and answers pings of its own, each to its controller. Session 2 is installed twice, and
-/// the numbers go on. A greater session of another controller is taken, and a smaller one is answered with that. What is for others, what
-/// does not decode, and what is no packet change nothing.
+/// Sequencer 1 stamps nothing without a session, and answers pings of its own, each to its
+/// controller. Session 2 is installed twice, and the numbers go on. A greater session of another
+/// controller is taken, and a smaller one is answered with that. What is for others, what does not
+/// decode, and what is no packet change nothing.
 const SEQUENCER: &str = "\
 0 packet 4e4f0301 00000000 0000000000000001 0007 5000016b000176
 0 packet 4e4f0306 00 01 00000003
@@ -68,9 +71,9 @@ fn a_sequencer(rt: HostRuntime) {
     check_shown(&rt, alloc, &stamped, expected);
 }
 
-/// Probes that are answered and some that are not, and orders, with two sequencers. Answers of an older round, of another sequencer,
-/// for another session and for another controller do not count. After three misses the next sequencer gets a new session, and after the
-/// last the first.
+/// Probes that are answered and some that are not, and orders, with two sequencers. Answers of an
+/// older round, of another sequencer, for another session and for another controller do not count.
+/// After three misses the next sequencer gets a new session, and after the last the first.
 const CONTROLLER: &str = "\
 0 tick resend
 0 tick probe
@@ -116,31 +119,9 @@ const CONTROLLER: &str = "\
 0 submit 6f70
 ";
 
-/// A controller of a group with one client and four controllers.
-fn controller(rt: &impl Abort, alloc: Global, group: (u8, u8), number: u8) -> Controller
-    requires { number < MAX_CONTROLLERS }
-{
-    let (replicas, sequencers) = group;
-    let config = Config::new(replicas, sequencers, 1, 4, 0).expect(rt, "a group");
-    Controller::new(alloc, config, number).expect(rt, "memory")
-}
-
-#[test]
-fn a_controller(rt: HostRuntime) {
-    let alloc = rt.alloc();
-    let mut core = controller(&rt, alloc, (3, 2), 0);
-    let mut sent = Outbox::new(alloc);
-    play(&rt, alloc, from_mut(&mut core), &mut sent, CONTROLLER);
-    let expected =
-        "ControllerState { config: Config { replicas: 3, sequencers: 2, clients: 1, controllers: 4, observers: 0 }, number: 0, session: 4, seen: 0, current: 0, confirmed: false, round: 8, heard: true, missed: 0 }";
-    check_shown(&rt, alloc, &core.state(), expected);
-    let expected = "Some((Resend, 100)) Some((Probe, 300)) None None";
-    check_text(&rt, &timers(&rt, alloc, &core), expected);
-}
-
-/// Two controllers give sessions to one sequencer, the other one the greater. The first is told that, and passes it: its next session is
-/// the first one of its next epoch.
-const CONTROLLERS: &str = "\
+/// Two controllers give sessions to one sequencer, the other one the greater. The first is told
+/// that, and passes it: its next session is the first one of its next epoch.
+const TWO: &str = "\
 1 tick install 1
   0 One(Sequencer(1)) 4e4f030401010000000100000001
 0 tick install 1
@@ -156,22 +137,8 @@ const CONTROLLERS: &str = "\
 1 tick resend
 ";
 
-#[test]
-fn two_controllers(rt: HostRuntime) {
-    let alloc = rt.alloc();
-    let mut cores = Vec::new(alloc);
-    for number in 0..2u8 {
-        let core = controller(&rt, alloc, (3, 2), number);
-        cores.push(core).expect(&rt, "memory");
-    }
-    let mut sent = Outbox::new(alloc);
-    play(&rt, alloc, &mut cores, &mut sent, CONTROLLERS);
-    let first = cores.first().expect(&rt, "a controller").state();
-    assert!(rt; first.session == 17_179_869_185 && first.seen == 4_294_967_297);
-}
-
-/// The greatest session that a controller saw counts, of whatever sequencer: smaller ones, and those told to others, change nothing. In
-/// the epoch that it goes on to, the count rises again.
+/// The greatest session that a controller saw counts, of whatever sequencer: smaller ones, and
+/// those told to others, change nothing. In the epoch that it goes on to, the count rises again.
 const SEEN: &str = "\
 0 tick install 0
   0 One(Sequencer(0)) 4e4f030403000000000300000001
@@ -186,16 +153,6 @@ const SEEN: &str = "\
 0 tick install 1
   3 One(Sequencer(1)) 4e4f030403010000000b00000001
 ";
-
-#[test]
-fn a_greater_session_is_passed(rt: HostRuntime) {
-    let alloc = rt.alloc();
-    let mut core = controller(&rt, alloc, (3, 2), 3);
-    let mut sent = Outbox::new(alloc);
-    play(&rt, alloc, from_mut(&mut core), &mut sent, SEEN);
-    let state = core.state();
-    assert!(rt; state.session == 47_244_640_257 && state.seen == 30_064_771_081);
-}
 
 /// In the last epoch of its own the controller still moves. Above that it does not.
 const LAST_SESSION: &str = "\
@@ -215,16 +172,75 @@ const LAST_SESSION: &str = "\
 0 tick probe
 ";
 
-#[test]
-fn the_last_session(rt: HostRuntime) {
-    let alloc = rt.alloc();
-    let mut core = controller(&rt, alloc, (1, 4), 0);
-    let mut sent = Outbox::new(alloc);
-    play(&rt, alloc, from_mut(&mut core), &mut sent, LAST_SESSION);
+/// Controllers of a group with one client and four controllers: the number of the first one, how
+/// many there are, and how many replicas and sequencers; what they are given, with their outputs;
+/// and what the first one keeps at the end, behind its configuration.
+type Controllers = (u8, u8, (u8, u8), &'static str, &'static str);
+
+static CONTROLLERS: [Controllers; 4] = [
+    (
+        0,
+        1,
+        (3, 2),
+        CONTROLLER,
+        "number: 0, session: 4, seen: 0, current: 0, confirmed: false, round: 8, heard: true, missed: 0 }",
+    ),
+    (
+        0,
+        2,
+        (3, 2),
+        TWO,
+        "number: 0, session: 17179869185, seen: 4294967297, current: 1, confirmed: true, round: 0, heard: true, missed: 0 }",
+    ),
+    (
+        3,
+        1,
+        (3, 2),
+        SEEN,
+        "number: 3, session: 47244640257, seen: 30064771081, current: 1, confirmed: false, round: 0, heard: true, missed: 0 }",
+    ),
+    (
+        0,
+        1,
+        (1, 4),
+        LAST_SESSION,
+        "number: 0, session: 18446744056529682434, seen: 18446744056529682435, current: 0, confirmed: false, round: 3, heard: false, missed: 2 }",
+    ),
+];
+
+fn check_controllers(rt: &impl Abort, alloc: Global, row: &Controllers) {
+    let (first, count, (replicas, sequencers), script, expected) = *row;
+    let config = Config::new(replicas, sequencers, 1, 4, 0).expect(rt, "a group");
+    let mut cores = Vec::new(alloc);
+    for i in 0..count {
+        let number = first.wrapping_add(i);
+        assert!(rt; number < MAX_CONTROLLERS);
+        let core = Controller::new(alloc, config, number).expect(rt, "memory");
+        cores.push(core).expect(rt, "memory");
+    }
+    play(rt, alloc, &mut cores, &mut Outbox::new(alloc), script);
+    let first = cores.first().expect(rt, "a controller");
+    let text = format!(in alloc; "{:?}", first.state()).expect(rt, "memory");
+    let (_config, kept) = text.split_once("}, ").expect(rt, "a configuration");
+    check_text(rt, kept, expected);
+    let timers = timers(rt, alloc, first);
+    check_text(
+        rt,
+        &timers,
+        "Some((Resend, 100)) Some((Probe, 300)) None None",
+    );
 }
 
-/// One op of its own and one that is submitted: the second is accepted first, by a follower's reply that comes twice and its leader's. A
-/// reply is kept for its own request, and what is open is sent again.
+#[test]
+fn controllers(rt: HostRuntime) {
+    for row in &CONTROLLERS {
+        check_controllers(&rt, rt.alloc(), row);
+    }
+}
+
+/// One op of its own and one that is submitted: the second is accepted first, by a follower's reply
+/// that comes twice and its leader's. A reply is kept for its own request, and what is open is sent
+/// again.
 const CLIENT: &str = "\
 0 tick next
   0 submitted 1
@@ -249,18 +265,15 @@ const CLIENT: &str = "\
 0 tick next
 ";
 
-/// A client of three replicas with these ops.
-fn client_with(rt: &impl Abort, alloc: Global, ops: Vec<Op>) -> Client {
+/// A client of three replicas with so many ops of its own, each a put.
+pub fn client(rt: &impl Abort, alloc: Global, count: usize) -> Client {
     let config = Config::new(3, 1, 1, 1, 0).expect(rt, "a group");
-    Client::new(alloc, config, 0, ops).expect(rt, "memory")
-}
-
-/// A client of three replicas with one op.
-pub fn client(rt: &impl Abort, alloc: Global) -> Client {
-    let op = Op::new(alloc, b"P\0\x01k\0\x01v").expect(rt, "memory");
     let mut ops = Vec::new(alloc);
-    ops.push(op).expect(rt, "memory");
-    client_with(rt, alloc, ops)
+    for _ in 0..count {
+        let op = Op::new(alloc, b"P\0\x01k\0\x01v").expect(rt, "memory");
+        ops.push(op).expect(rt, "memory");
+    }
+    Client::new(alloc, config, 0, ops).expect(rt, "memory")
 }
 
 /// The slot of the acceptance of an id.
@@ -271,19 +284,8 @@ fn slot_of(core: &Client, id: u64) -> Option<u32> {
     }
 }
 
-#[test]
-fn a_client(rt: HostRuntime) {
-    let alloc = rt.alloc();
-    let mut core = client(&rt, alloc);
-    let mut sent = Outbox::new(alloc);
-    play(&rt, alloc, from_mut(&mut core), &mut sent, CLIENT);
-    assert!(rt; core.done() && slot_of(&core, 1) == Some(1) && slot_of(&core, 2) == Some(2));
-    assert!(rt; slot_of(&core, 0).is_none() && slot_of(&core, 3).is_none());
-    let expected = "Some((Next, 0)) Some((Retry, 200)) None None";
-    check_text(&rt, &timers(&rt, alloc, &core), expected);
-}
-
-/// Eight requests are open, and the ninth op is busy. So it is where the first one is still open, which the next id would exceed by eight.
+/// Eight requests are open, and the ninth op is busy. So it is where the first one is still open,
+/// which the next id would exceed by eight.
 const EIGHT: &str = "\
 0 submit 5000016b000176
   0 submitted 1
@@ -324,11 +326,36 @@ const EIGHT: &str = "\
   21 Sequencers 4e4f030100000000000000000000000900075000016b000176
 ";
 
+/// How many ops a client has of its own, what it is given, with its outputs; whether it is done at
+/// the end, and the slots at which the ids from 0 on were accepted.
+type Clients = (usize, &'static str, bool, [Option<u32>; 4]);
+
+static CLIENTS: [Clients; 2] = [
+    (1, CLIENT, true, [None, Some(1), Some(2), None]),
+    (0, EIGHT, false, [None, None, Some(2), None]),
+];
+
 #[test]
-fn a_client_with_eight_open_requests(rt: HostRuntime) {
+fn clients(rt: HostRuntime) {
     let alloc = rt.alloc();
-    let mut core = client_with(&rt, alloc, Vec::new(alloc));
-    let mut sent = Outbox::new(alloc);
-    play(&rt, alloc, from_mut(&mut core), &mut sent, EIGHT);
-    assert!(rt; !core.done() && slot_of(&core, 1).is_none() && slot_of(&core, 2) == Some(2));
+    for (count, script, done, slots) in &CLIENTS {
+        let mut core = client(&rt, alloc, *count);
+        play(
+            &rt,
+            alloc,
+            from_mut(&mut core),
+            &mut Outbox::new(alloc),
+            script,
+        );
+        assert!(rt; core.done() == *done);
+        let given = [
+            slot_of(&core, 0),
+            slot_of(&core, 1),
+            slot_of(&core, 2),
+            slot_of(&core, 3),
+        ];
+        assert!(rt; given == *slots);
+        let timers = timers(&rt, alloc, &core);
+        check_text(&rt, &timers, "Some((Next, 0)) Some((Retry, 200)) None None");
+    }
 }

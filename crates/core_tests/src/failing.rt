@@ -1,5 +1,5 @@
-//! Cores that ran out of memory. The test ends well whichever allocation is refused: `bench/failed-world.sh` refuses each in turn, and
-//! counts the runs in which a step answered so.
+//! Cores that ran out of memory. The test ends well whichever allocation is refused:
+//! `bench/failed-world.sh` refuses each in turn, and counts the runs in which a step answered so.
 
 use kv_host::KvHost;
 use nop_types::{Config, Core, Input, NoMemory, Outbox, Tick};
@@ -12,7 +12,8 @@ use std::process::Abort;
 /// A ping of controller 0 for sequencer 0.
 const PING: &[u8] = b"NO\x03\x06\0\0\0\0\0\x01";
 
-/// Whether the core has no memory for a step. It then has none for one that needs none, and sends nothing.
+/// Whether the core has no memory for a step. It then has none for one that needs none, and sends
+/// nothing.
 fn fails_for_good<C: Core + Drop>(
     rt: &impl Abort,
     alloc: Global,
@@ -31,28 +32,16 @@ fn fails_for_good<C: Core + Drop>(
     true
 }
 
-fn replica_fails(rt: &impl Abort, alloc: Global, config: Config) -> bool {
-    let core: Result<Replica<KvHost>, NoMemory> = Replica::new(alloc, config, 0);
-    fails_for_good(rt, alloc, core, Input::Tick(Tick::Suspect))
-}
-
-fn controller_fails(rt: &impl Abort, alloc: Global, config: Config) -> bool {
-    let core = Controller::new(alloc, config, 0);
-    fails_for_good(rt, alloc, core, Input::Tick(Tick::Probe))
-}
-
-fn sequencer_fails(rt: &impl Abort, alloc: Global) -> bool {
-    let core = Sequencer::new(alloc, 0);
-    fails_for_good(rt, alloc, core, Input::Packet(PING))
-}
-
 #[test]
 fn cores_fail_for_good(rt: HostRuntime) {
     let alloc = rt.alloc();
     let config = Config::new(3, 2, 1, 1, 0).expect(&rt, "a group");
-    let mut failed = replica_fails(&rt, alloc, config);
-    failed |= controller_fails(&rt, alloc, config);
-    failed |= sequencer_fails(&rt, alloc);
+    let replica: Result<Replica<KvHost>, NoMemory> = Replica::new(alloc, config, 0);
+    let mut failed = fails_for_good(&rt, alloc, replica, Input::Tick(Tick::Suspect));
+    let controller = Controller::new(alloc, config, 0);
+    failed |= fails_for_good(&rt, alloc, controller, Input::Tick(Tick::Probe));
+    let sequencer = Sequencer::new(alloc, 0);
+    failed |= fails_for_good(&rt, alloc, sequencer, Input::Packet(PING));
     if failed {
         let _ = println!(rt; "failed");
     }

@@ -1,7 +1,9 @@
-//! Groups of three replicas of the key-value service that are driven by hand. What is expected was worked out from the rules of the
-//! protocol and from its formats.
+//! Groups of three replicas of the key-value service that are driven by hand. What is expected was
+//! worked out from the rules of the protocol and from its formats.
+use crate::hostile::FORGED;
 use crate::rows::{bytes_of, check_text, put_entries, put_line};
 use crate::scripts::{play, timers};
+use crate::trimmed::TRIMMED;
 use kv_host::KvHost;
 use nop_types::{
     Actor, Checkpoint, Config, Core, Dest, Host, Input, Out, Outbox, SavedClient, View,
@@ -10,7 +12,8 @@ use replica_core::Replica;
 use std::alloc::Global;
 use std::process::Abort;
 
-/// Adds a client of a checkpoint: its number, and each id that has a result, with the result. The last one is its greatest id.
+/// Adds a client of a checkpoint: its number, and each id that has a result, with the result. The
+/// last one is its greatest id.
 fn put_client(rt: &impl Abort, alloc: Global, saved: &SavedClient, to: &mut String) {
     let text = format!(in alloc; " [{}", saved.client).expect(rt, "memory");
     to.push_str(&text).expect(rt, "memory");
@@ -32,7 +35,8 @@ fn put_checkpoint(rt: &impl Abort, alloc: Global, checkpoint: &Checkpoint, to: &
     }
 }
 
-/// Adds a replica's log: its checkpoint, if it has one, the entries above its sync point, and whether it is full.
+/// Adds a replica's log: its checkpoint, if it has one, the entries above its sync point, and
+/// whether it is full.
 fn put_log<H: Host>(rt: &impl Abort, alloc: Global, core: &Replica<H>, to: &mut String) {
     let log = core.log();
     if let Some(checkpoint) = log.checkpoint() {
@@ -44,25 +48,23 @@ fn put_log<H: Host>(rt: &impl Abort, alloc: Global, core: &Replica<H>, to: &mut 
     }
 }
 
-/// Adds a replica's view, status, last normal view, sync point, how many slots are executed, and its log.
-fn put_state<H: Host>(rt: &impl Abort, alloc: Global, core: &Replica<H>, to: &mut String) {
-    let status = core.status();
-    let (view, normal): (View, View) = (core.view(), core.last_normal());
-    let (point, executed) = (core.sync_point(), core.executed());
-    let text = format!(in alloc;
-        "{status:?} ({}, {}, {}, {}) ({point}, {executed})",
-        view.leader, view.session, normal.leader, normal.session
-    );
-    to.push_str(&text.expect(rt, "memory")).expect(rt, "memory");
-    put_log(rt, alloc, core, to);
-    put_line(rt, "", to);
-}
-
-/// The states of replicas, a line each.
+/// A line for each replica: its view, status, last normal view, sync point, how many slots are
+/// executed, and its log.
 fn states<H: Host>(rt: &impl Abort, alloc: Global, cores: &[Replica<H>]) -> String {
     let mut lines = String::new(alloc);
     for core in cores {
-        put_state(rt, alloc, core, &mut lines);
+        let status = core.status();
+        let (view, normal): (View, View) = (core.view(), core.last_normal());
+        let (point, executed) = (core.sync_point(), core.executed());
+        let text = format!(in alloc;
+            "{status:?} ({}, {}, {}, {}) ({point}, {executed})",
+            view.leader, view.session, normal.leader, normal.session
+        );
+        lines
+            .push_str(&text.expect(rt, "memory"))
+            .expect(rt, "memory");
+        put_log(rt, alloc, core, &mut lines);
+        put_line(rt, "", &mut lines);
     }
     lines
 }
@@ -78,11 +80,24 @@ pub fn opened<H: Host>(rt: &impl Abort, alloc: Global) -> Vec<Replica<H>> {
     cores
 }
 
-/// Plays a script with three replicas, and compares their states at the end, a line each.
-pub fn play_three<H: Host>(rt: &impl Abort, alloc: Global, script: &str, expected: &str) {
-    let mut cores: Vec<Replica<H>> = opened(rt, alloc);
-    play(rt, alloc, &mut cores, &mut Outbox::new(alloc), script);
-    check_text(rt, &states(rt, alloc, &cores), expected);
+/// What cores are given, with their outputs, and their states at the end, a line each.
+pub type Script = (&'static str, &'static str);
+
+/// Plays scripts, each with three replicas to which nothing has come, and compares their states at
+/// the end.
+fn play_all<H: Host>(rt: &impl Abort, alloc: Global, scripts: &[Script]) {
+    for (script, expected) in scripts {
+        let mut cores: Vec<Replica<H>> = opened(rt, alloc);
+        play(rt, alloc, &mut cores, &mut Outbox::new(alloc), script);
+        check_text(rt, &states(rt, alloc, &cores), expected);
+    }
+}
+
+#[test]
+fn scripts_of_three_replicas(rt: HostRuntime) {
+    play_all::<KvHost>(&rt, rt.alloc(), &GROUPS);
+    play_all::<KvHost>(&rt, rt.alloc(), &TRIMMED);
+    play_all::<KvHost>(&rt, rt.alloc(), &FORGED);
 }
 
 #[test]
@@ -93,9 +108,10 @@ fn a_replica_has_three_timers(rt: HostRuntime) {
     check_text(&rt, &timers(&rt, rt.alloc(), &core), expected);
 }
 
-/// While its gap waits, a leader neither replies nor synchronises nor begins another gap. It tells the gap again, on a tick and to whom
-/// asks for the slot. A vote for another slot, made by hand, changes nothing, and neither does a late one. After the right one slots 2
-/// and 3 are replied for, and the next gap begins in slot 4.
+/// While its gap waits, a leader neither replies nor synchronises nor begins another gap. It tells
+/// the gap again, on a tick and to whom asks for the slot. A vote for another slot, made by hand,
+/// changes nothing, and neither does a late one. After the right one slots 2 and 3 are replied for,
+/// and the next gap begins in slot 4.
 const GAP: &str = "\
 0 packet 4e4f0302 0000000000000001 0000000000000002 00000001 0000000000000001 0004 4700016b
   0 Replicas 4e4f030800000000000000000100000001120000000000000000000000000100000001
@@ -122,18 +138,15 @@ const GAP: &str = "\
 0 sent 6
 ";
 
-#[test]
-fn a_leader_waits_for_its_gap(rt: HostRuntime) {
-    let expected = "\
+const GAP_ENDS: &str = "\
 Normal (0, 1, 0, 1) (0, 4) (0, 0) (1, 1) (0, 1) (0, 0)
 Normal (0, 1, 0, 1) (0, 0) (0, 0) (1, 1)
 Normal (0, 1, 0, 1) (0, 0)
 ";
-    play_three::<KvHost>(&rt, rt.alloc(), GAP, expected);
-}
 
-/// A leader in Normal suspects nobody. A follower does where it heard nothing of its leader between two ticks, here after a commit of
-/// what it has; so does a replica that waits for its view to start.
+/// A leader in Normal suspects nobody. A follower does where it heard nothing of its leader between
+/// two ticks, here after a commit of what it has; so does a replica that waits for its view to
+/// start.
 const WATCH: &str = "\
 0 tick watch
 0 tick watch
@@ -148,19 +161,16 @@ const WATCH: &str = "\
   2 One(Replica(2)) 4e4f030801000000000000000300000001150100000002000000000000000100000000000000000000000100000000000000010000000000000000
 ";
 
-#[test]
-fn a_silent_leader_is_suspected(rt: HostRuntime) {
-    let expected = "\
+const WATCH_ENDS: &str = "\
 Normal (0, 1, 0, 1) (0, 0)
 Change (2, 1, 0, 1) (0, 0)
 Normal (0, 1, 0, 1) (0, 0)
 ";
-    play_three::<KvHost>(&rt, rt.alloc(), WATCH, expected);
-}
 
-/// A leader and a follower answer three requests that are no ops of the service. Then that leader is suspected, and the next view
-/// keeps them with the same answers. The change and the start come in two fragments each, in the other order, and again: a change
-/// that is joined a second time is late, and gets the start.
+/// A leader and a follower answer three requests that are no ops of the service. Then that leader
+/// is suspected, and the next view keeps them with the same answers. The change and the start come
+/// in two fragments each, in the other order, and again: a change that is joined a second time is
+/// late, and gets the start.
 const VIEW_CHANGE: &str = "\
 0 packet 4e4f0302 0000000000000001 0000000000000001 00000000 0000000000000001 0280 78*640
   0 One(Client(0)) 4e4f03030000000000000000000000000100000001000000000000000000000001010003626164
@@ -204,20 +214,17 @@ const VIEW_CHANGE: &str = "\
   22 One(Client(0)) 4e4f03030200000001000000000000000100000003000000000000000000000003000000
 ";
 
-#[test]
-fn answered_requests_survive_a_view_change(rt: HostRuntime) {
-    let expected = "\
+const VIEW_CHANGE_ENDS: &str = "\
 Normal (1, 1, 1, 1) (0, 0) (0, 1) (0, 2) (0, 3)
 Normal (1, 1, 1, 1) (0, 3) (0, 1) (0, 2) (0, 3)
 Normal (1, 1, 1, 1) (0, 0) (0, 1) (0, 2) (0, 3)
 ";
-    play_three::<KvHost>(&rt, rt.alloc(), VIEW_CHANGE, expected);
-}
 
-/// A follower that missed a request takes it from the leader's log, replies, and votes; then both have it synchronised, and in its
-/// place a checkpoint: the map, and the client with its id and result. Messages made by hand change nothing: a commit before the log
-/// came, a view that is asked for by the replica itself, by one that is not there, and in fragments of another than its sender, and a
-/// start of the next view without the request that is synchronised.
+/// A follower that missed a request takes it from the leader's log, replies, and votes; then both
+/// have it synchronised, and in its place a checkpoint: the map, and the client with its id and
+/// result. Messages made by hand change nothing: a commit before the log came, a view that is asked
+/// for by the replica itself, by one that is not there, and in fragments of another than its
+/// sender, and a start of the next view without the request that is synchronised.
 const SYNCHRONISATION: &str = "\
 0 packet 4e4f0302 0000000000000001 0000000000000001 00000000 0000000000000001 0007 5000016b000176
   0 One(Client(0)) 4e4f030300000000000000000000000001000000010000000000000000000000010100046e6f6e65
@@ -242,19 +249,16 @@ const SYNCHRONISATION: &str = "\
 2 packet 4e4f0308 01 0000000000000009 0000 0001 16 01 00000001 0000000000000001 0000000000000001 00000000 00000000
 ";
 
-#[test]
-fn a_missed_request_is_synchronised(rt: HostRuntime) {
-    let expected = "\
+const SYNCHRONISATION_ENDS: &str = "\
 Normal (0, 1, 0, 1) (1, 1) 0000000100016b000176 [0, 1, 6e6f6e65]
 Normal (0, 1, 0, 1) (0, 0)
 Normal (0, 1, 0, 1) (1, 1) 0000000100016b000176 [0, 1, 6e6f6e65] (1, 1)
 ";
-    play_three::<KvHost>(&rt, rt.alloc(), SYNCHRONISATION, expected);
-}
 
-/// A leader and a follower have a request synchronised, so it moved out of their logs. Messages made by hand then tell of a NO-OP
-/// in its slot: a gap commit and a log in the same view, and what the next view starts with. The follower answers them, and the
-/// checkpoint stays. Another follower asks the leader for the slot, and tells a late change: it gets the checkpoint, though the view
+/// A leader and a follower have a request synchronised, so it moved out of their logs. Messages
+/// made by hand then tell of a NO-OP in its slot: a gap commit and a log in the same view, and what
+/// the next view starts with. The follower answers them, and the checkpoint stays. Another follower
+/// asks the leader for the slot, and tells a late change: it gets the checkpoint, though the view
 /// started with nothing.
 const SYNCHRONISED: &str = "\
 0 packet 4e4f0302 0000000000000001 0000000000000001 00000000 0000000000000001 0007 5000016b000176
@@ -280,19 +284,16 @@ const SYNCHRONISED: &str = "\
 2 packet 4e4f0308 01 000000000000000b 0000 0001 16 01 00000001 0000000000000001 0000000000000003 00000000 00000002 00 00
 ";
 
-#[test]
-fn a_synchronised_slot_stays(rt: HostRuntime) {
-    let expected = "\
+const SYNCHRONISED_ENDS: &str = "\
 Normal (0, 1, 0, 1) (1, 1) 0000000100016b000176 [0, 1, 6e6f6e65]
 Normal (0, 1, 0, 1) (0, 0)
 Normal (1, 1, 1, 1) (1, 1) 0000000100016b000176 [0, 1, 6e6f6e65] (0, 0)
 ";
-    play_three::<KvHost>(&rt, rt.alloc(), SYNCHRONISED, expected);
-}
 
-/// A follower without a log is told the checkpoint of a put: it takes that, and replies to nobody. Logs made by hand then tell of an
-/// empty map: with the same sync point, where the own checkpoint stays, and slot 2 alone is taken, and with a greater one, whose
-/// checkpoint is taken. With what the next view starts with the put is there again. Another replica starts that view with the
+/// A follower without a log is told the checkpoint of a put: it takes that, and replies to nobody.
+/// Logs made by hand then tell of an empty map: with the same sync point, where the own checkpoint
+/// stays, and slot 2 alone is taken, and with a greater one, whose checkpoint is taken. With what
+/// the next view starts with the put is there again. Another replica starts that view with the
 /// checkpoint of a change that it is told.
 const TOLD: &str = "\
 2 packet 4e4f0308 00 0000000000000009 0000 0001 17 00 00000000 0000000000000001 00000001 0000000a 0000000100016b000176 00000001 00000000 0000000000000001 01 0000000000000001 0004 6e6f6e65 00000000
@@ -309,15 +310,21 @@ const TOLD: &str = "\
   5 Replicas 4e4f03080100000000000000020000000116010000000100000000000000010000000000000002000000010000000a0000000100016b0001760000000100000000000000000000000101000000000000000100046e6f6e6500000000
 ";
 
-#[test]
-fn a_greater_sync_point_is_taken_with_its_log(rt: HostRuntime) {
-    let expected = "\
+const TOLD_ENDS: &str = "\
 Normal (0, 1, 0, 1) (0, 0)
 Normal (1, 1, 1, 1) (1, 1) 0000000100016b000176 [0, 1, 6e6f6e65]
 Normal (1, 1, 1, 1) (3, 3) 0000000100016b000176 [0, 1, 6e6f6e65]
 ";
-    play_three::<KvHost>(&rt, rt.alloc(), TOLD, expected);
-}
+
+/// The scripts above.
+static GROUPS: [Script; 6] = [
+    (GAP, GAP_ENDS),
+    (WATCH, WATCH_ENDS),
+    (VIEW_CHANGE, VIEW_CHANGE_ENDS),
+    (SYNCHRONISATION, SYNCHRONISATION_ENDS),
+    (SYNCHRONISED, SYNCHRONISED_ENDS),
+    (TOLD, TOLD_ENDS),
+];
 
 /// A get, stamped in session 1.
 fn stamped(rt: &impl Abort, alloc: Global, number: u64, client: u32, id: u64) -> Vec<u8> {
@@ -335,8 +342,9 @@ fn is_reply(out: &Outbox, client: u32) -> bool {
     }
 }
 
-/// After a request of each of the clients 0 to 255, as many as a log serves: a client, an id, and whether the leader replies. It does for
-/// an id that comes late, and not for one that is eight behind.
+/// After a request of each of the clients 0 to 255, as many as a log serves: a client, an id, and
+/// whether the leader replies. It does for an id that comes late, and not for one that is eight
+/// behind.
 const LATER: [(u32, u64, bool); 9] = [
     (256, 1, false),
     (0, 1, true),

@@ -1,7 +1,9 @@
-//! Datagrams that no actor of the group sent, or that are cut: they change nothing, or no more than the step tables say. What is
-//! expected was worked out from the rules of the protocol and from its formats.
+//! Datagrams that no actor of the group sent, or that are cut: they change nothing, or no more than
+//! the step tables say. What is expected was worked out from the rules of the protocol and from its
+//! formats.
 use crate::cores::client;
-use crate::groups::{opened, play_three};
+use crate::groups::{Script, opened};
+use crate::observers::opened_observer;
 use crate::rows::{bytes_of, check_shown};
 use crate::scripts::play;
 use kv_host::KvHost;
@@ -13,9 +15,10 @@ use std::alloc::Global;
 use std::process::Abort;
 use std::slice::from_mut;
 
-/// Datagrams of all kinds. Each but the last two is taken by one of the cores below: a request, the same stamped, the same stamped in
-/// session 2, a leader's and a follower's reply to it, an order and its answer, a probe and its answer, and a question for a slot. The
-/// last two are a read of a key and an answer to it.
+/// Datagrams of all kinds. Each but the last two is taken by one of the cores below: a request, the
+/// same stamped, the same stamped in session 2, a leader's and a follower's reply to it, an order
+/// and its answer, a probe and its answer, and a question for a slot. The last two are a read of a
+/// key and an answer to it.
 const DATAGRAMS: &str = "\
 4e4f0301 00000000 0000000000000001 0007 5000016b000176
 4e4f0302 0000000000000001 0000000000000001 00000000 0000000000000001 0007 5000016b000176
@@ -30,9 +33,10 @@ const DATAGRAMS: &str = "\
 4e4f0309 00000000 0000000000000001 0001 6b
 4e4f030a 00 00000001 00000000 0000000000000001 0002 3d76";
 
-/// The same with a field out of its range: ids, sessions, rounds, a slot and a message of 0, a message number of 2^48, ops of 641 bytes,
-/// replicas 7, a tag of 2, a result without a tag, results of 258 bytes, controllers 4, sequencers 4, a count of 0 and one of 4,097, keys
-/// of 0 and 65 bytes, an observer 4.
+/// The same with a field out of its range: ids, sessions, rounds, a slot and a message of 0, a
+/// message number of 2^48, ops of 641 bytes, replicas 7, a tag of 2, a result without a tag,
+/// results of 258 bytes, controllers 4, sequencers 4, a count of 0 and one of 4,097, keys of 0 and
+/// 65 bytes, an observer 4.
 const OUT_OF_RANGE: &str = "\
 4e4f0301 00000000 0000000000000000 0007 5000016b000176
 4e4f0301 00000000 0000000000000001 0281 78*641
@@ -75,7 +79,8 @@ fn ignores<C: Core>(rt: &impl Abort, alloc: Global, core: &mut C, bytes: &[u8]) 
     assert!(rt; out.as_slice().is_empty());
 }
 
-/// A core ignores each front of these bytes but the whole of them, them with another byte in one place, and with one more.
+/// A core ignores each front of these bytes but the whole of them, them with another byte in one
+/// place, and with one more.
 fn ignores_bad<C: Core>(rt: &impl Abort, alloc: Global, core: &mut C, bytes: &[u8]) {
     for len in 0..bytes.len() {
         ignores(rt, alloc, core, &bytes[..len]);
@@ -91,7 +96,8 @@ fn ignores_bad<C: Core>(rt: &impl Abort, alloc: Global, core: &mut C, bytes: &[u
     ignores(rt, alloc, core, &longer);
 }
 
-/// A core ignores what is no datagram, and the datagrams that do not begin with one of these fronts.
+/// A core ignores what is no datagram, and the datagrams that do not begin with one of these
+/// fronts.
 fn takes_only<C: Core>(rt: &impl Abort, alloc: Global, core: &mut C, taken: &str) {
     for row in DATAGRAMS.lines() {
         let bytes = bytes_of(rt, alloc, row);
@@ -126,6 +132,22 @@ const AS_BEFORE: &str = "\
 #[test]
 fn replicas_ignore_what_is_no_datagram(rt: HostRuntime) {
     replicas_take_only::<KvHost>(&rt, rt.alloc());
+}
+
+/// An observer answers the read of a key that it does not have.
+const READ: &str = "\
+0 packet 4e4f0309 00000000 0000000000000001 0001 6b
+  0 One(Client(0)) 4e4f030a000000000000000000000000000000000100046e6f6e65
+";
+
+#[test]
+fn an_observer_ignores_what_is_no_datagram(rt: HostRuntime) {
+    let alloc = rt.alloc();
+    let mut core = opened_observer::<KvHost>(&rt, alloc);
+    takes_only(&rt, alloc, &mut core, "4e4f0308 4e4f0309");
+    assert!(rt; core.position() == 0);
+    let mut sent = Outbox::new(alloc);
+    play(&rt, alloc, from_mut(&mut core), &mut sent, READ);
 }
 
 /// A sequencer stamps the first request with the first number.
@@ -172,8 +194,8 @@ const SUBMITTED: &str = "\
   1 Sequencers 4e4f030100000000000000000000000100075000016b000176
 ";
 
-/// Replies of replica 6, which is not there, for another id and for another client change nothing: the follower's reply is the first of
-/// a quorum, and the leader's the last.
+/// Replies of replica 6, which is not there, for another id and for another client change nothing:
+/// the follower's reply is the first of a quorum, and the leader's the last.
 const REPLIES: &str = "\
 0 packet 4e4f0303 06 00000000 0000000000000001 00000001 00000000 0000000000000001 00 0000
 0 packet 4e4f0303 00 00000000 0000000000000001 00000001 00000000 0000000000000002 01 0004 6e6f6e65
@@ -187,7 +209,7 @@ const REPLIES: &str = "\
 #[test]
 fn a_client_ignores_replies_of_others(rt: HostRuntime) {
     let alloc = rt.alloc();
-    let mut core = client(&rt, alloc);
+    let mut core = client(&rt, alloc, 1);
     let mut sent = Outbox::new(alloc);
     play(&rt, alloc, from_mut(&mut core), &mut sent, SUBMITTED);
     takes_only(&rt, alloc, &mut core, "4e4f0303");
@@ -195,11 +217,12 @@ fn a_client_ignores_replies_of_others(rt: HostRuntime) {
     assert!(rt; core.state().last_id == 1);
 }
 
-/// At the leader: fragments of replica 6 and of its own number, and starts of view (1, 1) whose log has an entry more and one less than
-/// it says. At a follower: a gap in the last slot that a log may have, a log of one slot more than that, and, from a replica that does
-/// not lead, a checkpoint and the first request. At another one that has left the view: the first request from the leader of the view
-/// that it enters.
-const FORGED: &str = "\
+/// At the leader: fragments of replica 6 and of its own number, and starts of view (1, 1) whose log
+/// has an entry more and one less than it says. At a follower: a gap in the last slot that a log
+/// may have, a log of one slot more than that, and, from a replica that does not lead, a checkpoint
+/// and the first request. At another one that has left the view: the first request from the leader
+/// of the view that it enters.
+const SILENT: &str = "\
 0 packet 4e4f0308 06 0000000000000001 0000 0001 14 06 00000007 0000000000000001
 0 packet 4e4f0308 00 0000000000000001 0000 0001 14 00 00000007 0000000000000001
 0 packet 4e4f0308 06 0000000000000001 0000 0002 00*1400
@@ -217,19 +240,16 @@ const FORGED: &str = "\
 2 packet 4e4f0308 01 0000000000000001 0000 0001 11 01 00000001 0000000000000001 00000001 00000000 0000000000000001 0000
 ";
 
-#[test]
-fn forged_messages_change_nothing(rt: HostRuntime) {
-    let expected = "\
+const SILENT_ENDS: &str = "\
 Normal (0, 1, 0, 1) (0, 0)
 Normal (0, 1, 0, 1) (0, 0)
 Change (1, 1, 0, 1) (0, 0)
 ";
-    play_three::<KvHost>(&rt, rt.alloc(), FORGED, expected);
-}
 
-/// A follower has a request. It is told checkpoints that are no saved map: three bytes, a key that is not there, a byte after the last
-/// key, the first two by its leader and the third one by the leader of the next view. Another replica is told one in a change. It enters
-/// no view then, and later, in that view, does not keep the change; one without a checkpoint starts the view.
+/// A follower has a request. It is told checkpoints that are no saved map: three bytes, a key that
+/// is not there, a byte after the last key, the first two by its leader and the third one by the
+/// leader of the next view. Another replica is told one in a change. It enters no view then, and
+/// later, in that view, does not keep the change; one without a checkpoint starts the view.
 const UNLOADED: &str = "\
 2 packet 4e4f0302 0000000000000001 0000000000000001 00000000 0000000000000001 0007 5000016b000176
   0 One(Client(0)) 4e4f03030200000000000000000000000100000001000000000000000000000001000000
@@ -244,19 +264,16 @@ const UNLOADED: &str = "\
   2 Replicas 4e4f030801000000000000000200000001160100000001000000000000000100000000000000010000000000000000
 ";
 
-#[test]
-fn checkpoints_that_do_not_load_change_nothing(rt: HostRuntime) {
-    let expected = "\
+const UNLOADED_ENDS: &str = "\
 Normal (0, 1, 0, 1) (0, 0)
 Normal (1, 1, 1, 1) (0, 0)
 Normal (0, 1, 0, 1) (0, 0) (0, 1)
 ";
-    play_three::<KvHost>(&rt, rt.alloc(), UNLOADED, expected);
-}
 
-/// At a leader with one slot: votes for that length before it asked for them, and then for lengths that it did not ask for. At a follower
-/// with two slots: commits where nothing is prepared, and then, where slot 1 is prepared, of slot 2 and of the last slot that a log may
-/// have. A commit of slot 1 is taken at last.
+/// At a leader with one slot: votes for that length before it asked for them, and then for lengths
+/// that it did not ask for. At a follower with two slots: commits where nothing is prepared, and
+/// then, where slot 1 is prepared, of slot 2 and of the last slot that a log may have. A commit of
+/// slot 1 is taken at last.
 const UNPREPARED: &str = "\
 0 packet 4e4f0302 0000000000000001 0000000000000001 00000000 0000000000000001 0007 5000016b000176
   0 One(Client(0)) 4e4f030300000000000000000000000001000000010000000000000000000000010100046e6f6e65
@@ -279,18 +296,14 @@ const UNPREPARED: &str = "\
   5 trimmed 1 (0, 1)
 ";
 
-#[test]
-fn what_is_not_prepared_stays(rt: HostRuntime) {
-    let expected = "\
+const UNPREPARED_ENDS: &str = "\
 Normal (0, 1, 0, 1) (0, 1) (0, 1)
 Normal (0, 1, 0, 1) (0, 0)
 Normal (0, 1, 0, 1) (1, 1) 0000000100016b000176 [0, 1, 6e6f6e65] (1, 1)
 ";
-    play_three::<KvHost>(&rt, rt.alloc(), UNPREPARED, expected);
-}
 
-/// A view with the greatest numbers is asked for, which replica 0 leads. A tick and a packet of its session change no view then. A packet
-/// of the last session brings another replica there.
+/// A view with the greatest numbers is asked for, which replica 0 leads. A tick and a packet of its
+/// session change no view then. A packet of the last session brings another replica there.
 const LAST_VIEW: &str = "\
 0 packet 4e4f0308 01 0000000000000001 0000 0001 14 01 ffffffff ffffffffffffffff
   0 Replicas 4e4f0308000000000000000001000000011400ffffffffffffffffffffffff
@@ -301,18 +314,14 @@ const LAST_VIEW: &str = "\
   2 One(Replica(0)) 4e4f030801000000000000000200000001150100000000ffffffffffffffff00000000000000000000000100000000000000010000000000000000
 ";
 
-#[test]
-fn the_last_view(rt: HostRuntime) {
-    let expected = "\
+const LAST_VIEW_ENDS: &str = "\
 Change (4294967295, 18446744073709551615, 0, 1) (0, 0)
 Change (0, 18446744073709551615, 0, 1) (0, 0)
 Normal (0, 1, 0, 1) (0, 0)
 ";
-    play_three::<KvHost>(&rt, rt.alloc(), LAST_VIEW, expected);
-}
 
-/// A view starts at the last number. Its packet, of the last client with the last id, is taken; no slot is filled after it, and the
-/// replica tells the number past it when it leaves the view.
+/// A view starts at the last number. Its packet, of the last client with the last id, is taken; no
+/// slot is filled after it, and the replica tells the number past it when it leaves the view.
 const LAST_NUMBER: &str = "\
 0 packet 4e4f0308 01 0000000000000001 0000 0001 16 01 00000001 0000000000000001 0000ffffffffffff 00000000 00000000
 0 packet 4e4f0302 0000000000000001 0000ffffffffffff ffffffff ffffffffffffffff 0000
@@ -323,18 +332,15 @@ const LAST_NUMBER: &str = "\
   2 One(Replica(2)) 4e4f03080000000000000000020000000115000000000200000000000000010000000100000000000000010001000000000000000000000000000101ffffffffffffffffffffffff0000
 ";
 
-#[test]
-fn the_last_number(rt: HostRuntime) {
-    let expected = "\
+const LAST_NUMBER_ENDS: &str = "\
 Change (2, 1, 1, 1) (0, 0) (4294967295, 18446744073709551615)
 Normal (0, 1, 0, 1) (0, 0)
 Normal (0, 1, 0, 1) (0, 0)
 ";
-    play_three::<KvHost>(&rt, rt.alloc(), LAST_NUMBER, expected);
-}
 
-/// A view starts at the number past the last one. No packet is taken in it, no slot is filled, and the replica tells that number when it
-/// leaves the view. The leader of a view that starts so begins no gap.
+/// A view starts at the number past the last one. No packet is taken in it, no slot is filled, and
+/// the replica tells that number when it leaves the view. The leader of a view that starts so
+/// begins no gap.
 const PAST_THE_LAST_NUMBER: &str = "\
 0 packet 4e4f0308 01 0000000000000001 0000 0001 16 01 00000001 0000000000000001 0001000000000000 00000000 00000000
 0 packet 4e4f0302 0000000000000001 0000ffffffffffff 00000000 0000000000000001 0007 5000016b000176
@@ -351,19 +357,16 @@ const PAST_THE_LAST_NUMBER: &str = "\
 1 packet 4e4f0308 02 0000000000000002 0000 0001 10 02 00000001 0000000000000001 00000001
 ";
 
-#[test]
-fn past_the_last_number(rt: HostRuntime) {
-    let expected = "\
+const PAST_THE_LAST_NUMBER_ENDS: &str = "\
 Change (2, 1, 1, 1) (0, 0)
 Normal (1, 1, 1, 1) (0, 0)
 Normal (0, 1, 0, 1) (0, 0)
 ";
-    play_three::<KvHost>(&rt, rt.alloc(), PAST_THE_LAST_NUMBER, expected);
-}
 
-/// A view starts with a full log, of 4,096 slots. A NO-OP and a request past it, and a packet of the next number, which is queued, change
-/// nothing. Then its leader sends a log of one slot more, of which slot 1 is synchronised: the replica keeps 4,096 entries above that,
-/// and nothing past them is taken.
+/// A view starts with a full log, of 4,096 slots. A NO-OP and a request past it, and a packet of
+/// the next number, which is queued, change nothing. Then its leader sends a log of one slot more,
+/// of which slot 1 is synchronised: the replica keeps 4,096 entries above that, and nothing past
+/// them is taken.
 const FULL_LOG: &str = "\
 0 packet 4e4f0308 01 0000000000000001 0000 0003 16 01 00000001 0000000000000001 0000000000001001 00000000 00001000 00*1370
 0 packet 4e4f0308 01 0000000000000001 0001 0003 00*1400
@@ -384,18 +387,15 @@ const FULL_LOG: &str = "\
 0 tick resend
 ";
 
-#[test]
-fn a_log_takes_no_more_than_it_has_room_for(rt: HostRuntime) {
-    let expected = "\
+const FULL_LOG_ENDS: &str = "\
 Normal (1, 1, 1, 1) (1, 1) 00000000 4096 entries full
 Normal (0, 1, 0, 1) (0, 0)
 Normal (0, 1, 0, 1) (0, 0)
 ";
-    play_three::<KvHost>(&rt, rt.alloc(), FULL_LOG, expected);
-}
 
-/// A view starts with all slots synchronised that a log may have but the last one, which its packet takes. The next packet is queued. A
-/// NO-OP comes into the last slot. Then it is synchronised too, and there is no room all the same.
+/// A view starts with all slots synchronised that a log may have but the last one, which its packet
+/// takes. The next packet is queued. A NO-OP comes into the last slot. Then it is synchronised too,
+/// and there is no room all the same.
 const LAST_SLOT: &str = "\
 0 packet 4e4f0308 01 0000000000000001 0000 0001 16 01 00000001 0000000000000001 0000000000000005 fffffffe 00000004 00000000 00000000 00000000
 0 packet 4e4f0302 0000000000000001 0000000000000005 00000000 0000000000000001 0007 5000016b000176
@@ -408,12 +408,20 @@ const LAST_SLOT: &str = "\
 0 tick resend
 ";
 
-#[test]
-fn the_last_slot(rt: HostRuntime) {
-    let expected = "\
+const LAST_SLOT_ENDS: &str = "\
 Normal (1, 1, 1, 1) (4294967295, 4294967295) 00000000 full
 Normal (0, 1, 0, 1) (0, 0)
 Normal (0, 1, 0, 1) (0, 0)
 ";
-    play_three::<KvHost>(&rt, rt.alloc(), LAST_SLOT, expected);
-}
+
+/// The scripts above.
+pub static FORGED: [Script; 8] = [
+    (SILENT, SILENT_ENDS),
+    (UNLOADED, UNLOADED_ENDS),
+    (UNPREPARED, UNPREPARED_ENDS),
+    (LAST_VIEW, LAST_VIEW_ENDS),
+    (LAST_NUMBER, LAST_NUMBER_ENDS),
+    (PAST_THE_LAST_NUMBER, PAST_THE_LAST_NUMBER_ENDS),
+    (FULL_LOG, FULL_LOG_ENDS),
+    (LAST_SLOT, LAST_SLOT_ENDS),
+];

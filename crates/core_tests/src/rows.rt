@@ -11,7 +11,8 @@ fn put_bytes(rt: &impl Abort, alloc: Global, word: &str, bytes: &mut Vec<u8>) {
     }
 }
 
-/// The bytes of words of two digits for each byte, with a space between two words, where `ff*640` has its bytes 640 times.
+/// The bytes of words of two digits for each byte, with a space between two words, where `ff*640`
+/// has its bytes 640 times.
 pub fn bytes_of(rt: &impl Abort, alloc: Global, row: &str) -> Vec<u8> {
     let mut bytes = Vec::new(alloc);
     for word in row.split(' ') {

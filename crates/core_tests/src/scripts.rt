@@ -54,7 +54,8 @@ fn op_of(rt: &impl Abort, alloc: Global, bytes: &[u8]) -> Op {
     Op::new(alloc, bytes).expect(rt, "memory")
 }
 
-/// A core takes an input: a packet in hexadecimal, an output that was sent, an op in hexadecimal, or a tick.
+/// A core takes an input: a packet in hexadecimal, an output that was sent, an op in hexadecimal,
+/// or a tick.
 fn take<C: Core>(
     rt: &impl Abort,
     alloc: Global,
@@ -153,8 +154,8 @@ fn turn<C: Core>(
     put_outputs(rt, alloc, sent, from, to);
 }
 
-/// Cores take turns. A line has the place of a core and its input; each line below it that is indented has an output of that step, with
-/// how many outputs came before it.
+/// Cores take turns. A line has the place of a core and its input; each line below it that is
+/// indented has an output of that step, with how many outputs came before it.
 pub fn play<C: Core>(
     rt: &impl Abort,
     alloc: Global,

@@ -1,11 +1,12 @@
-//! Logs whose sync points rise: what was synchronised moves out, a checkpoint is in its place, and who is behind is told that. What is
-//! expected was worked out from the rules of the protocol and from its formats.
-use crate::groups::play_three;
-use kv_host::KvHost;
+//! Logs whose sync points rise: what was synchronised moves out, a checkpoint is in its place, and
+//! who is behind is told that. What is expected was worked out from the rules of the protocol and
+//! from its formats.
+use crate::groups::Script;
 
-/// A leader and a follower have a put and a get synchronised, while the other follower has nothing. It gets the third packet, asks for
-/// slot 1, and is told the checkpoint alone: it replies for slot 3, and to nobody for the others. Then it leads the next view. From the
-/// checkpoint it has the value of the get in slot 3, and the result of a request that comes again.
+/// A leader and a follower have a put and a get synchronised, while the other follower has nothing.
+/// It gets the third packet, asks for slot 1, and is told the checkpoint alone: it replies for slot
+/// 3, and to nobody for the others. Then it leads the next view. From the checkpoint it has the
+/// value of the get in slot 3, and the result of a request that comes again.
 const BEHIND: &str = "\
 0 packet 4e4f0302 0000000000000001 0000000000000001 00000000 0000000000000001 0007 5000016b000176
   0 One(Client(0)) 4e4f030300000000000000000000000001000000010000000000000000000000010100046e6f6e65
@@ -51,20 +52,17 @@ const BEHIND: &str = "\
   24 trimmed 3 (0, 2) (1, 1)
 ";
 
-#[test]
-fn a_follower_far_behind_is_told_a_checkpoint(rt: HostRuntime) {
-    let expected = "\
+const BEHIND_ENDS: &str = "\
 Normal (0, 1, 0, 1) (2, 3) 0000000100016b000176 [0, 1, 6e6f6e65] [1, 1, 3d76] (0, 2)
 Normal (1, 1, 1, 1) (4, 4) 0000000100016b000176 [0, 1, 6e6f6e65, 2, 3d76] [1, 1, 3d76]
 Normal (1, 1, 1, 1) (2, 2) 0000000100016b000176 [0, 1, 6e6f6e65] [1, 1, 3d76] (0, 2) (1, 1)
 ";
-    play_three::<KvHost>(&rt, rt.alloc(), BEHIND, expected);
-}
 
-/// A view starts with a log of 4,096 NO-OPs, which a change tells. The next packet is queued, at its leader and at a follower. The leader
-/// tells its log, in three fragments, and the follower votes. The sync points rise, all of the logs moves out, and the packet is logged
-/// in slot 4,097. Another replica, which had nothing, tells a late change, and is told the checkpoint: the empty map. It has that slot
-/// then too.
+/// A view starts with a log of 4,096 NO-OPs, which a change tells. The next packet is queued, at
+/// its leader and at a follower. The leader tells its log, in three fragments, and the follower
+/// votes. The sync points rise, all of the logs moves out, and the packet is logged in slot 4,097.
+/// Another replica, which had nothing, tells a late change, and is told the checkpoint: the empty
+/// map. It has that slot then too.
 const PAST: &str = "\
 1 tick suspect
   0 Replicas 4e4f0308010000000000000001000000011401000000010000000000000001
@@ -104,12 +102,11 @@ const PAST: &str = "\
   16 One(Client(0)) 4e4f03030000000001000000000000000100001001000000000000000000000001000000
 ";
 
-#[test]
-fn a_full_log_goes_on_when_it_is_synchronised(rt: HostRuntime) {
-    let expected = "\
+const PAST_ENDS: &str = "\
 Normal (1, 1, 1, 1) (4096, 4096) 00000000 (0, 1)
 Normal (1, 1, 1, 1) (4096, 4097) 00000000 (0, 1)
 Normal (1, 1, 1, 1) (4096, 4096) 00000000 (0, 1)
 ";
-    play_three::<KvHost>(&rt, rt.alloc(), PAST, expected);
-}
+
+/// The scripts above.
+pub static TRIMMED: [Script; 2] = [(BEHIND, BEHIND_ENDS), (PAST, PAST_ENDS)];

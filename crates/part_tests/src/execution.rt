@@ -1,15 +1,16 @@
+//! Logs that are executed, undone, and begun with a checkpoint.
 ghost use Rattle.std.specs.Prelude.{◌≡◌};
 ghost use Rattle.nop_types.specs.Logs.{Trimmed, length_of};
 ghost use Rattle.nop_types.specs.Ranges.{EntryFits, LogFits};
 ghost use Rattle.executor.specs.Running.{reached};
 ghost use Rattle.executor.specs.Undoing.{HasExecuted};
 
-use crate::checking::{check, check_row};
+use crate::checking::{check, check_clients, check_row};
 use crate::logs::full_log;
 use crate::requests::{is_expected, request};
 use executor::{Executor, checkpoint_loads};
 use kv_host::KvHost;
-use nop_types::{Answered, Bytes, Checkpoint, Entry, Host, MAX_SLOTS, SavedClient};
+use nop_types::{Bytes, Checkpoint, Entry, Host, MAX_SLOTS};
 use replica_log::ReplicaLog;
 use std::alloc::Global;
 use std::process::Abort;
@@ -27,7 +28,8 @@ static SLOTS: [(u32, u64, &[u8]); 9] = [
     (u32::MAX, u64::MAX, b""),
 ];
 
-/// The answers that are kept: an id eight behind the greatest one of its client has none, and one that did not come.
+/// The answers that are kept: an id eight behind the greatest one of its client has none, and one
+/// that did not come.
 static RESULTS: [(u32, u64, Option<&[u8]>); 9] = [
     (1, 10, Some(b"none")),
     (1, 3, Some(b"=v")),
@@ -119,23 +121,14 @@ fn check_results<H: Host>(rt: &impl Abort, alloc: Global) {
     check_answers(rt, &executor);
 }
 
-#[test]
-fn executed_and_undone(rt: HostRuntime) {
-    check_results::<KvHost>(&rt, rt.alloc());
-}
-
-/// A full log is executed at once, undone down to slot 1, and executed again; each op of it is no op of the service.
+/// A full log is executed at once, undone down to slot 1, and executed again; each op of it is no
+/// op of the service.
 fn check_full<H: Host>(rt: &impl Abort, alloc: Global) {
     let log = full_log(rt, alloc);
     let executor: Executor<H> = executed_again(rt, alloc, &log);
     check(rt, executor.reached() == log.len(), "the whole log");
     let last = has_result(&executor, 7, MAX_SLOTS as u64, Some(b"bad"));
     check(rt, last, "the last answer");
-}
-
-#[test]
-fn a_full_log_is_executed(rt: HostRuntime) {
-    check_full::<KvHost>(&rt, rt.alloc());
 }
 
 /// The log begins with the checkpoint of what is executed.
@@ -151,7 +144,8 @@ fn trim<H: Host>(rt: &impl Abort, log: &mut ReplicaLog, executor: &mut Executor<
     executor.rebase();
 }
 
-/// A client's ids in the order in which they come, each a get of a key that is not there. The last one leaves all others behind.
+/// A client's ids in the order in which they come, each a get of a key that is not there. The last
+/// one leaves all others behind.
 static IN_ONE_WINDOW: [u64; 9] = [3, 1, 8, 2, 7, 4, 6, 5, 16];
 
 /// Whether the first of these ids have a result, and no others.
@@ -188,12 +182,8 @@ fn check_one_window<H: Host>(rt: &impl Abort, alloc: Global) {
     check(rt, have_results(&executor, 3), "the first three");
 }
 
-#[test]
-fn results_come_back(rt: HostRuntime) {
-    check_one_window::<KvHost>(&rt, rt.alloc());
-}
-
-/// After a get of each of the clients 0 to 255: a client, an id and an op, and the answer to it in the end.
+/// After a get of each of the clients 0 to 255: a client, an id and an op, and the answer to it in
+/// the end.
 static AFTER_THE_FIRST: [(u32, u64, &[u8], Option<&[u8]>); 9] = [
     (256, 1, b"P\0\x01k\0\x01v", None),
     (0, 2, b"G\0\x01k", Some(b"none")),
@@ -242,8 +232,8 @@ fn check_from_there<H: Host>(
     check_after_the_first(rt, executor);
 }
 
-/// A request of the 257th client is not executed, nor is its next one; a served client's next one is. So it is from a checkpoint on that
-/// has all 256 clients.
+/// A request of the 257th client is not executed, nor is its next one; a served client's next one
+/// is. So it is from a checkpoint on that has all 256 clients.
 fn check_many_clients<H: Host>(rt: &impl Abort, alloc: Global) {
     let mut log = log_of_many_clients(rt, alloc);
     let mut executor: Executor<H> = executed_again(rt, alloc, &log);
@@ -254,59 +244,15 @@ fn check_many_clients<H: Host>(rt: &impl Abort, alloc: Global) {
     check_from_there(rt, alloc, &log, &mut executor);
 }
 
-#[test]
-fn the_first_clients_are_served(rt: HostRuntime) {
-    check_many_clients::<KvHost>(&rt, rt.alloc());
-}
-
-/// A client as the checkpoint of the log above has it: its greatest id, and its results with their ids.
-type InCheckpoint = (u32, u64, &'static [(u64, &'static [u8])]);
-
-static IN_THE_CHECKPOINT: [InCheckpoint; 5] = [
-    (1, 10, &[(3, b"=v"), (10, b"none")]),
-    (2, 1, &[(1, b"=v")]),
-    (3, 1, &[(1, b"=v")]),
-    (4, 1, &[(1, b"none")]),
-    (u32::MAX, u64::MAX, &[(u64::MAX, b"bad")]),
-];
-
-fn is_kept(answered: &Answered, expected: (u64, &[u8])) -> bool {
-    answered.id == expected.0 && answered.result.as_slice() == expected.1
-}
-
-fn are_kept(kept: &[Answered], expected: &[(u64, &[u8])]) -> bool {
-    if kept.len() != expected.len() {
-        return false;
-    }
-    for (answered, expected) in kept.iter().zip(expected) {
-        if !is_kept(answered, *expected) {
-            return false;
-        }
-    }
-    true
-}
-
-fn is_client(saved: &SavedClient, expected: &InCheckpoint) -> bool {
-    saved.client == expected.0 && saved.greatest == expected.1 && are_kept(&saved.kept, expected.2)
-}
-
-fn check_clients(rt: &impl Abort, clients: &[SavedClient]) {
-    check(rt, clients.len() == IN_THE_CHECKPOINT.len(), "clients");
-    for (saved, expected) in clients.iter().zip(&IN_THE_CHECKPOINT) {
-        check(rt, is_client(saved, expected), "a client");
-    }
-}
+/// The clients that the checkpoint of the log above has, as their derive shows them.
+const IN_THE_CHECKPOINT: &str =
+    "[SavedClient { client: 1, greatest: 10, kept: [Answered { id: 3, result: Bytes { bytes: [61, 118] } }, Answered { id: 10, result: Bytes { bytes: [110, 111, 110, 101] } }] }, SavedClient { client: 2, greatest: 1, kept: [Answered { id: 1, result: Bytes { bytes: [61, 118] } }] }, SavedClient { client: 3, greatest: 1, kept: [Answered { id: 1, result: Bytes { bytes: [61, 118] } }] }, SavedClient { client: 4, greatest: 1, kept: [Answered { id: 1, result: Bytes { bytes: [110, 111, 110, 101] } }] }, SavedClient { client: 4294967295, greatest: 18446744073709551615, kept: [Answered { id: 18446744073709551615, result: Bytes { bytes: [98, 97, 100] } }] }]";
 
 fn check_checkpoint<H: Host>(rt: &impl Abort, alloc: Global) {
     let log = log_of_slots(rt, alloc);
     let executor: Executor<H> = executed_again(rt, alloc, &log);
     let checkpoint = executor.checkpoint().expect(rt, "memory");
-    check_clients(rt, checkpoint.clients());
-}
-
-#[test]
-fn an_execution_has_a_checkpoint(rt: HostRuntime) {
-    check_checkpoint::<KvHost>(&rt, rt.alloc());
+    check_clients(rt, alloc, checkpoint.clients(), IN_THE_CHECKPOINT);
 }
 
 /// At the checkpoint of slot 5, the rest of the log is executed and undone.
@@ -328,8 +274,8 @@ fn check_the_rest<H: Host>(rt: &impl Abort, log: &ReplicaLog, executor: &mut Exe
     );
 }
 
-/// The log up to slot 5 is executed, and a checkpoint is in place of its entries. The rest is executed, undone and executed
-/// again.
+/// The log up to slot 5 is executed, and a checkpoint is in place of its entries. The rest is
+/// executed, undone and executed again.
 fn check_trimmed<H: Host>(rt: &impl Abort, alloc: Global) -> (ReplicaLog, Executor<H>)
     ensures { HasExecuted H.state H.meaning H.undo_of result.0 result.1 }
 {
@@ -347,7 +293,8 @@ fn check_trimmed<H: Host>(rt: &impl Abort, alloc: Global) -> (ReplicaLog, Execut
     (log, executor)
 }
 
-/// An executor that is anywhere begins anew with the checkpoint of the log, and has the same answers.
+/// An executor that is anywhere begins anew with the checkpoint of the log, and has the same
+/// answers.
 fn check_restarted<H: Host>(rt: &impl Abort, alloc: Global) {
     let (log, mut executor) = check_trimmed::<H>(rt, alloc);
     let loads = checkpoint_loads::<H>(alloc, log.checkpoint()).expect(rt, "memory");
@@ -360,11 +307,6 @@ fn check_restarted<H: Host>(rt: &impl Abort, alloc: Global) {
         "of client 1",
     );
     check_the_rest(rt, &log, &mut executor);
-}
-
-#[test]
-fn begun_with_a_checkpoint(rt: HostRuntime) {
-    check_restarted::<KvHost>(&rt, rt.alloc());
 }
 
 /// A checkpoint of this host's state, without clients, loads.
@@ -382,6 +324,12 @@ fn check_what_loads<H: Host>(rt: &impl Abort, alloc: Global) {
 }
 
 #[test]
-fn what_loads(rt: HostRuntime) {
+fn executions(rt: HostRuntime) {
+    check_results::<KvHost>(&rt, rt.alloc());
+    check_full::<KvHost>(&rt, rt.alloc());
+    check_one_window::<KvHost>(&rt, rt.alloc());
+    check_many_clients::<KvHost>(&rt, rt.alloc());
+    check_checkpoint::<KvHost>(&rt, rt.alloc());
+    check_restarted::<KvHost>(&rt, rt.alloc());
     check_what_loads::<KvHost>(&rt, rt.alloc());
 }

@@ -1,8 +1,9 @@
+//! What is kept for each client, and what a checkpoint may have of it.
 ghost use Rattle.std.specs.Prelude.{◌≡◌, ◌&&◌};
 ghost use Rattle.nop_types.specs.declared.limits.TheConstants.{WINDOW};
 ghost use Rattle.nop_types.specs.Tables.{is_new_to, kept_for, serves};
 
-use crate::checking::{check, check_row};
+use crate::checking::{check, check_clients, check_row};
 use crate::requests::request;
 use client_table::{ClientTable, Judged};
 use nop_types::{Answered, Bytes, Checkpoint, SavedClient};
@@ -49,8 +50,8 @@ fn has_answer(table: &ClientTable, client: u32, id: u64, expected: &[u8]) -> boo
     }
 }
 
-/// A client and an id, where the greatest id of client 7 is 15 and has its answer: whether it is new,
-/// and whether it is stale. Ids from 8 on are new, but for 15.
+/// A client and an id, where the greatest id of client 7 is 15 and has its answer: whether it is
+/// new, and whether it is stale. Ids from 8 on are new, but for 15.
 static VERDICTS: [(u32, u64, bool, bool); 8] = [
     (7, 7, false, true),
     (7, 1, false, true),
@@ -98,11 +99,6 @@ fn ids_of_a_window(rt: HostRuntime) {
     check(&rt, has_answer(&table, 0, 2, expected), "the answer to 2");
 }
 
-/// A request that has the greatest id, which no client has here, is taken.
-fn serves(rt: &impl Abort, alloc: Global, table: &ClientTable, client: u32) -> bool {
-    takes(rt, alloc, table, client, u64::MAX)
-}
-
 /// A table in which clients 0 to 254 have an id, and client 0 another one.
 fn clients_but_one(rt: &impl Abort, alloc: Global) -> ClientTable {
     let mut table = ClientTable::new(alloc);
@@ -122,26 +118,24 @@ static SERVED: [(u32, bool); 5] = [
     (256, false),
 ];
 
-/// With 256 clients in the table each of them is served, and no other one.
+/// With 256 clients in the table each of them is served, and no other one: a request with the
+/// greatest id, which no client has, is taken.
 #[test]
 fn as_many_clients_as_are_served(rt: HostRuntime) {
     let mut table = clients_but_one(&rt, rt.alloc());
-    check(&rt, serves(&rt, rt.alloc(), &table, 255), "255 is served");
-    check(
-        &rt,
-        serves(&rt, rt.alloc(), &table, u32::MAX),
-        "so is the last",
-    );
+    let is_served = takes(&rt, rt.alloc(), &table, 255, u64::MAX);
+    check(&rt, is_served, "255 is served");
+    let is_served = takes(&rt, rt.alloc(), &table, u32::MAX, u64::MAX);
+    check(&rt, is_served, "so is the last");
     keep(&rt, rt.alloc(), &mut table, u32::MAX, 1);
     for (row, (client, expected)) in SERVED.iter().enumerate() {
-        let served = serves(&rt, rt.alloc(), &table, *client);
-        check_row(&rt, served == *expected, row);
+        let is_served = takes(&rt, rt.alloc(), &table, *client, u64::MAX);
+        check_row(&rt, is_served == *expected, row);
     }
     check(&rt, is_fresh(&table, 255, 1), "an id of 255 is new");
 }
 
-/// A client with an id, as they were kept, and as they are saved: each client with its greatest id, and its ids. The id 12 drives 3 and 4 out, and 11 is kept
-/// before it.
+/// A client with an id, as they were kept. The id 12 drives 3 and 4 out, and 11 is kept before it.
 static KEPT: [(u32, u64); 7] = [
     (9, 3),
     (u32::MAX, u64::MAX),
@@ -152,34 +146,10 @@ static KEPT: [(u32, u64); 7] = [
     (9, 11),
 ];
 
-static SAVED: [(u32, u64, &[u64]); 3] = [
-    (0, 1, &[1]),
-    (9, 12, &[5, 11, 12]),
-    (u32::MAX, u64::MAX, &[u64::MAX]),
-];
-
-/// The answer is kept under this id, and tells it and the client.
-fn is_kept(rt: &impl Abort, alloc: Global, answered: &Answered, client: u32, id: u64) -> bool {
-    let answer = answer_to(rt, alloc, client, id);
-    answered.id == id && answered.result.as_slice() == answer.as_slice()
-}
-
-fn check_kept(rt: &impl Abort, alloc: Global, saved: &SavedClient, ids: &[u64]) {
-    check(rt, saved.kept.len() == ids.len(), "kept ids");
-    for (answered, id) in saved.kept.iter().zip(ids) {
-        let kept = is_kept(rt, alloc, answered, saved.client, *id);
-        check(rt, kept, "a kept id");
-    }
-}
-
-fn check_saved(rt: &impl Abort, alloc: Global, clients: &[SavedClient]) {
-    check(rt, clients.len() == SAVED.len(), "saved clients");
-    for (saved, (client, greatest, ids)) in clients.iter().zip(&SAVED) {
-        check(rt, saved.client == *client, "a saved client");
-        check(rt, saved.greatest == *greatest, "its greatest id");
-        check_kept(rt, alloc, saved, ids);
-    }
-}
+/// The clients of that table as they are saved, each with its greatest id and its ids with their
+/// answers.
+const SAVED: &str =
+    "[SavedClient { client: 0, greatest: 1, kept: [Answered { id: 1, result: Bytes { bytes: [0, 0, 0, 0, 0, 0, 0, 0, 0, 0, 0, 1] } }] }, SavedClient { client: 9, greatest: 12, kept: [Answered { id: 5, result: Bytes { bytes: [0, 0, 0, 9, 0, 0, 0, 0, 0, 0, 0, 5] } }, Answered { id: 11, result: Bytes { bytes: [0, 0, 0, 9, 0, 0, 0, 0, 0, 0, 0, 11] } }, Answered { id: 12, result: Bytes { bytes: [0, 0, 0, 9, 0, 0, 0, 0, 0, 0, 0, 12] } }] }, SavedClient { client: 4294967295, greatest: 18446744073709551615, kept: [Answered { id: 18446744073709551615, result: Bytes { bytes: [255, 255, 255, 255, 255, 255, 255, 255, 255, 255, 255, 255] } }] }]";
 
 /// The table that the clients and ids above lead to.
 fn kept_table(rt: &impl Abort, alloc: Global) -> ClientTable {
@@ -213,11 +183,11 @@ fn check_loaded(rt: &impl Abort, table: &ClientTable) {
 fn a_table_is_saved_and_loaded(rt: HostRuntime) {
     let table = kept_table(&rt, rt.alloc());
     let clients = table.saved(rt.alloc()).expect(&rt, "memory");
-    check_saved(&rt, rt.alloc(), &clients);
+    check_clients(&rt, rt.alloc(), &clients, SAVED);
     let loaded = loaded_from(&rt, rt.alloc(), clients);
     check_loaded(&rt, &loaded);
     let again = loaded.saved(rt.alloc()).expect(&rt, "memory");
-    check_saved(&rt, rt.alloc(), &again);
+    check_clients(&rt, rt.alloc(), &again, SAVED);
 }
 
 /// A client whose greatest id is told, with results of some ids.
@@ -234,67 +204,49 @@ fn saved(rt: &impl Abort, alloc: Global, client: u32, greatest: u64, ids: &[u64]
     }
 }
 
-/// How long a host's state is, the numbers of the clients, and whether a checkpoint may have both.
-static CHECKPOINTS: [(usize, &[u32], bool); 6] = [
-    (0, &[], true),
-    (1_400_000, &[0, 1, u32::MAX], true),
-    (1_400_001, &[], false),
-    (0, &[3, 3], false),
-    (0, &[3, 2], false),
-    (0, &[0], true),
+/// How long a host's state is, the numbers of the clients, the greatest id of each and the ids of
+/// its results, and whether a checkpoint may have all that. Numbers ascend; ids ascend up to the
+/// greatest one from 1 on, less than eight behind.
+type Made = (usize, &'static [u32], u64, &'static [u64], bool);
+
+static CHECKPOINTS: [Made; 20] = [
+    (0, &[], 1, &[1], true),
+    (1_400_000, &[0, 1, u32::MAX], 1, &[1], true),
+    (1_400_001, &[], 1, &[1], false),
+    (0, &[3, 3], 1, &[1], false),
+    (0, &[3, 2], 1, &[1], false),
+    (0, &[0], 1, &[1], true),
+    (0, &[7], 1, &[1], true),
+    (0, &[7], 8, &[1, 2, 3, 4, 5, 6, 7, 8], true),
+    (0, &[7], 9, &[2, 9], true),
+    (0, &[7], u64::MAX, &[u64::MAX - 7, u64::MAX], true),
+    (0, &[7], 0, &[], false),
+    (0, &[7], 0, &[0], false),
+    (0, &[7], 1, &[], false),
+    (0, &[7], 1, &[0, 1], false),
+    (0, &[7], 9, &[1, 9], false),
+    (0, &[7], 9, &[9, 8], false),
+    (0, &[7], 9, &[8, 8, 9], false),
+    (0, &[7], 9, &[8], false),
+    (0, &[7], 9, &[9, 10], false),
+    (0, &[7], u64::MAX, &[u64::MAX, u64::MAX], false),
 ];
 
-/// Clients of these numbers, each with one result.
-fn clients_of(rt: &impl Abort, alloc: Global, numbers: &[u32]) -> Vec<SavedClient> {
+/// Whether a checkpoint of the row is made.
+fn is_made(rt: &impl Abort, alloc: Global, row: &Made) -> bool {
+    let (len, numbers, greatest, ids, _expected) = row;
     let mut clients = Vec::new(alloc);
-    for number in numbers {
-        let client = saved(rt, alloc, *number, 1, &[1]);
+    for number in *numbers {
+        let client = saved(rt, alloc, *number, *greatest, ids);
         clients.push(client).expect(rt, "memory");
     }
-    clients
-}
-
-/// A checkpoint may have a host's state of so many bytes and these clients.
-fn is_made(rt: &impl Abort, alloc: Global, len: usize, clients: Vec<SavedClient>) -> bool {
-    let bytes = vec![in alloc; 7u8; len].expect(rt, "memory");
+    let bytes = vec![in alloc; 7u8; *len].expect(rt, "memory");
     Checkpoint::new(Bytes::from_vec(bytes), clients).is_some()
 }
 
-/// Clients that stand twice or do not ascend are none of a checkpoint; so is a host of one byte too many.
 #[test]
 fn what_is_no_checkpoint(rt: HostRuntime) {
-    for (row, (len, numbers, expected)) in CHECKPOINTS.iter().enumerate() {
-        let clients = clients_of(&rt, rt.alloc(), numbers);
-        let made = is_made(&rt, rt.alloc(), *len, clients);
-        check_row(&rt, made == *expected, row);
-    }
-}
-
-/// A client's greatest id and the ids of its results, which ascend up to it from 1 on, less than eight behind; and whether a checkpoint
-/// may have it.
-static RESULTS: [(u64, &[u64], bool); 14] = [
-    (1, &[1], true),
-    (8, &[1, 2, 3, 4, 5, 6, 7, 8], true),
-    (9, &[2, 9], true),
-    (u64::MAX, &[u64::MAX - 7, u64::MAX], true),
-    (0, &[], false),
-    (0, &[0], false),
-    (1, &[], false),
-    (1, &[0, 1], false),
-    (9, &[1, 9], false),
-    (9, &[9, 8], false),
-    (9, &[8, 8, 9], false),
-    (9, &[8], false),
-    (9, &[9, 10], false),
-    (u64::MAX, &[u64::MAX, u64::MAX], false),
-];
-
-#[test]
-fn what_a_checkpoint_keeps(rt: HostRuntime) {
-    for (row, (greatest, ids, expected)) in RESULTS.iter().enumerate() {
-        let client = saved(&rt, rt.alloc(), 7, *greatest, ids);
-        let clients = vec![in rt.alloc(); client].expect(&rt, "memory");
-        let made = is_made(&rt, rt.alloc(), 0, clients);
-        check_row(&rt, made == *expected, row);
+    for (number, row) in CHECKPOINTS.iter().enumerate() {
+        check_row(&rt, is_made(&rt, rt.alloc(), row) == row.4, number);
     }
 }

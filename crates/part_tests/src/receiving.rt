@@ -1,3 +1,4 @@
+//! What a receiver hands up of the packets that it is offered.
 ghost use Rattle.nop_types.specs.Ranges.{StampedFits};
 
 use crate::checking::{check, check_row};
@@ -35,13 +36,8 @@ fn offer(
     }
 }
 
-fn take_front(rt: &impl Abort, receiver: &mut Receiver) {
-    check(rt, receiver.front().is_some(), "something in front");
-    receiver.take_front();
-}
-
-/// A call of a receiver, with its arguments. A packet is offered by its session and its number, with the verdict on it.
-#[derive(Clone, Copy)]
+/// A call of a receiver, with its arguments. A packet is offered by its session and its number,
+/// with the verdict on it.
 enum Call {
     Offer(u64, u64, Verdict),
     Message,
@@ -51,20 +47,23 @@ enum Call {
 }
 
 /// Carries out a call, and tells whether a packet has the verdict that is told.
-fn carry_out(rt: &impl Abort, alloc: Global, receiver: &mut Receiver, call: Call) -> bool {
+fn carry_out(rt: &impl Abort, alloc: Global, receiver: &mut Receiver, call: &Call) -> bool {
     match call {
         Call::Offer(session, number, expected) => {
-            return offer(rt, alloc, receiver, session, number) == expected;
+            return offer(rt, alloc, receiver, *session, *number) == *expected;
         }
         Call::Message => drop(receiver.take_message()),
-        Call::Front => take_front(rt, receiver),
+        Call::Front => {
+            check(rt, receiver.front().is_some(), "something in front");
+            receiver.take_front();
+        }
         Call::Advance(next) => {
-            check(rt, next <= NUMBER_END, "a number");
-            receiver.advance(next);
+            check(rt, *next <= NUMBER_END, "a number");
+            receiver.advance(*next);
         }
         Call::Reset(session, next) => {
-            check(rt, next <= NUMBER_END, "a number");
-            receiver.reset(session, next);
+            check(rt, *next <= NUMBER_END, "a number");
+            receiver.reset(*session, *next);
         }
     }
     true
@@ -87,8 +86,8 @@ const SECOND: u64 = 4_294_967_298;
 /// A call, and the session, the next number and the front then.
 type Row = (Call, u64, u64, Option<u64>);
 
-/// Calls and what they lead to: in order, out of order with a packet that comes twice, other sessions,
-/// a drop, down and up past some of what is queued, another session, the last number.
+/// Calls and what they lead to: in order, out of order with a packet that comes twice, other
+/// sessions, a drop, down and up past some of what is queued, another session, the last number.
 static CALLS: [Row; 32] = [
     (Call::Message, 2, 1, None),
     (Call::Offer(2, 1, Verdict::Queued), 2, 1, Some(1)),
@@ -134,15 +133,14 @@ static CALLS: [Row; 32] = [
     (Call::Front, SECOND, LAST + 1, None),
 ];
 
-/// The receiver has this session, this next number and this front.
-fn is_at(receiver: &Receiver, session: u64, next: u64, expected: Option<u64>) -> bool {
-    receiver.session() == session && receiver.next() == next && front(receiver) == expected
-}
-
-/// A call, and whether the receiver is then as the row says.
+/// A call, and whether the receiver then has the session, the next number and the front that the
+/// row says.
 fn does(rt: &impl Abort, alloc: Global, receiver: &mut Receiver, row: &Row) -> bool {
-    let (call, session, next, expected) = *row;
-    carry_out(rt, alloc, receiver, call) && is_at(receiver, session, next, expected)
+    let (call, session, next, expected) = row;
+    carry_out(rt, alloc, receiver, call)
+        && receiver.session() == *session
+        && receiver.next() == *next
+        && front(receiver) == *expected
 }
 
 #[test]
@@ -153,18 +151,14 @@ fn calls(rt: HostRuntime) {
     }
 }
 
-/// Fills the queue behind the packet 1, which is missing.
-fn fill(rt: &impl Abort, alloc: Global, receiver: &mut Receiver) {
-    for i in 0..MAX_QUEUED as u64 {
-        let verdict = offer(rt, alloc, receiver, 1, i + 2);
-        check(rt, verdict == Verdict::Queued, "queued");
-    }
-}
-
+/// The queue is filled behind the packet 1, which is missing.
 #[test]
 fn a_full_queue(rt: HostRuntime) {
     let mut receiver = Receiver::new(rt.alloc(), 1, 1).expect(&rt, "memory");
-    fill(&rt, rt.alloc(), &mut receiver);
+    for i in 0..MAX_QUEUED as u64 {
+        let verdict = offer(&rt, rt.alloc(), &mut receiver, 1, i + 2);
+        check(&rt, verdict == Verdict::Queued, "queued");
+    }
     let verdict = offer(&rt, rt.alloc(), &mut receiver, 1, 1);
     check(&rt, verdict == Verdict::Full, "one too many");
     let verdict = offer(&rt, rt.alloc(), &mut receiver, 1, 2);

@@ -1,3 +1,4 @@
+//! The lock service: answers to ops, saved states, and as many locks as may be held.
 use crate::checking::{check, check_row};
 use crate::kv::{answers, check_ops};
 use crate::kv_saved::{check_refused, is_refused, is_saved_as, loaded, loads, put};
@@ -57,12 +58,6 @@ static OPS: [(&[u8], &[u8]); 42] = [
     (b"A\x01c\x01z", b"granted\0\0\0\0\0\0\0\x06"),
 ];
 
-#[test]
-fn lock_ops(rt: HostRuntime) {
-    let mut host = LockHost::fresh(rt.alloc()).expect(&rt, "memory");
-    check_ops(&rt, &mut host, &OPS);
-}
-
 /// How long the two names of an acquire are, and whether it is granted.
 static LENGTHS: [(u8, u8, bool); 5] = [
     (64, 64, true),
@@ -105,11 +100,6 @@ fn check_lengths<H: Host>(rt: &impl Abort, alloc: Global) {
         let holds = answers(rt, &mut host, &op, answer_to(*granted));
         check_row(rt, holds, row);
     }
-}
-
-#[test]
-fn lock_names_have_their_lengths(rt: HostRuntime) {
-    check_lengths::<LockHost>(&rt, rt.alloc());
 }
 
 /// Ops from the opening state on, and how the state that they lead to is saved.
@@ -191,16 +181,6 @@ fn check_saved<H: Host>(rt: &impl Abort, alloc: Global) {
     }
 }
 
-#[test]
-fn locks_are_saved(rt: HostRuntime) {
-    check_saved::<LockHost>(&rt, rt.alloc());
-}
-
-#[test]
-fn other_bytes_are_no_locks(rt: HostRuntime) {
-    check_refused::<LockHost>(&rt, rt.alloc(), &REFUSED);
-}
-
 /// An acquire, by x, of the lock of a number, or a release by its token.
 fn op_of(rt: &impl Abort, alloc: Global, letter: u8, number: u16, rest: &[u8]) -> Vec<u8> {
     let mut op = Vec::new(alloc);
@@ -263,6 +243,11 @@ fn check_full<H: Host>(rt: &impl Abort, alloc: Global) {
 }
 
 #[test]
-fn only_so_many_locks_are_held(rt: HostRuntime) {
+fn locks(rt: HostRuntime) {
+    let mut host = LockHost::fresh(rt.alloc()).expect(&rt, "memory");
+    check_ops(&rt, &mut host, &OPS);
+    check_lengths::<LockHost>(&rt, rt.alloc());
+    check_saved::<LockHost>(&rt, rt.alloc());
+    check_refused::<LockHost>(&rt, rt.alloc(), &REFUSED);
     check_full::<LockHost>(&rt, rt.alloc());
 }

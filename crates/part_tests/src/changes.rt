@@ -1,3 +1,4 @@
+//! Changes of views: how their logs are merged, and what a view starts with.
 use crate::checking::{check, check_row};
 use crate::logs::{Ids, full, is_expected, is_full, log_of};
 use log_merge::merge_of_view;
@@ -9,7 +10,8 @@ use view_change::{Changes, Start, Step};
 /// The sessions of the second epoch are above this one.
 const EPOCH: u64 = 4_294_967_296;
 
-/// A change in numbers: its sender, leader and session of its last normal view, its next number, and its log.
+/// A change in numbers: its sender, leader and session of its last normal view, its next number,
+/// and its log.
 type Row = (u8, u32, u64, u64, Ids);
 
 fn change(rt: &impl Abort, alloc: Global, row: &Row) -> Change {
@@ -96,14 +98,16 @@ fn merges(rt: HostRuntime) {
     }
 }
 
-/// The leader, the session and the count of the others that the start waits for; then the changes, of which only the last one starts
-/// the view; then the next number that it starts with, and the log.
+/// The leader, the session and the count of the others that the start waits for; then the changes,
+/// of which only the last one starts the view; then the next number that it starts with, and the
+/// log.
 type Case = (u32, u64, u8, &'static [Row], u64, Ids);
 
-/// Of five replicas a change of an older view counts, and its log does not; a second one of a sender does not count; what stands below
-/// the greatest sync point is not merged. Of three: in one session next is the greater one; in a new session numbers begin at 1;
-/// sessions rank before leader numbers; in a session the greater leader number ranks higher; of equal sync points the lower sender's
-/// checkpoint is taken. Then a leader alone.
+/// Of five replicas a change of an older view counts, and its log does not; a second one of a
+/// sender does not count; what stands below the greatest sync point is not merged. Of three: in one
+/// session next is the greater one; in a new session numbers begin at 1; sessions rank before
+/// leader numbers; in a session the greater leader number ranks higher; of equal sync points the
+/// lower sender's checkpoint is taken. Then a leader alone.
 static STARTS: [Case; 9] = [
     (
         2,
@@ -186,7 +190,8 @@ fn started_at(rt: &impl Abort, alloc: Global, changes: &mut Changes, row: &Row) 
     }
 }
 
-/// What a view is started with by the last of these changes, of which the first is the leader's own; none before it starts the view.
+/// What a view is started with by the last of these changes, of which the first is the leader's
+/// own; none before it starts the view.
 fn started(rt: &impl Abort, alloc: Global, view: View, f: u8, row: &[Row]) -> Option<Start> {
     let [own, waiting @ .., last] = row else {
         return None;
@@ -201,19 +206,16 @@ fn started(rt: &impl Abort, alloc: Global, view: View, f: u8, row: &[Row]) -> Op
     started_at(rt, alloc, &mut changes, last)
 }
 
-/// What a leader alone starts its view with.
-fn started_alone(rt: &impl Abort, alloc: Global, view: View, own: &Row) -> Option<Start> {
-    let own = change(rt, alloc, own);
-    let mut changes = Changes::enter(alloc, view, 0, own).expect(rt, "memory");
-    Some(changes.start_now().expect(rt, "memory"))
-}
-
 /// What a view is started with by the changes of a case.
 fn started_by(rt: &impl Abort, alloc: Global, case: &Case) -> Option<Start> {
     let (leader, session, f, row, _next, _log) = *case;
     let view = View { leader, session };
     match row {
-        [own] => started_alone(rt, alloc, view, own),
+        [own] => {
+            let own = change(rt, alloc, own);
+            let mut changes = Changes::enter(alloc, view, 0, own).expect(rt, "memory");
+            Some(changes.start_now().expect(rt, "memory"))
+        }
         _ => started(rt, alloc, view, f, row),
     }
 }
@@ -234,36 +236,27 @@ fn starts(rt: HostRuntime) {
     }
 }
 
-/// The change of this sender, with a full log.
-fn full_change(rt: &impl Abort, alloc: Global, sender: u8) -> Change {
-    Change {
-        sender,
-        last_normal: VIEW,
-        next: 1,
-        log: full(rt, alloc),
-    }
-}
-
 /// Full logs of two changes, and a shorter one of a third.
 fn full_changes(rt: &impl Abort, alloc: Global) -> Vec<Change> {
     let mut changes = changes_of(rt, alloc, &[(0, &[1])]);
     for sender in 1..3u8 {
-        let change = full_change(rt, alloc, sender);
+        let change = Change {
+            sender,
+            last_normal: VIEW,
+            next: 1,
+            log: full(rt, alloc),
+        };
         changes.push(change).expect(rt, "memory");
     }
     changes
 }
 
-fn is_full_merge(rt: &impl Abort, alloc: Global, changes: &[Change]) -> bool {
-    is_full(merged(rt, alloc, changes).entries())
-}
-
 #[test]
 fn full_logs_are_merged(rt: HostRuntime) {
     let mut changes = full_changes(&rt, rt.alloc());
-    let of_one_view = is_full_merge(&rt, rt.alloc(), &changes);
-    check(&rt, of_one_view, "of one view");
+    let log = merged(&rt, rt.alloc(), &changes);
+    check(&rt, is_full(log.entries()), "of one view");
     push_other(&rt, rt.alloc(), &mut changes);
-    let beside_another = is_full_merge(&rt, rt.alloc(), &changes);
-    check(&rt, beside_another, "beside another one");
+    let log = merged(&rt, rt.alloc(), &changes);
+    check(&rt, is_full(log.entries()), "beside another one");
 }

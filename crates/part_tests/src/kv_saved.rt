@@ -1,3 +1,4 @@
+//! Saved states of the key-value service, and full maps.
 use crate::checking::{check, check_row};
 use crate::kv::{answers, put_field};
 use kv_host::{KvHost, MAX_KEYS};
@@ -101,7 +102,8 @@ fn check_saved_as<H: Host>(rt: &impl Abort, host: &H, bytes: &[u8]) {
     check(rt, is_saved_as(rt, host, bytes), "saved");
 }
 
-/// A key is put, deleted, compared and put. Undone one by one, each state comes back that was passed.
+/// A key is put, deleted, compared and put. Undone one by one, each state comes back that was
+/// passed.
 fn check_undone<H: Host>(rt: &impl Abort, alloc: Global) {
     let mut host = H::fresh(alloc).expect(rt, "memory");
     let (_answer, put) = host.apply(b"P\0\x01k\0\x01v").expect(rt, "memory");
@@ -119,12 +121,6 @@ fn check_undone<H: Host>(rt: &impl Abort, alloc: Global) {
     check_saved_as(rt, &host, b"\0\0\0\0");
 }
 
-#[test]
-fn states_are_saved(rt: HostRuntime) {
-    check_saved::<KvHost>(&rt, rt.alloc());
-    check_undone::<KvHost>(&rt, rt.alloc());
-}
-
 pub fn is_refused<H: Host>(rt: &impl Abort, alloc: Global, bytes: &[u8]) -> bool {
     H::load(alloc, bytes).expect(rt, "memory").is_none()
 }
@@ -136,11 +132,6 @@ pub fn check_refused<H: Host>(rt: &impl Abort, alloc: Global, refused: &[&[u8]])
     }
 }
 
-#[test]
-fn other_bytes_are_refused(rt: HostRuntime) {
-    check_refused::<KvHost>(&rt, rt.alloc(), &REFUSED);
-}
-
 fn check_lengths<H: Host>(rt: &impl Abort, alloc: Global) {
     for (row, (key, value, holds)) in LENGTHS.iter().enumerate() {
         let mut bytes = Vec::from_slice(alloc, b"\0\0\0\x01").expect(rt, "memory");
@@ -148,11 +139,6 @@ fn check_lengths<H: Host>(rt: &impl Abort, alloc: Global) {
         put_field(rt, b'x', *value, &mut bytes);
         check_row(rt, loads::<H>(rt, alloc, &bytes) == *holds, row);
     }
-}
-
-#[test]
-fn fields_have_their_lengths(rt: HostRuntime) {
-    check_lengths::<KvHost>(&rt, rt.alloc());
 }
 
 pub fn put(rt: &impl Abort, bytes: &[u8], to: &mut Vec<u8>) {
@@ -217,20 +203,6 @@ fn does<H: Host>(rt: &impl Abort, alloc: Global, host: &mut H, row: &Row) -> boo
     answer.as_slice() == expected
 }
 
-fn check_full<H: Host>(rt: &impl Abort, alloc: Global) {
-    let mut host = full::<H>(rt, alloc);
-    let saved = host.save().expect(rt, "memory");
-    for (number, row) in FULL.iter().enumerate() {
-        check_row(rt, does(rt, alloc, &mut host, row), number);
-    }
-    check_saved_as(rt, &host, saved.as_slice());
-}
-
-#[test]
-fn a_full_map_takes_no_key(rt: HostRuntime) {
-    check_full::<KvHost>(&rt, rt.alloc());
-}
-
 /// The saved state of a full host with one key more, and a count for it.
 fn one_more(rt: &impl Abort, alloc: Global, saved: &[u8]) -> Vec<u8> {
     let mut bytes = Vec::new(alloc);
@@ -259,13 +231,21 @@ fn check_loaded<H: Host>(rt: &impl Abort, alloc: Global, saved: &[u8]) {
     check(rt, is_refused::<H>(rt, alloc, &more), "one more");
 }
 
-fn check_full_loads<H: Host>(rt: &impl Abort, alloc: Global) {
-    let host = full::<H>(rt, alloc);
+fn check_full<H: Host>(rt: &impl Abort, alloc: Global) {
+    let mut host = full::<H>(rt, alloc);
     let saved = host.save().expect(rt, "memory");
+    for (number, row) in FULL.iter().enumerate() {
+        check_row(rt, does(rt, alloc, &mut host, row), number);
+    }
+    check_saved_as(rt, &host, saved.as_slice());
     check_loaded::<H>(rt, alloc, saved.as_slice());
 }
 
 #[test]
-fn a_full_map_is_loaded(rt: HostRuntime) {
-    check_full_loads::<KvHost>(&rt, rt.alloc());
+fn states_are_saved(rt: HostRuntime) {
+    check_saved::<KvHost>(&rt, rt.alloc());
+    check_undone::<KvHost>(&rt, rt.alloc());
+    check_refused::<KvHost>(&rt, rt.alloc(), &REFUSED);
+    check_lengths::<KvHost>(&rt, rt.alloc());
+    check_full::<KvHost>(&rt, rt.alloc());
 }
