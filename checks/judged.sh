@@ -51,4 +51,44 @@ judged 'a replica behind an observer' "$folder/watched" 'refuted line 3 clause 2
 watched 'observer o4 up 0' end
 judged 'an observer that no configuration has' "$folder/watched" 'refuted line 2 clause 2'
 
+# first lines, and lines of observers in and out of their place: whether the first line is the usual one (+), lines, each ended by a semicolon,
+# and the answer
+while IFS='|' read -r first lines answer; do
+    [ "$first" = - ] || lines="transcript 3 replicas 3 sequencers 2 clients 1 controllers 1 observers 4;$lines"
+    printf %s "$lines" | tr ';' '\n' > "$folder/lines"
+    judged "$lines" "$folder/lines" "$answer"
+done << 'END'
++|end;|legal 0 0 0
++|observer o0 up 0;end;|legal 0 0 0
++|busy c0;replica r0 up normal 0 1 1 1;entry r0 1 noop;observer o0 up 1;observer o3 crashed 4294967295;history 1 c0 1 -;end;|refuted line 7 clause 4
++|observer o3 up 7;observer o0 up 7;observer o0 crashed 0;end;|legal 0 0 0
++|answer c0 1 o0 0 -;read c0 7 o3 6b;observer o0 up 0;end;|legal 0 0 0
++|observer o0 up 0;replica r0 up normal 0 1 0 0;end;|refuted line 3 clause 2
++|observer o0 up 0;entry r0 1 noop;end;|refuted line 3 clause 2
++|observer o0 up 0;busy c0;end;|refuted line 3 clause 2
++|observer o0 up 0;read c0 1 o0 6b;end;|refuted line 3 clause 2
++|history 1 c0 1 -;observer o0 up 0;end;|refuted line 3 clause 2
++|end;observer o0 up 0;|refuted line 3 clause 2
++|observer o0 up 0;|refuted line 3 clause 2
++|observer o4 up 0;end;|refuted line 2 clause 2
++|observer r0 up 0;end;|refuted line 2 clause 2
++|observer o0 down 0;end;|refuted line 2 clause 2
++|observer o0 up 4294967296;end;|refuted line 2 clause 2
++|observer o0 up 00;end;|refuted line 2 clause 2
++|observer o0 up;end;|refuted line 2 clause 2
++|observer o0 up 0 ;end;|refuted line 2 clause 2
++|observer o0 up 0 0;end;|refuted line 2 clause 2
++|read c0 1 o0 -;end;|refuted line 2 clause 2
+-|transcript 3 replicas 1 sequencers 1 clients 1 controllers 1 observers 0;end;|legal 0 0 0
+-|transcript 2 replicas 1 sequencers 1 clients 1 controllers 1;observer o0 up 0;end;|legal 0 0 0
+-|transcript 3 replicas 1 sequencers 1 clients 1 controllers 1;end;|refuted line 1 clause 2
+-|transcript 3 replicas 1 sequencers 1 clients 1;end;|refuted line 1 clause 2
+-|transcript 2 replicas 1 sequencers 1 clients 1 controllers 1 observers 0;end;|refuted line 1 clause 2
+-|transcript 4 replicas 1 sequencers 1 clients 1 controllers 1 observers 0;end;|refuted line 1 clause 2
+-|transcript 3 replicas 1 sequencers 1 clients 1 controllers 1 observers 5;end;|refuted line 1 clause 2
+-|transcript 3 replicas 1 sequencers 1 clients 1 controllers 1 observers 00;end;|refuted line 1 clause 2
+-|transcript 3 replicas 1 sequencers 1 clients 1 controllers 1 observer 0;end;|refuted line 1 clause 2
+-|transcript 3 replicas 1 sequencers 1 clients 1 controllers 1 observers 0 0;end;|refuted line 1 clause 2
+END
+
 concludes

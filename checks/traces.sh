@@ -172,6 +172,97 @@ same 'audit, a full disk' $? 4 ''
 (ulimit -v 10000; exec "$program" audit < "$folder/long" > "$folder/out" 2> "$folder/err")
 same 'audit, 900,000 steps in 10 MB' $? 6 ''
 
+# ---- audit: which lines are steps, and which are none (fault 1). An answer, a line, and a piece that comes so many times at its end
+many='nopaxos 3 replicas 1 sequencers 1 clients 1 controllers 4 observers 4'
+while IFS='|' read -r answer text piece count; do
+    for ((; count > 0; count--)); do text+=$piece; done
+    case $answer in
+    [0-9]*) audited "'${text:0:60}'" 8 "audit line ${answer%:*} fault ${answer#*:}" "$many" "$text" ;;
+    *) audited "'${text:0:60}'" 0 "$many
+$answer
+audited 1" "$many" "$text" ;;
+    esac
+done << 'END'
+3:4|in c0 submit 5000016b000176|0|0
+2:4|out c0 submit 1 5000016B000176|0|0
+2:4|out c0 send s* 4e4f|0|0
+2:4|out s0 send r* -|0|0
+2:2|out r6 send ctl3 00|0|0
+2:4|out r0 send r300 00|0|0
+2:1|in s0 packet |0|3001
+2:1|in s0 packet |0|3002
+junk s0 -|in s0 packet -|0|0
+2:4|out s0 send r* |0|3000
+2:1|out s0 send r* |0|3002
+3:4|in c0 submit |0|1280
+2:1|in c0 submit |0|1282
+2:1|in c0 submit 0|g|1
+2:1|in c0 submit|0|0
+2:1|in c0 submit 00 |0|1
+2:1|in c0 submit  0|0|1
+2:4|out c0 accept 18446744073709551615 |0|514
+2:1|out c0 accept 1 |0|516
+2:1|out c0 accept 18446744073709551616 -|0|0
+2:1|out c0 accept 0 -|0|0
+2:1|out c0 accept 01 -|0|0
+2:1|out c0 submit 0 -|0|0
+tick r0 suspect|in r0 tick suspect|0|0
+tick r0 watch|in r0 tick watch|0|0
+tick r0 resend|in r0 tick resend|0|0
+tick r0 sync|in r0 tick sync|0|0
+tick c0 retry|in c0 tick retry|0|0
+2:2|in s0 tick probe|0|0
+2:1|in c0 tick next|0|0
+2:1|in c0 tick install|0|0
+3:4|in c0 read o1 6b|0|0
+2:2|in c0 read o77 |0|128
+2:1|in c0 read o1 |0|130
+2:1|in c0 read o1 -|0|0
+2:1|in c0 read r1 6b|0|0
+2:1|in c0 read o01 6b|0|0
+2:4|out c0 read 7 o3 6b|0|0
+2:4|out c0 answer 7 o3 4294967295 -|0|0
+2:1|out c0 answer 7 o3 4294967296 -|0|0
+2:1|out c0 answer 7 o3 0 |0|516
+2:1|out c0 answer 7 o3 0|0|0
+2:2|in ctl install s1|0|0
+2:2|in ctl1 install s300|0|0
+2:2|in ctl2 install s9999999999999999999|9|1
+2:1|in ctl install r1|0|0
+2:1|in ctl0 tick probe|0|0
+2:1|in ctl4 tick probe|0|0
+2:2|in c18446744073709551615 tick retry|0|0
+2:2|in c18446744073709551616 tick retry|0|0
+2:1|in r01 tick sync|0|0
+2:1|in r tick sync|0|0
+2:1|in x0 tick sync|0|0
+2:1|in r* tick sync|0|0
+2:1|out r0 send x0 00|0|0
+2:1|out r0 send r00 00|0|0
+2:1|out r0 busy|0|0
+2:1|in r0 crash|0|0
+2:1|In r0 tick sync|0|0
+2:1|nopaxos 1 replicas 1 sequencers 1 clients |1|1
+2:1|in s0 packet -~|0|0
+2:1||0|0
+2:1|in c|9|4093
+END
+zeros=$(head -c 3000 /dev/zero | tr '\0' 0)
+audited 'the longest packet' 0 "$many
+junk s0 $zeros
+audited 1" "$many" "in s0 packet $zeros"
+second='nopaxos 2 replicas 1 sequencers 2 clients 1 controllers 3'
+audited 'two controllers' 0 "$second
+install s1 ctl2
+install s0
+audited 2" "$second" 'in ctl2 install s1' 'out ctl2 send s1 4e4f030402010000000200000001' \
+    'in ctl install s0' 'out ctl send s0 4e4f030400000000000000000002'
+third='nopaxos 3 replicas 1 sequencers 2 clients 3 controllers 3 observers 4'
+audited 'a client that asks an observer' 0 "$third
+read c2 o3 6bff
+audited 1" "$third" 'in c2 read o3 6bff' 'out c2 read 1 o3 6bff' \
+    'out c2 send o3 4e4f030900000002000000000000000100026bff'
+
 # ---- nodes with a trace
 finds_ports
 # traces NAME STATUS WANTED WORDS..: what a node writes in its first turn.

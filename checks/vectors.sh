@@ -1,6 +1,6 @@
 #!/bin/bash
 # Tries the test vectors of examples/vectors.txt by the programs, but for those of peer messages, fragments, saved states, lists and greetings,
-# which no command takes (`codec_tests` has them). It takes a second or two, leaves nothing behind, and ends with status 1 at any difference.
+# which no command takes (`codec_tests` and `part_tests` have them). It takes a second or two, leaves nothing behind, and ends with status 1 at any difference.
 #
 #   checks/vectors.sh        the programs are crates/*/out/, or the files that NOPAXOS and KV_LINEARIZE name
 . "$(dirname "$0")/common.bash" || exit 2
