@@ -1,6 +1,6 @@
 //! Groups of three replicas of the key-value service that are driven by hand. What is expected was
 //! worked out from the rules of the protocol and from its formats.
-use crate::hostile::FORGED;
+use crate::forged::FORGED;
 use crate::rows::{bytes_of, check_text, put_entries, put_line};
 use crate::scripts::{play, timers};
 use crate::trimmed::TRIMMED;
@@ -334,14 +334,6 @@ fn stamped(rt: &impl Abort, alloc: Global, number: u64, client: u32, id: u64) ->
     bytes_of(rt, alloc, &row.expect(rt, "memory"))
 }
 
-/// Whether this is all that was sent: one datagram to the client.
-fn is_reply(out: &Outbox, client: u32) -> bool {
-    match out.as_slice() {
-        [Out::Send(Dest::One(Actor::Client(to)), _)] => *to == client,
-        _ => false,
-    }
-}
-
 /// After a request of each of the clients 0 to 255, as many as a log serves: a client, an id, and
 /// whether the leader replies. It does for an id that comes late, and not for one that is eight
 /// behind.
@@ -357,6 +349,7 @@ const LATER: [(u32, u64, bool); 9] = [
     (7, u64::MAX, true),
 ];
 
+/// Whether the replica replies to a get, with one datagram to its client.
 fn replies<H: Host>(
     rt: &impl Abort,
     alloc: Global,
@@ -369,9 +362,14 @@ fn replies<H: Host>(
     let mut out = Outbox::new(alloc);
     core.step(Input::Packet(&bytes), &mut out)
         .expect(rt, "memory");
-    let is_silent = out.as_slice().is_empty();
-    assert!(rt; is_silent || is_reply(&out, client));
-    !is_silent
+    match out.as_slice() {
+        [] => false,
+        [Out::Send(Dest::One(Actor::Client(to)), _)] => {
+            assert!(rt; *to == client);
+            true
+        }
+        _ => panic!(rt; "something else is sent"),
+    }
 }
 
 fn check_served<H: Host>(rt: &impl Abort, alloc: Global) {

@@ -10,6 +10,8 @@ mod cores;
 #[cfg(test)]
 mod failing;
 #[cfg(test)]
+mod forged;
+#[cfg(test)]
 mod groups;
 #[cfg(test)]
 mod hostile;

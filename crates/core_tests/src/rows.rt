@@ -1,22 +1,19 @@
+//! What scripts share: bytes that are written as rows, and values as texts.
 use nop_types::Entry;
 use std::alloc::Global;
 use std::fmt::Debug;
 use std::process::Abort;
 
-fn put_bytes(rt: &impl Abort, alloc: Global, word: &str, bytes: &mut Vec<u8>) {
-    let (digits, count) = word.split_once('*').unwrap_or((word, "1"));
-    let piece = hex::decode(alloc, digits).expect(rt, "hexadecimal");
-    for _ in 0..count.parse::<u32>().expect(rt, "a number") {
-        bytes.extend_from_slice(&piece).expect(rt, "memory");
-    }
-}
-
-/// The bytes of words of two digits for each byte, with a space between two words, where `ff*640`
-/// has its bytes 640 times.
+/// The bytes of words of two digits for each byte, with a space between two words, where `ff*640` has
+/// its bytes 640 times.
 pub fn bytes_of(rt: &impl Abort, alloc: Global, row: &str) -> Vec<u8> {
     let mut bytes = Vec::new(alloc);
     for word in row.split(' ') {
-        put_bytes(rt, alloc, word, &mut bytes);
+        let (digits, count) = word.split_once('*').unwrap_or((word, "1"));
+        let piece = hex::decode(alloc, digits).expect(rt, "hexadecimal");
+        for _ in 0..count.parse::<u32>().expect(rt, "a number") {
+            bytes.extend_from_slice(&piece).expect(rt, "memory");
+        }
     }
     bytes
 }

@@ -1,3 +1,4 @@
+//! Scripts: turns of cores, with what each gives.
 use crate::rows::{bytes_of, check_text, put_entries, put_line};
 use nop_types::{Core, Dest, Input, Log, MAX_OP_BYTES, Op, Out, Outbox, Tick};
 use std::alloc::Global;
@@ -20,27 +21,16 @@ fn tick_of(rt: &impl Abort, name: &str) -> Tick {
     }
 }
 
-/// The bytes of a datagram.
-fn datagram<'a>(rt: &impl Abort, out: &'a Out) -> &'a [u8] {
-    match out {
-        Out::Send(_, bytes) => bytes.as_slice(),
-        _ => panic!(rt; "no datagram"),
-    }
-}
-
-/// The output with this number.
-fn output<'a>(rt: &impl Abort, sent: &'a Outbox, number: &str) -> &'a Out {
-    let i = number.parse::<usize>().expect(rt, "a number");
-    sent.as_slice().get(i).expect(rt, "an output")
-}
-
 /// The bytes of an input: none of a tick, a datagram that was sent, or in hexadecimal.
 fn bytes_in(rt: &impl Abort, alloc: Global, kind: &str, rest: &str, sent: &Outbox) -> Vec<u8> {
     match kind {
         "tick" => Vec::new(alloc),
         "sent" => {
-            let bytes = datagram(rt, output(rt, sent, rest));
-            bytes.to_vec(alloc).expect(rt, "memory")
+            let place = rest.parse::<usize>().expect(rt, "a number");
+            match sent.as_slice().get(place) {
+                Some(Out::Send(_, bytes)) => bytes.as_slice().to_vec(alloc).expect(rt, "memory"),
+                _ => panic!(rt; "no datagram"),
+            }
         }
         _ => bytes_of(rt, alloc, rest),
     }
