@@ -111,11 +111,10 @@ fn is_refused(rt: &impl Abort, alloc: Global, len: u32) -> bool {
 
 /// How many bytes a message has, how many fragments, and how many bytes the datagram of the last
 /// one.
-static LENGTHS: [(u32, usize, usize); 5] = [
+static LENGTHS: [(u32, usize, usize); 4] = [
     (1, 1, 18),
     (1400, 1, 1417),
     (1401, 2, 18),
-    (4_633_074, 3310, 491),
     (5_734_400, 4096, 1417),
 ];
 
