@@ -8,7 +8,8 @@ use schedule_text::{Event, NextError, Reader};
 use std::alloc::Global;
 use std::process::Abort;
 use transcript_text::{
-    answer_line, error_line, observer_line, read_line, replica_line, send_line, submit_line,
+    answer_line, dead_line, error_line, observer_line, read_line, replica_line, send_line,
+    submit_line,
 };
 
 const FIRST: &[u8] = b"nopaxos 1 replicas 3 sequencers 2 clients 2\n";
@@ -71,6 +72,11 @@ answer c1 2 o0 4294967295 6e6f6e65
 send 18446744073709551615 r1 r2 fragment 18
 replica r6 crashed change 4294967295 18446744073709551615 4096 7
 observer o3 crashed 4294967295
+dead ctl
+dead ctl3
+dead c15
+dead o2
+send 6 s0 ctl3 pong 10
 error line 1000001 rule 10
 error line 5 rule 8 index 7 sent 2
 ";
@@ -83,6 +89,17 @@ fn put_asked(rt: &impl Abort, alloc: Global, to: &mut Vec<u8>) {
     read_line(u32::MAX, u64::MAX, 3, &key, to).expect(rt, "memory");
     let none = Bytes::new(alloc, b"none").expect(rt, "memory");
     answer_line(1, 2, 0, u32::MAX, &none, to).expect(rt, "memory");
+}
+
+/// The lines of actors that are dead, and of a datagram between two that no example has.
+fn put_others(rt: &impl Abort, to: &mut Vec<u8>) {
+    dead_line(Actor::Controller(0), to).expect(rt, "memory");
+    dead_line(Actor::Controller(3), to).expect(rt, "memory");
+    dead_line(Actor::Client(15), to).expect(rt, "memory");
+    dead_line(Actor::Observer(2), to).expect(rt, "memory");
+    let pong = b"NO\x03\x07\x03\0\0\0\0\x01";
+    let dest = One(Actor::Controller(3));
+    send_line(6, Actor::Sequencer(0), dest, pong, to).expect(rt, "memory");
 }
 
 const FRAGMENT: &[u8] = b"NO\x03\x08\x01\0\0\0\0\0\0\0\x01\0\0\0\x01\0";
@@ -100,6 +117,7 @@ fn lines_with_the_greatest_numbers(rt: HostRuntime) {
     send_line(u64::MAX, from, dest, FRAGMENT, &mut to).expect(&rt, "memory");
     replica_line(6, true, Phase::Change, VIEW, 4096, 7, &mut to).expect(&rt, "memory");
     observer_line(3, true, u32::MAX, &mut to).expect(&rt, "memory");
+    put_others(&rt, &mut to);
     error_line(1_000_001, 10, None, &mut to).expect(&rt, "memory");
     error_line(5, 8, Some((7, 2)), &mut to).expect(&rt, "memory");
     check_text(&rt, std::str::from_utf8(&to).expect(&rt, "text"), LINES);
