@@ -4,7 +4,7 @@ use Rattle.std.specs.Prelude.{⊤}
 use Rattle.std.specs.List.{flat_map}
 use Rattle.transcript_reader.specs.AsRead as rows
 use Rattle.transcript_reader.specs.AsRead.{texts_as}
-use Rattle.transcript_reader.specs.Reading.{First, After, Place, IsAt, IsError, IsInterrupted, IsRefused, IsTranscript, RefusesNext, whole}
+use Rattle.transcript_reader.specs.Reading.{First, After, Place, IsAt, IsError, IsTranscript, RefusesNext, whole}
 use Rattle.transcript_reader.specs.Steps.{so_far}
 use Rattle.transcript_reader.specs.Transcripts.{Spells}
 use Rattle.transcript_reader.specs.declared.check_error.CheckError.{CheckError}

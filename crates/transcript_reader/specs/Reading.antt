@@ -4,7 +4,7 @@ use Rattle.std.specs.Prelude.{Result, Ok, Err, drop}
 use Rattle.std.specs.List.{flat_map}
 use Rattle.std.specs.Io.KnownBytes.{Consumes}
 use Rattle.line_reader.specs.Cutting.{Cut, with_end, lines_of}
-use Rattle.line_reader.specs.Deciding.{Follows, cut_of, is_closed}
+use Rattle.line_reader.specs.Deciding.{Follows, is_closed}
 use Rattle.line_reader.specs.Reading.{Reading, IsEnd, lines_before}
 use Rattle.line_reader.specs.declared.first_line.FirstLine.{FirstLine}
 use Rattle.nop_types.specs.Headers.{is_header}

@@ -66,8 +66,8 @@ fn finish(part: Part, lines: u32) -> Result<u32, CheckError>
     })
 }
 
-/// Reads a whole transcript into one that took nothing yet: how many lines it has, or the first line that breaks clause 1, or else
-/// clause 2.
+/// Reads a whole transcript into one that took nothing yet: how many lines it has, or the first line
+/// that breaks clause 1, or else clause 2.
 pub fn read_rows<T: RowTaker, S: Source>(
     alloc: Global,
     source: &mut S,
@@ -91,8 +91,8 @@ pub fn read_rows<T: RowTaker, S: Source>(
     }
 }
 
-/// Reads a whole transcript: what it says, and how many lines it has; or the first line that breaks clause 1, or else clause 2.
-/// Of what claims nothing nothing is kept.
+/// Reads a whole transcript: what it says, and how many lines it has; or the first line that breaks
+/// clause 1, or else clause 2. Of what claims nothing nothing is kept.
 pub fn read_transcript<S: Source>(alloc: Global, source: &mut S) -> Result<(Taken, u32), CheckError>
     ensures read { IsRead (S.left source.old) (S.left source.new) result }
     ensures count { CountsFor (S.fault_count source.old) (S.fault_count source.new)
