@@ -117,9 +117,15 @@ acquire_is [] fields are = absurd are
 acquire_is (lock ∷ []) fields (l, r, e, are, s) = absurd are
 acquire_is (lock ∷ owner ∷ []) fields (l, r, e, (o, q, g, none, t), s) =
     let name = name_in lock l e in
-    let holder = name_in owner o g in
-    (Acquire name.name holder.name, rw (name.named, holder.named) refl, (name.fits, holder.fits,
-    ap (λ (bytes : List ℕ). ACQUIRE ∷ bytes) (first_field l r _ _ fields s name.spelled (last_field o q _ r t holder.spelled none))))
+    let holder = name_in owner o g in (
+      Acquire name.name holder.name,
+      rw (name.named, holder.named) refl,
+      (
+        name.fits,
+        holder.fits,
+        ap (λ (bytes : List ℕ). ACQUIRE ∷ bytes) (first_field l r _ _ fields s name.spelled (last_field o q _ r t holder.spelled none)),
+      ),
+    )
 acquire_is (lock ∷ owner ∷ more ∷ words) fields (l, r, e, (o, q, g, none, t), s) = absurd none
 
 release_is : (words : List (List ℕ)) (fields : List ℕ) → AreFields release_shape.fields words fields
@@ -130,21 +136,32 @@ release_is (lock ∷ owner ∷ []) fields (l, r, e, (o, q, g, are, t), s) = absu
 release_is (lock ∷ owner ∷ token ∷ []) fields (l, r, e, (o, q, g, (n, z, h, none, u), t), s) =
     let name = name_in lock l e in
     let holder = name_in owner o g in
-    let number = number_in token n h in
-    (Release name.name holder.name number.number, rw (name.named, holder.named, number.named) refl,
-    (name.fits, holder.fits, number.fits,
-    ap (λ (bytes : List ℕ). RELEASE ∷ bytes)
-    (first_field l r _ _ fields s name.spelled
-    (first_field o q _ _ r t holder.spelled (last_field n z _ q u number.spelled none)))))
+    let number = number_in token n h in (
+      Release name.name holder.name number.number,
+      rw (name.named, holder.named, number.named) refl,
+      (
+        name.fits,
+        holder.fits,
+        number.fits,
+        ap (λ (bytes : List ℕ). RELEASE ∷ bytes)
+            (first_field l r _ _ fields s name.spelled
+            (first_field o q _ _ r t holder.spelled (last_field n z _ q u number.spelled none))),
+      ),
+    )
 release_is (lock ∷ owner ∷ token ∷ more ∷ words) fields (l, r, e, (o, q, g, (n, z, h, none, u), t), s) = absurd none
 
 inspect_is : (words : List (List ℕ)) (fields : List ℕ) → AreFields inspect_shape.fields words fields
     → Names (inspect_of words) (INSPECT ∷ fields)
 inspect_is [] fields are = absurd are
 inspect_is (lock ∷ []) fields (l, r, e, none, s) =
-    let name = name_in lock l e in
-    (Inspect name.name, rw (name.named) refl, (name.fits,
-    ap (λ (bytes : List ℕ). INSPECT ∷ bytes) (last_field l r _ fields s name.spelled none)))
+    let name = name_in lock l e in (
+      Inspect name.name,
+      rw (name.named) refl,
+      (
+        name.fits,
+        ap (λ (bytes : List ℕ). INSPECT ∷ bytes) (last_field l r _ fields s name.spelled none),
+      ),
+    )
 inspect_is (lock ∷ more ∷ words) fields (l, r, e, none, s) = absurd none
 
 by_name : (a r i : Bool) (words : List (List ℕ)) → IfSome (cond a (Some acquire_shape) (cond r (Some release_shape) (cond i (Some inspect_shape) None)))
@@ -161,7 +178,7 @@ all_named word words None h = tt
 all_named word words (Some bytes) h =
     let is =
     subst (λ (o : Option OpShape). IfSome o (λ shape. (fields : List ℕ) → AreFields shape.fields words fields
-        → IsNamed (word ∷ words) (shape.kind ∷ fields))) h.named
+    → IsNamed (word ∷ words) (shape.kind ∷ fields))) h.named
     (by_name (is_text (codes "acquire") word) (is_text (codes "release") word) (is_text (codes "inspect") word) words) in
     subst (IsNamed (word ∷ words)) (sym h.spelled) (is h.fields h.are)
 
