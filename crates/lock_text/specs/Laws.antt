@@ -1,6 +1,6 @@
 -- Proofs: nothing here has to be believed.
 -- What words name is spelled by their bytes, what is spelled has words, and the words of answers.
-use Rattle.std.proofs.Common.{◌≡◌, ℕ, suc, ◌<◌, ◌≤◌, ◌^◌, Bool, true, false, cond, List, [], ◌∷◌, ◌++◌, length, Option, Some, None, refl, sym, ap, subst}
+use Rattle.std.proofs.Common.{◌≡◌, ℕ, ◌<◌, ◌≤◌, ◌^◌, Bool, true, false, cond, List, [], ◌∷◌, ◌++◌, length, Option, Some, None, refl, sym, ap, subst}
 use Rattle.std.proofs.Common.{◌∙◌, arith, append-nil, decimal, lit<, length-append}
 use Rattle.std.specs.Prelude.{IfSome, nat_le, nat_lt, option_map, ◌&&◌, ◌==◌, ◌*◌, ◌+◌, ◌-◌, codes}
 use Rattle.std.proofs.lemmas.Bool.{and_parts, leb-true, ltb-true}
@@ -10,8 +10,7 @@ use Rattle.line_fields.specs.Fields.{is_text, digit_on, number_on, number_of}
 use Rattle.op_text.specs.Words.{bytes_of, word_of}
 use Rattle.saved_fields.specs.Numbers.{number_bytes, number_at}
 use Rattle.saved_fields.specs.Reading.{length-number, number_at-number, text_at-text}
-use Rattle.saved_fields.specs.Texts.{text_at}
-use Rattle.op_table.specs.declared.table.FieldShape.TheVariants.{Number, Rest, Text}
+use Rattle.op_table.specs.declared.table.FieldShape.TheVariants.{Number}
 use Rattle.op_table.specs.Laws.{op_is}
 use Rattle.op_table.specs.Shapes as table
 use Rattle.op_table.specs.Shapes.{AreFields, OpShape, field_of, named_words, row_words, word_at, words_at}
@@ -23,7 +22,7 @@ use Rattle.lock_host.specs.declared.lock.Lock.{Lock}
 use Rattle.lock_host.specs.Fields.{NameFits, name_bytes}
 use Rattle.lock_host.specs.Locks.{granted, held}
 use Rattle.lock_host.specs.Spelling.{Spells}
-use Rattle.lock_text.specs.Text.{IsNamed, Names, a_name, acquire_of, acquire_shape, fits_name, inspect_of, inspect_shape, lock_answers, lock_ops}
+use Rattle.lock_text.specs.Text.{IsNamed, Names, a_name, acquire_of, acquire_shape, fits_name, inspect_of, inspect_shape, lock_ops}
 use Rattle.lock_text.specs.Text.{name_of, named, op_of, release_of, release_shape, result_words, words_in, words_of}
 
 -- ---- fields
