@@ -1,3 +1,5 @@
+//! Requests whole, cut and broken, with the kind of fault, which no reply shows. Cut at each byte they are in checks/gateway.
+
 use nop_types::Bytes;
 use resp::{Fault, Parsed, parse};
 use std::alloc::Global;
@@ -91,16 +93,4 @@ fn requests_are_read(rt: HostRuntime) {
     for (row, (bytes, expected)) in BYTES.iter().enumerate() {
         assert!(rt; is_parsed(&rt, rt.alloc(), bytes, expected), "row {row}");
     }
-}
-
-#[test]
-fn fronts_are_too_few(rt: HostRuntime) {
-    let bytes: &[u8] = b"*3\r\n$3\r\nSET\r\n$10\r\n0123456789\r\n$2\r\n\r\n\r\n";
-    for end in 0..bytes.len() {
-        assert!(rt;
-            is_parsed(&rt, rt.alloc(), &bytes[..end], b"more"),
-            "front {end}"
-        );
-    }
-    assert!(rt; is_parsed(&rt, rt.alloc(), bytes, b"38|SET|0123456789|\r\n"));
 }
