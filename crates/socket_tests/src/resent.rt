@@ -14,68 +14,6 @@ fn part(message: u8, index: u8, kind: u8, leader: u8) -> [u8; 40] {
     bytes
 }
 
-/// Whether the flow takes a part of a message of this kind, in the view of this leader number.
-fn is_admitted(
-    rt: &impl Abort,
-    flow: &mut Flow,
-    message: u8,
-    index: u8,
-    kind: u8,
-    leader: u8,
-) -> bool {
-    flow.admit(1, &part(message, index, kind, leader))
-        .expect(rt, "memory")
-}
-
-/// Gives a flow so many parts of the first message.
-fn give(rt: &impl Abort, flow: &mut Flow, count: u8) {
-    for i in 0..count {
-        check(rt, is_admitted(rt, flow, 1, i, 21, 0), "it is taken");
-    }
-}
-
-/// So many parts are in flight, and so many wait.
-fn check_parts(rt: &impl Abort, flow: &Flow, in_flight: usize, waiting: usize) {
-    check(rt, flow.flight().len() == in_flight, "parts in flight");
-    check(rt, flow.waiting().len() == waiting, "parts that wait");
-}
-
-/// So many of the parts that wait go now.
-fn check_advanced(rt: &impl Abort, flow: &mut Flow, expected: usize) {
-    let mut count: usize = 0;
-    for _ in 0..100usize {
-        if flow.advance() {
-            count = count.saturating_add(1);
-        }
-    }
-    check(rt, count == expected, "parts that go");
-}
-
-/// So many of those in flight go again in a turn at this time.
-fn check_resent(rt: &impl Abort, flow: &mut Flow, now: u64, expected: usize) {
-    flow.begin_turn(now);
-    let mut count: usize = 0;
-    for i in 0..flow.flight().len() {
-        if flow.resend(i) {
-            count = count.saturating_add(1);
-        }
-    }
-    check(rt, count == expected, "parts that go again");
-}
-
-/// Parts of the first message came to a port that takes so many.
-fn acknowledge(flow: &mut Flow, window: u8, indexes: [u16; 8], now: u64) {
-    flow.set_time(now);
-    flow.acknowledge(
-        1,
-        &Ack {
-            window,
-            message: 1,
-            indexes,
-        },
-    );
-}
-
 const ACK: Ack = Ack {
     window: 36,
     message: 258,
@@ -103,98 +41,181 @@ fn acknowledgements_are_told_apart(rt: HostRuntime) {
     check(&rt, Ack::read(b"").is_none(), "no bytes");
 }
 
-/// Six parts go until the port says how many it takes. Past those it has on its way what goes at its pace: 16 in a millisecond of
-/// the round trip, here 6 in 400 microseconds.
-#[test]
-fn parts_wait_for_acknowledgements(rt: HostRuntime) {
-    let mut flow = Flow::new(rt.alloc());
-    give(&rt, &mut flow, 50);
-    check_advanced(&rt, &mut flow, 6);
-    check_resent(&rt, &mut flow, 300, 0);
-    check_advanced(&rt, &mut flow, 0);
-    acknowledge(&mut flow, 36, [5, 4, 3, 2, 1, 0, 0, 0], 400);
-    check_parts(&rt, &flow, 0, 44);
-    check(&rt, flow.is_pressing(), "the rest may go");
-    check_advanced(&rt, &mut flow, 36);
-    check(&rt, flow.is_pressing(), "more is on the way");
-    check_resent(&rt, &mut flow, 1400, 0);
-    check_advanced(&rt, &mut flow, 6);
-    check_parts(&rt, &flow, 42, 2);
-    check(&rt, !flow.is_pressing(), "the rest waits");
+/// What happens to a flow, with what has to come of it.
+enum Turn {
+    /// It takes so many parts of the first message.
+    Takes(u8),
+    /// Whether it takes the part of a message with this index, of this kind, in the view of this leader number.
+    Admits(u8, u8, u8, u8, bool),
+    /// So many of the parts that wait go now.
+    Goes(usize),
+    /// So many of those in flight go again in a turn at this time.
+    Again(u64, usize),
+    /// Parts of the first message came to a port that takes so many, at this time.
+    Acks(u8, [u16; 8], u64),
+    /// The time is set, or a turn begins.
+    At(u64),
+    Begins(u64),
+    /// So many parts are in flight, and so many wait.
+    Holds(usize, usize),
+    /// Whether more may go at once.
+    Presses(bool),
 }
 
-/// Of what is not acknowledged in time the first part goes again, and with the others what was sent before one that was acknowledged;
-/// then after twice the time. What is acknowledged does not go again.
-#[test]
-fn lost_parts_go_again(rt: HostRuntime) {
-    let mut flow = Flow::new(rt.alloc());
-    give(&rt, &mut flow, 3);
-    check_advanced(&rt, &mut flow, 3);
-    check_resent(&rt, &mut flow, 99_999, 0);
-    check_resent(&rt, &mut flow, 100_000, 1);
-    check_resent(&rt, &mut flow, 299_999, 0);
-    acknowledge(&mut flow, 36, [0; 8], 299_999);
-    check_resent(&rt, &mut flow, 300_000, 2);
-    check_parts(&rt, &flow, 2, 0);
-    check_resent(&rt, &mut flow, 499_999, 0);
-    check_last_part(&rt, &mut flow);
+use Turn::{Acks, Admits, Again, At, Begins, Goes, Holds, Presses, Takes};
+
+/// Whether a flow takes so many parts of the first message.
+fn takes(rt: &impl Abort, flow: &mut Flow, count: u8) -> bool {
+    for i in 0..count {
+        if !flow.admit(1, &part(1, i, 21, 0)).expect(rt, "memory") {
+            return false;
+        }
+    }
+    true
 }
 
-/// Of the two parts that are left, the last one is acknowledged.
-fn check_last_part(rt: &impl Abort, flow: &mut Flow) {
-    acknowledge(flow, 36, [2; 8], 499_999);
-    check_resent(rt, flow, 500_000, 1);
-    check_resent(rt, flow, 819_999, 0);
-    check_resent(rt, flow, 820_000, 1);
-    acknowledge(flow, 36, [1; 8], 820_000);
-    check(rt, flow.is_at_rest(), "all is acknowledged");
-    check_resent(rt, flow, 10_000_000, 0);
+/// How many of the parts that wait go now.
+fn advanced(flow: &mut Flow) -> usize {
+    let mut count: usize = 0;
+    for _ in 0..100usize {
+        if flow.advance() {
+            count = count.saturating_add(1);
+        }
+    }
+    count
 }
 
-/// What is on its way to a port that acknowledges nothing for a second is given up.
-#[test]
-fn silent_ports_are_given_up(rt: HostRuntime) {
-    let mut flow = Flow::new(rt.alloc());
-    flow.set_time(5);
-    give(&rt, &mut flow, 20);
-    check_advanced(&rt, &mut flow, 6);
-    flow.begin_turn(1_000_004);
-    check_parts(&rt, &flow, 6, 14);
-    flow.begin_turn(1_000_005);
-    check(&rt, flow.is_at_rest(), "all is given up");
+/// How many of those in flight go again in a turn at this time.
+fn resent(flow: &mut Flow, now: u64) -> usize {
+    flow.begin_turn(now);
+    let mut count: usize = 0;
+    for i in 0..flow.flight().len() {
+        if flow.resend(i) {
+            count = count.saturating_add(1);
+        }
+    }
+    count
 }
 
-/// While a message is on its way, one of its kind and view is refused, also its later parts; one of another kind waits behind it; one
-/// of another view takes its place.
+/// Parts of the first message came to a port that takes so many.
+fn acknowledge(flow: &mut Flow, window: u8, indexes: [u16; 8], now: u64) {
+    flow.set_time(now);
+    let ack = Ack {
+        window,
+        message: 1,
+        indexes,
+    };
+    flow.acknowledge(1, &ack);
+}
+
+/// Whether a turn goes so.
+fn goes(rt: &impl Abort, flow: &mut Flow, turn: &Turn) -> bool {
+    match turn {
+        Takes(count) => takes(rt, flow, *count),
+        Admits(message, index, kind, leader, expected) => {
+            let part = part(*message, *index, *kind, *leader);
+            flow.admit(1, &part).expect(rt, "memory") == *expected
+        }
+        Goes(count) => advanced(flow) == *count,
+        Again(now, count) => resent(flow, *now) == *count,
+        Acks(window, indexes, now) => {
+            acknowledge(flow, *window, *indexes, *now);
+            true
+        }
+        At(now) => {
+            flow.set_time(*now);
+            true
+        }
+        Begins(now) => {
+            flow.begin_turn(*now);
+            true
+        }
+        Holds(in_flight, waiting) => {
+            flow.flight().len() == *in_flight
+                && flow.waiting().len() == *waiting
+                && flow.is_at_rest() == (*in_flight == 0 && *waiting == 0)
+        }
+        Presses(expected) => flow.is_pressing() == *expected,
+    }
+}
+
+static TURNS: [&[Turn]; 4] = [
+    // Six parts go until the port says how many it takes. Past those it has on its way what goes at its pace: 16 in a millisecond of the
+    // round trip, here 6 in 400 microseconds.
+    &[
+        Takes(50),
+        Goes(6),
+        Again(300, 0),
+        Goes(0),
+        Acks(36, [5, 4, 3, 2, 1, 0, 0, 0], 400),
+        Holds(0, 44),
+        Presses(true),
+        Goes(36),
+        Presses(true),
+        Again(1400, 0),
+        Goes(6),
+        Holds(42, 2),
+        Presses(false),
+    ],
+    // Of what is not acknowledged in time the first part goes again, and with the others what was sent before one that was acknowledged;
+    // then after twice the time. What is acknowledged does not go again.
+    &[
+        Takes(3),
+        Goes(3),
+        Again(99_999, 0),
+        Again(100_000, 1),
+        Again(299_999, 0),
+        Acks(36, [0; 8], 299_999),
+        Again(300_000, 2),
+        Holds(2, 0),
+        Again(499_999, 0),
+        // of the two that are left the last one is acknowledged
+        Acks(36, [2; 8], 499_999),
+        Again(500_000, 1),
+        Again(819_999, 0),
+        Again(820_000, 1),
+        Acks(36, [1; 8], 820_000),
+        Holds(0, 0),
+        Again(10_000_000, 0),
+    ],
+    // What is on its way to a port that acknowledges nothing for a second is given up.
+    &[
+        At(5),
+        Takes(20),
+        Goes(6),
+        Begins(1_000_004),
+        Holds(6, 14),
+        Begins(1_000_005),
+        Holds(0, 0),
+    ],
+    // While a message is on its way, one of its kind and view is refused, also its later parts; one of another kind waits behind it; one
+    // of another view takes its place.
+    &[
+        Takes(8),
+        Goes(6),
+        Admits(2, 0, 21, 0, false),
+        Admits(2, 1, 0, 9, false),
+        Admits(3, 0, 22, 0, true),
+        Holds(6, 3),
+        Admits(4, 0, 21, 1, true),
+        Holds(0, 1),
+        Admits(4, 1, 0, 0, true),
+        Goes(2),
+    ],
+];
+
+fn check_turns(rt: &impl Abort, flow: &mut Flow, turns: &[Turn]) {
+    for (number, turn) in turns.iter().enumerate() {
+        assert!(rt; goes(rt, flow, turn), "turn {number}");
+    }
+}
+
 #[test]
-fn newer_messages_take_the_place_of_older_ones(rt: HostRuntime) {
-    let mut flow = Flow::new(rt.alloc());
-    give(&rt, &mut flow, 8);
-    check_advanced(&rt, &mut flow, 6);
-    check(&rt, !is_admitted(&rt, &mut flow, 2, 0, 21, 0), "its kind");
-    check(
-        &rt,
-        !is_admitted(&rt, &mut flow, 2, 1, 0, 9),
-        "a later part",
-    );
-    check(
-        &rt,
-        is_admitted(&rt, &mut flow, 3, 0, 22, 0),
-        "another kind",
-    );
-    check_parts(&rt, &flow, 6, 3);
-    check(
-        &rt,
-        is_admitted(&rt, &mut flow, 4, 0, 21, 1),
-        "another view",
-    );
-    check_parts(&rt, &flow, 0, 1);
-    check(
-        &rt,
-        is_admitted(&rt, &mut flow, 4, 1, 0, 0),
-        "its later part",
-    );
-    check_advanced(&rt, &mut flow, 2);
+fn parts_go_in_their_turns(rt: HostRuntime) {
+    for turns in &TURNS {
+        let mut flow = Flow::new(rt.alloc());
+        check_turns(&rt, &mut flow, turns);
+    }
 }
 
 /// A part of the message with this number came from a port: what is answered.
@@ -283,17 +304,12 @@ fn request(leader: u8) -> [u8; 40] {
     bytes
 }
 
-/// A request for a view change is a fragment, whole.
+/// A request for a view change is a fragment, whole. The last one is repeated each half second, to the ports that it went to, six at most.
 #[test]
-fn requests_are_told_apart(rt: HostRuntime) {
+fn requests_are_repeated(rt: HostRuntime) {
     check(&rt, is_request(&request(3)), "a request");
     check(&rt, !is_request(&part(1, 0, 20, 3)), "no fragment");
     check(&rt, !is_request(b""), "no bytes");
-}
-
-/// The last request for a view change is repeated each half second, to the ports that it went to, six at most.
-#[test]
-fn requests_are_repeated(rt: HostRuntime) {
     let mut repeats = Repeats::new(rt.alloc());
     check(&rt, !repeats.is_due(1_000_000), "no request");
     for port in [1, 2, 1, 3, 4, 5, 6, 7u16] {

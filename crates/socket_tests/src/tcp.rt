@@ -32,13 +32,12 @@ fn event(users: &mut TcpUsers) -> Option<UserEvent> {
     None
 }
 
-/// A user comes next, and has this number.
-fn check_opened(rt: &impl Abort, users: &mut TcpUsers, number: u64) {
-    let is_next = match event(users) {
+/// Whether a user comes next, and has this number.
+fn is_opened(users: &mut TcpUsers, number: u64) -> bool {
+    match event(users) {
         Some(UserEvent::Opened { user }) => user == number,
         _ => false,
-    };
-    check(rt, is_next, "the next user");
+    }
 }
 
 /// Who sent something next, and how many bytes.
@@ -47,19 +46,6 @@ fn sent(rt: &impl Abort, users: &mut TcpUsers) -> (u64, usize) {
         Some(UserEvent::Sent { user, bytes }) => (user, bytes.as_slice().len()),
         _ => panic!(rt; "nothing was sent"),
     }
-}
-
-/// The user with this number leaves next.
-fn check_left(rt: &impl Abort, users: &mut TcpUsers, number: u64) {
-    let is_next = match event(users) {
-        Some(UserEvent::Left { user }) => user == number,
-        _ => false,
-    };
-    check(rt, is_next, "who leaves");
-}
-
-fn reply(rt: &impl Abort, users: &mut TcpUsers, user: u64, bytes: &[u8]) {
-    check(rt, users.reply(user, bytes).is_ok(), "a reply");
 }
 
 /// Two replies have come, and behind them the end.
@@ -76,21 +62,25 @@ fn check_replies(rt: &impl Abort, stream: &mut impl Read) {
 /// The first user asks, and is answered in two replies, before it is left.
 fn check_answered<R: Net + Abort>(rt: &R, users: &mut TcpUsers) {
     let mut one = connect(rt, users);
-    check_opened(rt, users, 0);
+    check(rt, is_opened(users, 0), "the first user");
     one.write_all(b"ask").expect(rt, "a send");
     check(rt, sent(rt, users) == (0, 3), "three bytes");
-    reply(rt, users, 0, b"ans");
-    reply(rt, users, 0, b"wer");
+    for bytes in [b"ans", b"wer"] {
+        check(rt, users.reply(0, bytes).is_ok(), "a reply");
+    }
     check(rt, users.close(0).is_ok(), "it is closed");
     check_replies(rt, &mut one);
 }
 
-/// The second user leaves.
+/// The second user leaves; what is replied to it then is nobody's.
 fn check_leaving<R: Net + Abort>(rt: &R, users: &mut TcpUsers) {
     let two = connect(rt, users);
-    check_opened(rt, users, 1);
+    check(rt, is_opened(users, 1), "the second user");
     drop(two);
-    check_left(rt, users, 1);
+    let is_left = matches!(event(users), Some(UserEvent::Left { user: 1 }));
+    check(rt, is_left, "who leaves");
+    check(rt, users.reply(1, b"late").is_ok(), "a late reply");
+    check(rt, users.faults() == 0, "no faults");
 }
 
 /// What is replied arrives, and behind it the end of a connection that is closed. A number is nobody else's, and replies to who left are
@@ -100,8 +90,6 @@ fn users_are_answered(rt: HostRuntime) {
     let mut users = listen(&rt, rt.alloc());
     check_answered(&rt, &mut users);
     check_leaving(&rt, &mut users);
-    reply(&rt, &mut users, 1, b"late");
-    check(&rt, users.faults() == 0, "no faults");
 }
 
 /// Takes all that two users sent. Whether a turn of the first is followed by one of the second, and then by another of the first.
@@ -139,8 +127,8 @@ fn are_fair<S: Write, R: Clock + Abort>(
 fn have_turns<R: Net + Clock + Abort>(rt: &R, users: &mut TcpUsers) -> bool {
     let mut one = connect(rt, users);
     let mut two = connect(rt, users);
-    check_opened(rt, users, 0);
-    check_opened(rt, users, 1);
+    check(rt, is_opened(users, 0), "the first user");
+    check(rt, is_opened(users, 1), "the second user");
     check(rt, matches!(users.next(0), Ok(None)), "no event");
     for _ in 0..20usize {
         if are_fair(rt, users, &mut one, &mut two) {
@@ -155,16 +143,4 @@ fn have_turns<R: Net + Clock + Abort>(rt: &R, users: &mut TcpUsers) -> bool {
 fn turns_are_fair(rt: HostRuntime) {
     let mut users = listen(&rt, rt.alloc());
     check(&rt, have_turns(&rt, &mut users), "turns");
-}
-
-/// Who never reads is left, once too much waits.
-#[test]
-fn nobody_keeps_all_memory(rt: HostRuntime) {
-    let mut users = listen(&rt, rt.alloc());
-    let _one = connect(&rt, &users);
-    check_opened(&rt, &mut users, 0);
-    for _ in 0..2000usize {
-        reply(&rt, &mut users, 0, &[1; 10_000]);
-    }
-    check_left(&rt, &mut users, 0);
 }
