@@ -239,13 +239,6 @@ pub fn play(rt: &impl Abort, alloc: Global, cores: usize, observers: u8, script:
     play_with(rt, alloc, config, cores, None, script);
 }
 
-/// So does one that reads at the place of the only observer.
-pub fn play_near(rt: &impl Abort, alloc: Global, cores: usize, script: &str) {
-    let config = Config::new(3, 1, 1, 1, 1).expect(rt, "a group");
-    let near = NearObserver::new(alloc, config, 0).expect(rt, "memory");
-    play_with(rt, alloc, config, cores, Some(near), script);
-}
-
 fn new_gate(
     rt: &impl Abort,
     alloc: Global,
