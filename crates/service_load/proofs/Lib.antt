@@ -1,2 +1,1 @@
 pub mod LoadLemmas
-pub mod RoomLemmas

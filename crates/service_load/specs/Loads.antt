@@ -74,14 +74,3 @@ pub record Reports (plan : Plan) (r : Report) : Type 0 where
   pub submitted : r.submitted ≡ desk.taken
   pub within : r.submitted ≤ plan.count
   pub times : length r.times.items ≡ r.answered
-
--- ---- links
-
--- so many links of those that were attached are not given back
-abbrev pub Holds : {A B : Type 0} → ℕ → List A → ℕ → List A → List B → Type 0
-Holds attached given_back attached_now given_back_now lanes =
-    attached_now + length given_back ≡ attached + length given_back_now + length lanes
-
--- there is room to give these back
-abbrev pub HasRoom : {A B : Type 0} → ℕ → List A → List B → Type 0
-HasRoom attached given_back lanes = 0 < length lanes → length given_back + length lanes ≤ attached

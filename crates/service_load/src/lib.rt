@@ -18,16 +18,16 @@
 //! Calls: `Pattern::new`; `open_load`, `Loading::take_turns`, `close_load`; `Report` with `p50` and
 //! `p99`.
 //!
-//! Files: `pattern`, `tally`, `load` (no devices); `lane`, `loading`, `report`, `errors`.
-//! Definitions: `specs/Loads`, `Ranks`.
+//! Files: `pattern`, `tally`, `load` (no devices); `resends`, `loading`, `report`, `errors`.
+//! Definitions: `specs/Loads`, `Ranks`; of links, `attached_links/specs/Attaching`.
 #![tactic(auto)]
 
 mod errors;
-mod lane;
 mod load;
 mod loading;
 mod pattern;
 mod report;
+mod resends;
 mod tally;
 
 pub use errors::LoadError;

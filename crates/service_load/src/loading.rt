@@ -1,22 +1,22 @@
 //! A load over its links.
 
-ghost use Rattle.std.specs.Prelude.{◌≡◌, ◌≤◌, ◌<◌, ◌+◌, ◌^◌, ◌++◌, ◌∷◌, [], length, map, IfOk};
-ghost use Rattle.std.specs.Prelude.{OnErr, OnOk};
+ghost use Rattle.std.specs.Prelude.{◌≡◌, ◌≤◌, ◌<◌, ◌+◌, ◌^◌, ◌++◌, length, map, IfOk, OnErr};
+ghost use Rattle.attached_links.specs.Attaching.{HasRoom, Holds};
 ghost use Rattle.outside.specs.Causes.{CountsFor};
-ghost use Rattle.outside.specs.declared.errors.DeviceError.TheVariants as devices;
-ghost use Rattle.service_load.specs.Loads.{HasRoom, Holds, IsLoad, Keeps, Plan, Reports};
+ghost use Rattle.service_load.specs.Loads.{IsLoad, Keeps, Plan, Reports};
 ghost use Rattle.service_load.specs.declared.errors.LoadError.TheVariants as errors;
 
 use crate::errors::{LoadError, link_fault, port_fault};
-use crate::lane::Lane;
 use crate::load::Load;
 use crate::pattern::Pattern;
 use crate::report::Report;
+use crate::resends::Resends;
+use attached_links::{AttachedLink, Seat, attach_all, detach_all, lost_of};
 use client_call::Service;
 use desk::Labelled;
-use nop_types::{Actor, Bytes, Input, NoMemory, Tick};
-use outside::{AttachError, Clock, Link, Ports};
-use std::alloc::{AllocFailed, Global};
+use nop_types::{Actor, Bytes, Input, NoMemory, Out, Tick};
+use outside::{Clock, Link, Ports};
+use std::alloc::Global;
 use udp_node::Address;
 
 /// After so many microseconds without an answer a core sends its open requests again.
@@ -31,111 +31,37 @@ const _: () = prove!(RETRY_MICROS == 200_000 && MOST_SUBMITS == 1024);
 pub struct Loading<L> {
     alloc: Global,
     load: Load,
-    lanes: Vec<Lane<L>>,
+    lanes: Vec<AttachedLink<L, Resends>>,
     time: u64,
 }
 
-/// Gives a link back.
-fn detach_one<P: Ports>(ports: &mut P, lane: Lane<P::L>)
-    requires { length (P.detached ports.old) < P.attached ports.old }
-    ensures detached { P.detached ports.new ≡ P.detached ports.old ++ lane.link ∷ [] }
-    ensures attached { P.attached ports.new ≡ P.attached ports.old }
-    ensures faults { P.fault_count ports.new ≡ P.fault_count ports.old }
-{
-    let Lane {
-        link,
-        at: _at,
-        lost: _lost,
-        open_: _open,
-        due: _due,
-    } = lane;
-    ports.detach(link);
-}
-
-/// Attaches the link of a client, behind the others.
-#[tactic(auto, using(crate::proofs::RoomLemmas::one_more, crate::proofs::RoomLemmas::one_back))]
-fn attach_one<P: Ports>(
-    at: Address,
-    ports: &mut P,
-    lanes: &mut Vec<Lane<P::L>>,
-) -> Result<(), AttachError>
-    requires { HasRoom (P.attached ports.old) (P.detached ports.old) lanes.old.items }
-    ensures room { HasRoom (P.attached ports.new) (P.detached ports.new) lanes.new.items }
-    ensures lanes { OnOk result (length lanes.new.items ≡ length lanes.old.items + 1) }
-    ensures holds { P.attached ports.new + length (P.detached ports.old) + length lanes.old.items
-        ≡ P.attached ports.old + length (P.detached ports.new) + length lanes.new.items }
-    ensures count { CountsFor (P.fault_count ports.old) (P.fault_count ports.new)
-        devices.Failed result }
-{
-    match ports.attach(at.port_of(at.own)) {
-        Ok(link) => {
-            let lane = Lane {
-                link,
-                at,
-                lost: 0,
-                open_: 0,
-                due: 0,
-            };
-            match lanes.push(lane) {
-                Ok(()) => Ok(()),
-                Err(failed) => {
-                    let AllocFailed { value } = failed;
-                    detach_one(ports, value);
-                    Err(AttachError::NoMemory)
-                }
-            }
-        }
-        Err(e) => Err(e),
+/// The seat of the client with a number.
+fn seat(service: &Service, number: u32) -> Seat<Resends> {
+    Seat {
+        at: Address {
+            base: service.base,
+            own: Actor::Client(number),
+            config: service.config,
+        },
+        state: Resends { open_: 0, due: 0 },
     }
 }
 
-/// Where the client with a number is.
-fn address(service: &Service, number: u32) -> Address {
-    Address {
-        base: service.base,
-        own: Actor::Client(number),
-        config: service.config,
-    }
-}
-
-/// Attaches a link for each of so many clients.
-fn attach_all<P: Ports>(
+/// The seats of so many clients.
+fn seats(
+    alloc: Global,
     service: &Service,
     first: u32,
     clients: u32,
-    ports: &mut P,
-    lanes: &mut Vec<Lane<P::L>>,
-) -> Result<(), AttachError>
-    requires numbers { first + clients ≤ 2 ^ 32 }
-    requires none { lanes.old.items ≡ [] }
-    ensures lanes { OnOk result (length lanes.new.items ≡ clients) }
-    ensures holds { Holds (P.attached ports.old) (P.detached ports.old) (P.attached ports.new)
-        (P.detached ports.new) lanes.new.items }
-    ensures room { HasRoom (P.attached ports.new) (P.detached ports.new) lanes.new.items }
-    ensures count { CountsFor (P.fault_count ports.old) (P.fault_count ports.new)
-        devices.Failed result }
+) -> Result<Vec<Seat<Resends>>, NoMemory>
+    requires { first + clients ≤ 2 ^ 32 }
+    ensures { IfOk result (λ seats. length seats.items ≡ clients) }
 {
+    let mut seats = Vec::new(alloc);
     for i in 0..clients {
-        if let Err(e) = attach_one(address(service, first + i), ports, lanes) {
-            return Err(e);
-        }
+        seats.push(seat(service, first + i))?;
     }
-    Ok(())
-}
-
-/// Gives all links back, in order.
-fn detach_all<P: Ports>(ports: &mut P, lanes: Vec<Lane<P::L>>)
-    requires { HasRoom (P.attached ports.old) (P.detached ports.old) lanes.items }
-    ensures detached { P.detached ports.new
-        ≡ P.detached ports.old ++ map (λ x. x.link) lanes.items }
-    ensures attached { P.attached ports.new ≡ P.attached ports.old }
-    ensures faults { P.fault_count ports.new ≡ P.fault_count ports.old }
-{
-    let mut rest = lanes.into_iter();
-    while let Some(lane) = rest.next() {
-        detach_one(ports, lane);
-    }
-    rest.destroy_empty();
+    Ok(seats)
 }
 
 /// Opens a load of so many ops of a pattern on a service, through so many clients, the first of
@@ -178,8 +104,9 @@ pub fn open_load<P: Ports>(
         pattern,
         count,
     )?;
+    let seats = seats(alloc, service, first, clients)?;
     let mut lanes = Vec::new(alloc);
-    match attach_all(service, first, clients, ports, &mut lanes) {
+    match attach_all(seats, ports, &mut lanes) {
         Ok(()) => Ok(Loading {
             alloc,
             load,
@@ -213,13 +140,27 @@ pub fn close_load<P: Ports>(loading: Loading<P::L>, ports: &mut P) -> Result<Rep
     load.report(lost)
 }
 
-/// How many datagrams of all lanes could not be sent.
-fn lost_of<L>(lanes: &[Lane<L>]) -> u64 {
-    let mut lost: u64 = 0;
-    for lane in lanes {
-        lost = lost.saturating_add(lane.lost);
+/// Carries out what a core gave. Its requests are sent again from `due` on, unless one is submitted
+/// or answered before.
+fn carry_out<L: Link>(
+    lane: &mut AttachedLink<L, Resends>,
+    out: &Out,
+    due: u64,
+) -> Result<(), NoMemory> {
+    match out {
+        Out::Send(dest, bytes) => lane.send(*dest, bytes.as_slice()),
+        Out::Submitted(_) => {
+            lane.state.open_ = lane.state.open_.saturating_add(1);
+            lane.state.due = due;
+            Ok(())
+        }
+        Out::Accepted { .. } => {
+            lane.state.open_ = lane.state.open_.saturating_sub(1);
+            lane.state.due = due;
+            Ok(())
+        }
+        _ => Ok(()),
     }
-    lost
 }
 
 impl<L: Link> Loading<L> {
@@ -245,7 +186,7 @@ impl<L: Link> Loading<L> {
             return Ok(());
         }
         let lane = &mut self.lanes[told.core];
-        lane.carry_out(&told.out, due)
+        carry_out(lane, &told.out, due)
     }
 
     /// Carries out what the cores gave.
@@ -311,10 +252,10 @@ impl<L: Link> Loading<L> {
         }
         let now = self.time;
         let lane = &mut self.lanes[core];
-        if lane.open_ == 0 || now < lane.due {
+        if lane.state.open_ == 0 || now < lane.state.due {
             return false;
         }
-        lane.due = now.saturating_add(RETRY_MICROS);
+        lane.state.due = now.saturating_add(RETRY_MICROS);
         true
     }
 
@@ -327,7 +268,7 @@ impl<L: Link> Loading<L> {
             return Ok(None);
         }
         let lane = &mut self.lanes[core];
-        if lane.open_ == 0 {
+        if lane.state.open_ == 0 {
             return Ok(None);
         }
         match lane.poll() {
