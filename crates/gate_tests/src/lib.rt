@@ -1,6 +1,6 @@
-//! Tests alone, by the public calls of `gate_core`, `gate` and `near_observer`: requests of users, and
-//! their replies; the loop over devices in memory, with each fault of these; and reads of an observer
-//! that hears datagrams.
+//! Tests alone, by the public calls of `gate_core`, `gate`, `near_observer` and `watching`: requests of
+//! users, and their replies; the loop over devices in memory, with each fault of these; reads of an
+//! observer that receives datagrams; and what a watch writes of messages in the bytes of the formats.
 #![tactic(auto)]
 
 #[cfg(test)]
@@ -11,3 +11,5 @@ mod near;
 mod scripts;
 #[cfg(test)]
 mod stories;
+#[cfg(test)]
+mod watched;

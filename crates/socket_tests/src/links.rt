@@ -1,5 +1,5 @@
-//! How links send and acknowledge the parts of long messages, over sockets: scenes of a link and the sockets of others, and a message
-//! through a socket that loses each tenth datagram.
+//! How links send and acknowledge the parts of long messages, over sockets: scenes of a link and the
+//! sockets of others.
 
 use crate::checking::{check, is_idle, micros};
 use outside::{Link, Ports};
@@ -9,7 +9,7 @@ use std::time::{Clock, Duration};
 use udp_ports::{UdpPorts, is_part};
 
 // The first port of these tests.
-const PORTS: u16 = 43300;
+pub const PORTS: u16 = 43300;
 
 /// The ports of the other sockets: the second one is 32 below the first, the third 16.
 const OTHERS: [u16; 3] = [PORTS + 43, PORTS + 11, PORTS + 27];
@@ -54,7 +54,7 @@ static REQUEST: [u8; 31] =
     *b"NO\x03\x08\x02\0\0\0\0\0\0\x01\x01\0\0\0\x01\x14\x14\x14\x14\x14\x14\x14\x14\x14\x14\x14\x14\x14\x14";
 
 /// A part of a message, with this index.
-fn part(index: u16) -> [u8; 1417] {
+pub fn part(index: u16) -> [u8; 1417] {
     let mut bytes = [8u8; 1417];
     let [high, low] = index.to_be_bytes();
     bytes[13] = high;
@@ -76,7 +76,7 @@ fn ack(window: u8, indexes: [u8; 8]) -> [u8; 27] {
 }
 
 /// A socket of another program, whose receives wait for at most a second.
-fn new_peer<R: Net + Abort>(rt: &R, port: u16) -> UdpSocket {
+pub fn new_peer<R: Net + Abort>(rt: &R, port: u16) -> UdpSocket {
     let peer = UdpSocket::bind(rt, (Ipv4Addr::LOCALHOST, port)).expect(rt, "a socket");
     peer.set_read_timeout(Some(Duration::from_secs(1)))
         .expect(rt, "a time-out");
@@ -105,7 +105,7 @@ fn drained(peer: &UdpSocket) -> usize {
 }
 
 /// Sends so many parts of that message to a port.
-fn send_parts<L: Link>(rt: &impl Abort, link: &mut L, port: u16, count: u16) {
+pub fn send_parts<L: Link>(rt: &impl Abort, link: &mut L, port: u16, count: u16) {
     for i in 0..count {
         link.send(port, &part(i)).expect(rt, "a send");
     }
@@ -310,7 +310,7 @@ fn parts_over_sockets(rt: HostRuntime) {
 }
 
 /// A link that is given back sends what still waits: of twenty parts six are sent at once, and the others then.
-fn check_given_back<P: Ports, R: Net + Abort>(rt: &R, ports: &mut P) {
+pub fn check_given_back<P: Ports, R: Net + Abort>(rt: &R, ports: &mut P) {
     let peer = new_peer(rt, PORTS + 6);
     let mut link = ports.attach(PORTS + 7).expect(rt, "a link");
     send_parts(rt, &mut link, PORTS + 6, 20);
@@ -323,113 +323,4 @@ fn check_given_back<P: Ports, R: Net + Abort>(rt: &R, ports: &mut P) {
         check(rt, is_next, "the next part");
     }
     check(rt, drained(&peer) == 0, "the last part");
-}
-
-/// Which of 300 parts came, how many, and how many of them before a small datagram.
-#[derive(Drop)]
-struct Came {
-    parts: [bool; 300],
-    count: usize,
-    before_small: Option<usize>,
-}
-
-impl Came {
-    /// A whole part, or the small datagram.
-    fn note(&mut self, rt: &impl Abort, bytes: &[u8]) {
-        if bytes == b"small".as_slice() {
-            self.before_small = Some(self.count);
-            return;
-        }
-        assert!(rt; bytes.len() == 1417);
-        let index = u16::from_be_bytes([bytes[13], bytes[14]]);
-        check(rt, bytes == part(index).as_slice(), "a whole part");
-        let came = self.parts.get_mut(usize::from(index));
-        let came = came.expect(rt, "one of 300");
-        if !*came {
-            *came = true;
-            self.count = self.count.saturating_add(1);
-        }
-    }
-}
-
-/// Passes on what a socket has, from each of two ports to the other. Each tenth datagram is lost.
-fn pass_on(relay: &UdpSocket, ends: [u16; 2], passed: &mut usize) {
-    let mut bytes = [0u8; 1500];
-    for _ in 0..100usize {
-        let Ok((count, from)) = relay.recv_from(&mut bytes) else {
-            return;
-        };
-        *passed = passed.saturating_add(1);
-        let to = if from.port() == ends[0] {
-            ends[1]
-        } else {
-            ends[0]
-        };
-        if *passed % 10 != 0 {
-            let _sent = relay.send_to(&bytes[..count.min(1500)], (Ipv4Addr::LOCALHOST, to));
-        }
-    }
-}
-
-/// Polls both links, and passes on what they send from a twentieth of a second on, until all parts came, within 20 seconds. How many
-/// datagrams came to the relay.
-fn join<L: Link, R: Clock + Abort>(
-    rt: &R,
-    from: &mut L,
-    to: &mut L,
-    relay: &UdpSocket,
-    came: &mut Came,
-) -> usize {
-    let _refused = relay.set_nonblocking(true);
-    let ends = [from.port(), to.port()];
-    let mut passed = 0usize;
-    let start = micros(rt);
-    for _ in 0..1_000_000usize {
-        let time = micros(rt).saturating_sub(start);
-        if came.count == 300 || time >= 20_000_000 {
-            break;
-        }
-        check(rt, is_idle(rt, from), "nothing comes");
-        if time >= 50_000 {
-            pass_on(relay, ends, &mut passed);
-        }
-        if let Some(datagram) = to.poll().expect(rt, "a poll") {
-            came.note(rt, datagram.as_slice());
-        }
-    }
-    passed
-}
-
-/// 300 parts, more than a receive buffer holds, arrive whole, though nothing is passed on at first, and each tenth datagram between the
-/// links is lost then, parts and acknowledgements alike. Another datagram passes by all but those that were sent at once.
-fn check_loss<L: Link, R: Net + Clock + Abort>(rt: &R, from: &mut L, to: &mut L) {
-    let relay = new_peer(rt, PORTS + 18);
-    send_parts(rt, from, PORTS + 18, 300);
-    from.send(PORTS + 18, b"small").expect(rt, "a send");
-    let mut came = Came {
-        parts: [false; 300],
-        count: 0,
-        before_small: None,
-    };
-    let passed = join(rt, from, to, &relay, &mut came);
-    check(rt, came.count == 300, "all parts came");
-    check(rt, came.before_small == Some(6), "it passes by");
-    check(rt, passed >= 375, "those that are lost go again");
-    check(rt, from.losses() == 0, "nothing is refused");
-}
-
-fn check_message<P: Ports, R: Net + Clock + Abort>(rt: &R, ports: &mut P) {
-    let mut from = ports.attach(PORTS + 16).expect(rt, "a link");
-    let mut to = ports.attach(PORTS + 17).expect(rt, "a link");
-    check_loss(rt, &mut from, &mut to);
-    ports.detach(from);
-    ports.detach(to);
-}
-
-/// Many parts from a link, over sockets.
-#[test]
-fn messages_over_sockets(rt: HostRuntime) {
-    let mut ports = UdpPorts::new(&rt, rt.alloc());
-    check_message(&rt, &mut ports);
-    check_given_back(&rt, &mut ports);
 }

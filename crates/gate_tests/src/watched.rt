@@ -1,3 +1,5 @@
+//! What a watch writes over devices in memory, of messages in the bytes that the formats give them.
+
 ghost use Rattle.std.specs.Prelude.{All, true};
 ghost use Rattle.outside.specs.Memory.{MayAnswer};
 
