@@ -66,7 +66,7 @@ op 5202646203616e6e0000000000000001 release db ann 1
 op 5202646203616e6effffffffffffffff release db ann 18446744073709551615
 op 49026462 inspect db
 op 490100 inspect 0x00
-for words in 'op acquire db' 'op release db ann' 'op release db ann 01' 'op release db ann 18446744073709551616' 'op inspect db ann' \
+for words in 'op take db' 'op acquire db' 'op release db ann' 'op release db ann 01' 'op release db ann 18446744073709551616' 'op inspect db ann' \
     "op inspect ${long}k" 'op inspect 0x' 'text 4900' 'text 5202646203616e6e00000000000001'; do
     # shellcheck disable=SC2086
     refuses $words
