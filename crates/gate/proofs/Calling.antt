@@ -7,6 +7,7 @@ use Rattle.outside.specs.Links.{Polls}
 use Rattle.outside.specs.Observed.{Adds, Stays}
 use Rattle.outside.specs.declared.errors.DeviceError.{DeviceError}
 use Rattle.outside.specs.declared.errors.DeviceError.TheVariants as devices
+use Rattle.attached_links.specs.declared.attached.AttachedLink.{AttachedLink}
 use Rattle.outside.specs.declared.link.Link as link_trait
 use Rattle.users.specs.Events.{Gives, Traces}
 use Rattle.users.specs.declared.event.UserCall.{UserCall}
@@ -18,7 +19,7 @@ use Rattle.gate_core.specs.declared.act.Event.TheVariants as events
 use Rattle.gate_core.specs.declared.gate_state.GateState.{GateState}
 use Rattle.gate.specs.declared.errors.GateError.{GateError}
 use Rattle.gate.specs.declared.errors.GateError.TheVariants.{LinkFault, UsersFault, NoMemory}
-use Rattle.gate.specs.declared.lines.Line.{Line}
+use Rattle.gate.specs.declared.lines.Timers.{Timers}
 use Rattle.gate.specs.Carrying.{Asks, Faultless, Makes, MakesAll, MakesFirst, Takes, TakesAll, Took, Untaken, call_of, came, datagram_of, event_of, event_with, received}
 use Rattle.gate.specs.Faults.{link_fault, users_fault}
 use Rattle.gate.specs.Sides.{LinkSeen, LinksSeen, Side, UsersSeen, line_seen, lines_seen, link_faults, seen}
@@ -38,7 +39,7 @@ set_same {A} (y ∷ ys) (suc i) x found = ap (λ (zs : List A). y ∷ zs) (set_s
 
 -- ---- the line of a core
 
-module _ {L : Type 0} (l : link_trait.Ghosts L) (n : ℕ) (ys : List (Line L)) (i : ℕ) (x z : Line L) (found : slice_get ys i ≡ Some x) where
+module _ {L : Type 0} (l : link_trait.Ghosts L) (n : ℕ) (ys : List (AttachedLink L Timers)) (i : ℕ) (x z : AttachedLink L Timers) (found : slice_get ys i ≡ Some x) where
   abbrev with_links : List LinkSeen → LinksSeen
   with_links ks = record { cores = n; links = ks }
 

@@ -5,14 +5,16 @@ use Rattle.std.proofs.lemmas.List.{length-map}
 use Rattle.outside.specs.Causes.{CountsFor}
 use Rattle.outside.specs.declared.errors.DeviceError.{DeviceError}
 use Rattle.outside.specs.declared.errors.DeviceError.TheVariants as devices
+use Rattle.attached_links.specs.Attaching.{HasRoom}
+use Rattle.attached_links.specs.declared.attached.AttachedLink.{AttachedLink}
 use Rattle.outside.specs.declared.link.Link as link_trait
 use Rattle.outside.specs.declared.link.PollAnswer.{PollAnswer}
 use Rattle.gate_core.specs.declared.gate_state.GateState.{GateState}
 use Rattle.gate.specs.declared.errors.GateError.{GateError}
 use Rattle.gate.specs.declared.errors.GateError.TheVariants.{PortFault, LinkFault, UsersFault, NoMemory}
-use Rattle.gate.specs.declared.lines.Line.{Line}
+use Rattle.gate.specs.declared.lines.Timers.{Timers}
 use Rattle.gate.specs.declared.lines.Lines.{Lines}
-use Rattle.gate.specs.Attaching.{AreNew, HasRoom, seat_count}
+use Rattle.gate.specs.Attaching.{AreNew, seat_count}
 use Rattle.gate.specs.Carrying.{Runs}
 use Rattle.gate.specs.Faults.{port_fault}
 use Rattle.gate.specs.Serving.{IsUnattached, RunsOver, Serves}
@@ -27,9 +29,9 @@ no_port_fault (Err LinkFault) a b runs is = cc
 no_port_fault (Err UsersFault) a b runs is = cc
 no_port_fault (Err NoMemory) a b runs is = cc
 
-module _ {L T : Type 0} (l : link_trait.Ghosts L) (r : Result T GateError) (g h : GateState) (users users_now : UsersSeen) (n : ℕ) (xs : List (Line L))
+module _ {L T : Type 0} (l : link_trait.Ghosts L) (r : Result T GateError) (g h : GateState) (users users_now : UsersSeen) (n : ℕ) (xs : List (AttachedLink L Timers))
     (lines : Lines L) (runs : Runs r (seen g users (record { cores = n; links = lines_seen l xs })) (seen h users_now (links_seen l lines))) where
-  abbrev ys : List (Line L)
+  abbrev ys : List (AttachedLink L Timers)
   ys = lines.lines.items
 
   abbrev from : Side
@@ -46,7 +48,7 @@ module _ {L T : Type 0} (l : link_trait.Ghosts L) (r : Result T GateError) (g h 
       let more : length given + length xs ≤ attached = room (omega (arith, some, same)) in
       omega (arith, more, same)
 
-  links_back : (zs : List (Line L)) → map (link_seen l) (map (λ (x : Line L). x.link) zs) ≡ lines_seen l zs
+  links_back : (zs : List (AttachedLink L Timers)) → map (link_seen l) (map (λ (x : AttachedLink L Timers). x.link) zs) ≡ lines_seen l zs
   links_back [] = refl
   links_back (z ∷ zs) = ap (λ (ks : List LinkSeen). line_seen l z ∷ ks) (links_back zs)
 

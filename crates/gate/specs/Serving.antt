@@ -1,5 +1,5 @@
 -- What a gateway gives, over its ports.
-use Rattle.std.specs.Prelude.{◌≡◌, ◌⊎◌, ℕ, false, nat_lt, if◌then◌else◌, List, [], ◌++◌, map, Option, Some, None, Result, Err, ⊤}
+use Rattle.std.specs.Prelude.{◌≡◌, ◌⊎◌, ℕ, false, nat_lt, if◌then◌else◌, List, ◌++◌, map, Option, Some, None, Result, Err, ⊤}
 use Rattle.nop_types.specs.Configuration.{Configuration}
 use Rattle.nop_types.specs.Machine.{Machine}
 use Rattle.nop_types.specs.declared.limits.TheConstants.{MAX_OBSERVERS}

@@ -1,12 +1,13 @@
 -- What is seen of a gateway and of its devices.
 use Rattle.std.specs.Prelude.{ℕ, List, map, Option}
+use Rattle.attached_links.specs.declared.attached.AttachedLink.{AttachedLink}
 use Rattle.outside.specs.declared.link.Link as link_trait
 use Rattle.outside.specs.declared.link.PollAnswer.{PollAnswer}
 use Rattle.users.specs.declared.event.UserAnswer.{UserAnswer}
 use Rattle.users.specs.declared.event.UserCall.{UserCall}
 use Rattle.users.specs.declared.users.Users as users_trait
 use Rattle.gate_core.specs.declared.gate_state.GateState.{GateState}
-use Rattle.gate.specs.declared.lines.Line as code_line
+use Rattle.gate.specs.declared.lines.Timers.{Timers}
 use Rattle.gate.specs.declared.lines.Lines as code_lines
 use Rattle.gate.specs.declared.site.Site as code_site
 
@@ -41,10 +42,10 @@ users_seen u users = record { to_come = u.to_come users; trace = u.trace users; 
 abbrev pub link_seen : {L : Type 0} → link_trait.Ghosts L → L → LinkSeen
 link_seen l link = record { answers = l.answers link; faults = l.fault_count link }
 
-abbrev pub line_seen : {L : Type 0} → link_trait.Ghosts L → code_line.Line L → LinkSeen
+abbrev pub line_seen : {L : Type 0} → link_trait.Ghosts L → AttachedLink L Timers → LinkSeen
 line_seen l line = link_seen l line.link
 
-abbrev pub lines_seen : {L : Type 0} → link_trait.Ghosts L → List (code_line.Line L) → List LinkSeen
+abbrev pub lines_seen : {L : Type 0} → link_trait.Ghosts L → List (AttachedLink L Timers) → List LinkSeen
 lines_seen l lines = map (line_seen l) lines
 
 abbrev pub links_seen : {L : Type 0} → link_trait.Ghosts L → code_lines.Lines L → LinksSeen

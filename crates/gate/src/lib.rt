@@ -41,11 +41,14 @@
 //!
 //! Calls: `serve`, at some `Seats`.
 //!
-//! Files: `serving`, `attaching`, `turn`, `site`, `lines`, `readers`, `retry`, `errors`.
-//! Definitions: `specs/Sides`, `Carrying`, `Attaching`, `Serving`, `Faults`.
+//! Files: `serving`, `attaching`, `turn`, `datagrams`, `user_events`, `site`, `lines`, `readers`,
+//! `retry`, `errors`.
+//! Definitions: `specs/Sides`, `Carrying`, `Attaching`, `Serving`, `Faults`; of links,
+//! `attached_links/specs/Attaching`.
 #![tactic(auto)]
 
 mod attaching;
+mod datagrams;
 mod errors;
 mod lines;
 mod readers;
@@ -53,6 +56,7 @@ mod retry;
 mod serving;
 mod site;
 mod turn;
+mod user_events;
 
 pub use attaching::Seats;
 pub use errors::GateError;

@@ -1,67 +1,46 @@
 //! The client cores' way out.
 
 ghost use Rattle.std.specs.Prelude.{◌≡◌};
-ghost use Rattle.outside.specs.Causes.{CountsFor};
-ghost use Rattle.outside.specs.Links.{Polls};
-ghost use Rattle.outside.specs.Observed.{Stays};
-ghost use Rattle.outside.specs.declared.errors.DeviceError.TheVariants as devices;
 ghost use Rattle.gate.specs.Carrying.{Untaken};
 ghost use Rattle.gate.specs.Sides.{links_seen};
 
 use crate::readers::ReadTimer;
 use crate::retry::RetryTimer;
-use nop_types::{Bytes, Dest, NoMemory};
-use outside::{Link, LinkError};
+use attached_links::AttachedLink;
+use nop_types::{Dest, NoMemory};
+use outside::Link;
 use roll_call::Roll;
-use udp_node::{Address, poll_link, send_to};
+use std::alloc::Global;
 use watching::ask;
 
-/// The way out of a client core: its link, where it is, when it sends its requests again and when
-/// its read, and how many datagrams could not be sent.
-pub(crate) struct Line<L> {
-    pub(crate) link: L,
-    pub(crate) at: Address,
-    pub(crate) timer: RetryTimer,
+/// When a core sends its requests again, and when its read.
+#[derive(Drop)]
+pub(crate) struct Timers {
+    pub(crate) requests: RetryTimer,
     pub(crate) reads: ReadTimer,
-    pub(crate) lost: u64,
 }
 
-/// Those of so many cores, in the order of their places, and behind them that of the watch, if
-/// there is one; and how many requests were submitted.
+/// The links of so many client cores, in the order of their places, and behind them that of the
+/// watch, if there is one; and how many requests were submitted.
 pub(crate) struct Lines<L> {
-    pub(crate) lines: Vec<Line<L>>,
+    pub(crate) lines: Vec<AttachedLink<L, Timers>>,
     pub(crate) cores: usize,
     pub(crate) submitted: u64,
 }
 
-/// Whether the open requests or the read of a core are to be sent again now.
-fn either_is_due(timer: &mut RetryTimer, reads: &mut ReadTimer, now: u64) -> bool {
-    let requests = timer.is_due(now);
-    let read = reads.is_due(now);
-    requests || read
-}
-
-impl<L: Link> Line<L> {
-    fn send(&mut self, dest: Dest, bytes: &[u8]) -> Result<(), NoMemory>
-        ensures answers { Stays (L.answers self.old.link) (L.answers self.new.link) }
-        ensures faults { L.fault_count self.new.link ≡ L.fault_count self.old.link }
-    {
-        send_to(&self.at, dest, bytes, &mut self.link, &mut self.lost)
+impl Timers {
+    pub(crate) fn new(alloc: Global) -> Timers {
+        Timers {
+            requests: RetryTimer::new(alloc),
+            reads: ReadTimer::new(alloc),
+        }
     }
 
-    pub(crate) fn poll(&mut self) -> Result<Option<Bytes>, LinkError>
-        ensures answer { Polls (L.answers self.old.link) (L.answers self.new.link) result }
-        ensures count { CountsFor (L.fault_count self.old.link) (L.fault_count self.new.link)
-            devices.Failed result }
-    {
-        poll_link(&mut self.link, &mut self.lost)
-    }
-
-    fn ask(&mut self, roll: &Roll, now: u64)
-        ensures answers { Stays (L.answers self.old.link) (L.answers self.new.link) }
-        ensures faults { L.fault_count self.new.link ≡ L.fault_count self.old.link }
-    {
-        ask(roll, now, &mut self.link);
+    /// Whether the open requests or the read of a core are to be sent again now.
+    fn is_due(&mut self, now: u64) -> bool {
+        let requests = self.requests.is_due(now);
+        let read = self.reads.is_due(now);
+        requests || read
     }
 }
 
@@ -86,7 +65,7 @@ impl<L: Link> Lines<L> {
             return;
         }
         let line = &mut self.lines[place];
-        line.ask(roll, now);
+        ask(roll, now, &mut line.link);
     }
 
     /// The core at a place submitted a request.
@@ -99,7 +78,7 @@ impl<L: Link> Lines<L> {
         self.submitted = self.submitted.saturating_add(1);
         let order = self.submitted;
         let line = &mut self.lines[core];
-        line.timer.submitted(id, order, now)
+        line.state.requests.submitted(id, order, now)
     }
 
     /// The core at a place accepted the result of a request. Gives the order of the request.
@@ -110,14 +89,14 @@ impl<L: Link> Lines<L> {
             return 0;
         }
         let line = &mut self.lines[core];
-        line.timer.accepted(id, now)
+        line.state.requests.accepted(id, now)
     }
 
     /// How many requests are open, of all cores.
     fn open(&self) -> usize {
         let mut open: usize = 0;
         for line in self.lines.iter() {
-            open = open.saturating_add(line.timer.open());
+            open = open.saturating_add(line.state.requests.open());
         }
         open
     }
@@ -129,7 +108,7 @@ impl<L: Link> Lines<L> {
     {
         if core < self.lines.len() {
             let line = &mut self.lines[core];
-            line.timer.passed(order, open);
+            line.state.requests.passed(order, open);
         }
     }
 
@@ -160,7 +139,7 @@ impl<L: Link> Lines<L> {
             return Ok(());
         }
         let line = &mut self.lines[core];
-        line.reads.asked(id, now)
+        line.state.reads.asked(id, now)
     }
 
     /// The core at a place was answered its read.
@@ -169,13 +148,13 @@ impl<L: Link> Lines<L> {
     {
         if core < self.lines.len() {
             let line = &mut self.lines[core];
-            line.reads.answered(id, now);
+            line.state.reads.answered(id, now);
         }
     }
 
     /// Whether the core at a place has no read under way.
     pub(crate) fn reads_nothing(&self, core: usize) -> bool {
-        core < self.lines.len() && self.lines[core].reads.is_idle()
+        core < self.lines.len() && self.lines[core].state.reads.is_idle()
     }
 
     /// Whether the core at a place waits for an answer.
@@ -184,7 +163,7 @@ impl<L: Link> Lines<L> {
             return false;
         }
         let line = &self.lines[core];
-        !line.timer.is_idle() || !line.reads.is_idle()
+        !line.state.requests.is_idle() || !line.state.reads.is_idle()
     }
 
     /// Whether another core is to ask for the read of the core at a place now, if one may.
@@ -195,7 +174,7 @@ impl<L: Link> Lines<L> {
             return false;
         }
         let line = &mut self.lines[core];
-        line.reads.is_overdue(may, now)
+        line.state.reads.is_overdue(may, now)
     }
 
     /// Whether the core at a place sends its open requests and its read again now.
@@ -206,6 +185,6 @@ impl<L: Link> Lines<L> {
             return false;
         }
         let line = &mut self.lines[core];
-        either_is_due(&mut line.timer, &mut line.reads, now)
+        line.state.is_due(now)
     }
 }

@@ -1,19 +1,20 @@
 //! The loop of a gateway.
 
 ghost use Rattle.std.specs.Prelude.{◌≡◌, ◌≤◌, ◌+◌, ◌^◌, length, IfOk};
+ghost use Rattle.attached_links.specs.Attaching.{HasRoom};
 ghost use Rattle.outside.specs.Causes.{CountsFor};
 ghost use Rattle.gate_core.specs.Gates.{opening};
-ghost use Rattle.gate.specs.Attaching.{HasRoom};
 ghost use Rattle.gate.specs.Carrying.{Runs};
 ghost use Rattle.gate.specs.Serving.{RunsOver, Serves, near_at, watch_at};
 ghost use Rattle.gate.specs.Sides.{lines_seen, seen, side, users_seen};
 ghost use Rattle.gate.specs.declared.errors.GateError.TheVariants as errors;
 
-use crate::attaching::{Seats, attach_all, detach_all};
+use crate::attaching::{Seats, all_seats};
 use crate::errors::{GateError, port_fault};
-use crate::lines::{Line, Lines};
+use crate::lines::{Lines, Timers};
 use crate::readers::Readers;
 use crate::site::Site;
+use attached_links::{AttachedLink, attach_all, detach_all};
 use client_call::Service;
 use gate_core::GateState;
 use kv_host::KvHost;
@@ -123,7 +124,7 @@ fn serve_over<P: Ports, U: Users, C: Clock>(
     state: GateState,
     seats: Seats,
     turns: u64,
-    lines: Vec<Line<P::L>>,
+    lines: Vec<AttachedLink<P::L, Timers>>,
     ports: &mut P,
     users: &mut U,
     clock: &mut C,
@@ -194,8 +195,11 @@ fn serve_from<P: Ports, U: Users, C: Clock>(
     ensures back { P.attached ports.new + length (P.detached ports.old)
         ≡ P.attached ports.old + length (P.detached ports.new) }
 {
+    let Ok(all) = all_seats(alloc, service, seats) else {
+        return Err(GateError::NoMemory);
+    };
     let mut lines = Vec::new(alloc);
-    match attach_all(alloc, service, seats, ports, &mut lines) {
+    match attach_all(all, ports, &mut lines) {
         Ok(()) => serve_over(alloc, state, seats, turns, lines, ports, users, clock),
         Err(e) => {
             detach_all(ports, lines);

@@ -1,60 +1,19 @@
 //! A turn of a gateway.
 
-ghost use Rattle.std.specs.Prelude.{◌≡◌, ◌==◌, ◌∷◌, []};
-ghost use Rattle.gate_core.specs.declared.act.Event.TheVariants as events;
-ghost use Rattle.gate_core.specs.declared.gate_state.GateState.{GateState};
-ghost use Rattle.gate.specs.Carrying.{datagram_of, event_of, event_with};
-ghost use Rattle.gate.specs.Carrying.{Asks, IsInside, Runs, Took, Untaken};
-ghost use Rattle.gate.specs.Sides.{links_seen, seen, side, users_seen, LinksSeen, Side};
+ghost use Rattle.std.specs.Prelude.{◌≡◌};
+ghost use Rattle.gate.specs.Carrying.{IsInside, Runs, Untaken};
+ghost use Rattle.gate.specs.Sides.{links_seen, side};
 
-use crate::errors::{GateError, users_fault};
+use crate::errors::GateError;
 use crate::site::Site;
 use gate_core::Event;
-use nop_types::{Bytes, NoMemory};
 use outside::Link;
-use users::{UserEvent, Users};
-
-/// How many datagrams of a link, events of users and requests are taken in a turn at most, so that
-/// none waits for all others.
-const MOST_DATAGRAMS: usize = 64;
-
-const MOST_EVENTS: usize = 64;
-
-const MOST_READS: usize = 1024;
+use users::Users;
 
 /// After so many milliseconds without an op the gateway asks for something itself.
 const IDLE_MILLIS: u64 = 500;
 
-const _: () = prove!(
-    MOST_DATAGRAMS == 64 && MOST_EVENTS == 64 && MOST_READS == 1024 && IDLE_MILLIS == 500
-);
-
-/// The next event of a user, if one comes while it is waited for.
-fn next_event<U: Users>(users: &mut U, patience: u32) -> Result<Option<UserEvent>, GateError>
-    ensures { (state : GateState) (links : LinksSeen) → Asks event_of result
-        (seen state (users_seen U.Users users.old) links)
-        (seen state (users_seen U.Users users.new) links) }
-{
-    match users.next(patience) {
-        Ok(event) => Ok(event),
-        Err(e) => Err(users_fault(e)),
-    }
-}
-
-/// The event of a datagram that came over the link at a place. The one behind the cores is the
-/// watch's.
-fn event_with(cores: usize, now: u64, place: usize, bytes: Bytes) -> Event
-    ensures { result ≡ event_with (place == cores) now place bytes }
-{
-    if place == cores {
-        Event::Watch {
-            now,
-            datagram: Some(bytes),
-        }
-    } else {
-        Event::Datagram { core: place, bytes }
-    }
-}
+const _: () = prove!(IDLE_MILLIS == 500);
 
 /// The observer that a core asks: each core has one, those of all cores are spread over all but the
 /// place that is the gateway's own.
@@ -177,188 +136,6 @@ impl<L: Link> Site<L> {
             }
         }
         Ok(())
-    }
-
-    /// The step of a datagram, if one came. Whether one did.
-    fn take_polled<U: Users>(
-        &mut self,
-        place: usize,
-        datagram: Option<Bytes>,
-        users: &mut U,
-    ) -> Result<bool, GateError>
-        ensures { (before : Side)
-            → Took (datagram_of self.old.lines.cores self.old.now place datagram) before
-            (side L.Link U.Users self.old users.old)
-            → Runs result before (side L.Link U.Users self.new users.new) }
-    {
-        match datagram {
-            None => Ok(false),
-            Some(bytes) => {
-                let event = event_with(self.lines.cores, self.now, place, bytes);
-                self.take_step(event, users)
-            }
-        }
-    }
-
-    /// A datagram that came over the link at a place, if one did, and its step. Whether there was
-    /// one.
-    fn take_datagram<U: Users>(&mut self, place: usize, users: &mut U) -> Result<bool, GateError>
-        ensures { Runs result (side L.Link U.Users self.old users.old)
-            (side L.Link U.Users self.new users.new) }
-    {
-        match self.poll(place) {
-            Ok(datagram) => self.take_polled(place, datagram, users),
-            Err(e) => Err(e),
-        }
-    }
-
-    /// Whether the link at a place is polled in this turn: its core waits for an answer, or it is
-    /// that of the watch, behind the cores; or it is the turn of this link.
-    fn is_polled(&self, place: usize) -> bool {
-        place == self.polled || place == self.lines.cores || self.lines.is_waiting(place)
-    }
-
-    /// The datagrams that came over the link at a place. Whether there was one.
-    fn take_datagrams<U: Users>(&mut self, place: usize, users: &mut U) -> Result<bool, GateError>
-        ensures { Runs result (side L.Link U.Users self.old users.old)
-            (side L.Link U.Users self.new users.new) }
-    {
-        let mut some = false;
-        for _ in 0..MOST_DATAGRAMS {
-            if !self.is_polled(place) {
-                return Ok(some);
-            }
-            match self.take_datagram(place, users) {
-                Ok(here) => {
-                    if !here {
-                        return Ok(some);
-                    }
-                    some = true;
-                }
-                Err(e) => return Err(e),
-            }
-        }
-        Ok(some)
-    }
-
-    fn take_all_datagrams<U: Users>(&mut self, users: &mut U) -> Result<bool, GateError>
-        ensures { Runs result (side L.Link U.Users self.old users.old)
-            (side L.Link U.Users self.new users.new) }
-    {
-        let mut some = false;
-        for place in 0..self.lines.lines.len() {
-            match self.take_datagrams(place, users) {
-                Ok(here) => some = some || here,
-                Err(e) => return Err(e),
-            }
-        }
-        Ok(some)
-    }
-
-    /// The next request of who sent something may be read, and no read of who left waits.
-    fn make_ready_for(&mut self, event: &UserEvent) -> Result<(), NoMemory>
-        ensures state { self.new.state ≡ self.old.state }
-        ensures lines { self.new.lines ≡ self.old.lines }
-    {
-        match event {
-            UserEvent::Sent { user, .. } => self.make_ready(*user),
-            UserEvent::Left { user } => {
-                self.readers.forget(*user);
-                Ok(())
-            }
-            _ => Ok(()),
-        }
-    }
-
-    /// The step of what a user did.
-    fn take_event<U: Users>(&mut self, event: UserEvent, users: &mut U) -> Result<bool, GateError>
-        ensures { (before : Side) → Took (events.User event ∷ []) before
-            (side L.Link U.Users self.old users.old)
-            → Runs result before (side L.Link U.Users self.new users.new) }
-    {
-        match self.make_ready_for(&event) {
-            Ok(()) => self.take_step(Event::User(event), users),
-            Err(NoMemory) => Err(GateError::NoMemory),
-        }
-    }
-
-    /// The step of what a user did, if one did something. Whether one did.
-    fn take_came<U: Users>(
-        &mut self,
-        event: Option<UserEvent>,
-        users: &mut U,
-    ) -> Result<bool, GateError>
-        ensures { (before : Side) → Took (event_of event) before
-            (side L.Link U.Users self.old users.old)
-            → Runs result before (side L.Link U.Users self.new users.new) }
-    {
-        match event {
-            None => Ok(false),
-            Some(event) => self.take_event(event, users),
-        }
-    }
-
-    /// What a user did, if something comes while it is waited for, and its step. Whether there was
-    /// something.
-    fn take_next<U: Users>(&mut self, patience: u32, users: &mut U) -> Result<bool, GateError>
-        ensures { Runs result (side L.Link U.Users self.old users.old)
-            (side L.Link U.Users self.new users.new) }
-    {
-        match next_event(users, patience) {
-            Ok(event) => self.take_came(event, users),
-            Err(e) => Err(e),
-        }
-    }
-
-    /// What users did: the first event is waited for, as long as may be. Whether there was one.
-    fn take_events<U: Users>(&mut self, patience: u32, users: &mut U) -> Result<bool, GateError>
-        ensures { Runs result (side L.Link U.Users self.old users.old)
-            (side L.Link U.Users self.new users.new) }
-    {
-        let mut some = false;
-        for _ in 0..MOST_EVENTS {
-            match self.take_next(if some { 0 } else { patience }, users) {
-                Ok(here) => {
-                    if !here {
-                        return Ok(some);
-                    }
-                    some = true;
-                }
-                Err(e) => return Err(e),
-            }
-        }
-        Ok(some)
-    }
-
-    /// The next request of the user that has waited longest is read. Whether there was such a user.
-    fn read_next<U: Users>(&mut self, users: &mut U) -> Result<bool, GateError>
-        ensures { Runs result (side L.Link U.Users self.old users.old)
-            (side L.Link U.Users self.new users.new) }
-    {
-        match self.ready.pop_front() {
-            None => Ok(false),
-            Some(user) => self.take_step(Event::Read { user }, users),
-        }
-    }
-
-    /// Requests are read, of each user in turn. Whether there was a user to read of.
-    fn read_ready<U: Users>(&mut self, users: &mut U) -> Result<bool, GateError>
-        ensures { Runs result (side L.Link U.Users self.old users.old)
-            (side L.Link U.Users self.new users.new) }
-    {
-        let mut some = false;
-        for _ in 0..MOST_READS {
-            match self.read_next(users) {
-                Ok(here) => {
-                    if !here {
-                        return Ok(some);
-                    }
-                    some = true;
-                }
-                Err(e) => return Err(e),
-            }
-        }
-        Ok(some)
     }
 
     /// Whether nobody asked for anything for a while; then the while begins again.

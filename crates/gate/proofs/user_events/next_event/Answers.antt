@@ -1,6 +1,6 @@
 use Rattle.gate.specs.Sides.{users_seen}
 use Rattle.gate.proofs.Calling.{event_came, users_stopped}
-use Rattle.gate.proofs.turn.next_event.Goals as goal
+use Rattle.gate.proofs.user_events.next_event.Goals as goal
 
 pub returns-in-Ok : goal.returns-in-Ok
 returns-in-Ok g c = λ state links.
