@@ -20,20 +20,21 @@
 //! others one, each in its turn.
 //!
 //! A gateway with a place of an observer has a watch there, over one more link, behind those of the
-//! cores; each turn is one of the watch, and so is each datagram that comes over its link. The cores
-//! ask the other observers.
+//! cores; each turn is one of the watch, and so is each datagram that comes over its link. The
+//! cores ask the other observers.
 //!
 //! Proved: over any devices what `serve` takes and does is a run of the core over some events, in
 //! order (`Runs` in `specs/Carrying`):
-//! - `serves`: among these events, those of users, the datagrams of each core and those of the watch
-//!   are what the devices gave, each in its order, where they are observable. The trace of users holds the events that
-//!   came, and the replies and closes that the core gives in its steps, in order and no others. So
-//!   the laws of `gate_core` hold: replies are those to the requests that a user sent.
-//! - The same clause: at an error it is a first part of that, with its cause: LinkFault where one poll
-//!   of one link failed, UsersFault where the users failed as a whole; else no call failed. Where not
-//!   all links were attached, nothing was done for users.
-//! - `attaches`: PortFault exactly where an attach failed. `back`: as many links are given back as were
-//!   attached; those over which the gateway ran, in the order of the cores.
+//! - `serves`: among these events, those of users, the datagrams of each core and those of the
+//!   watch are what the devices gave, each in its order, where they are observable. The trace of
+//!   users holds the events that came, and the replies and closes that the core gives in its steps,
+//!   in order and no others. So the laws of `gate_core` hold: replies are those to the requests
+//!   that a user sent.
+//! - The same clause: at an error it is a first part of that, with its cause: LinkFault where one
+//!   poll of one link failed, UsersFault where the users failed as a whole; else no call failed.
+//!   Where not all links were attached, nothing was done for users.
+//! - `attaches`: PortFault exactly where an attach failed. `back`: as many links are given back as
+//!   were attached; those over which the gateway ran, in the order of the cores.
 //! - `RoundTrip::timeout`: 5 ms at least, 200 ms at most.
 //!
 //! No clause says which datagrams are sent, when a request is sent again, or how many turns were

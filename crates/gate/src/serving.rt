@@ -209,10 +209,10 @@ fn serve_from<P: Ports, U: Users, C: Clock>(
 }
 
 /// Serves users for so many turns, as clients of a service whose numbers were not used before, and
-/// watches it, and reads, at the place of an observer, where it has one, which no observer may have.
-/// From there it asks the nodes of the roll each second whether they are there.
-/// A turn in which nothing comes, and before which nothing came for a while, waits for a millisecond.
-/// At an error the gateway has ended: ops in flight may still be executed.
+/// watches it, and reads, at the place of an observer, where it has one, which no observer may
+/// have. From there it asks the nodes of the roll each second whether they are there. A turn in
+/// which nothing comes, and before which nothing came for a while, waits for a millisecond. At an
+/// error the gateway has ended: ops in flight may still be executed.
 pub fn serve<P: Ports, U: Users, C: Clock>(
     alloc: Global,
     service: &Service,
@@ -228,8 +228,8 @@ pub fn serve<P: Ports, U: Users, C: Clock>(
     // What came from users and over the links, and what was done for users, is a run of the core
     // over some events, in order; at an error its first part, and the cause.
     ensures serves { Serves P.L.Link (opening service.now.config seats.first seats.count
-        (watch_at seats.observer roll service.now.config) (near_at seats.observer service.now.config))
-        seats.observer seats.count
+        (watch_at seats.observer roll service.now.config)
+        (near_at seats.observer service.now.config)) seats.observer seats.count
         (P.to_come ports.old) result (users_seen U.Users users.old) (users_seen U.Users users.new)
         (P.detached ports.old) (P.detached ports.new) }
     ensures attaches { CountsFor (P.fault_count ports.old) (P.fault_count ports.new)

@@ -2,7 +2,8 @@
 
 ghost use Rattle.std.specs.Prelude.{◌≡◌, ◌∷◌, []};
 ghost use Rattle.users.specs.declared.event.UserCall.TheVariants as calls;
-ghost use Rattle.gate.specs.Carrying.{call_of, calls_of, datagram_of, Asks, MakesAll, Runs, Steps, Took};
+ghost use Rattle.gate.specs.Carrying.{call_of, calls_of, datagram_of};
+ghost use Rattle.gate.specs.Carrying.{Asks, MakesAll, Runs, Steps, Took};
 ghost use Rattle.gate.specs.Sides.{side, side_with, Side, UsersSeen};
 
 use crate::errors::{GateError, link_fault};
