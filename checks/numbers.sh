@@ -179,7 +179,6 @@ schedule_text MAX_JUNK_TEXT
 schedule_text MAX_KEY_TEXT
 transcript_rows MAX_OP_TEXT
 replay GATHERED_BYTES
-braiding MANY
 picture_arrows MAX_ACTORS
 host_places HOSTS_BASE
 udp_ports DIGEST

@@ -1,34 +1,52 @@
--- Orders of steps in which packets were sent before they are taken.
-use Rattle.std.specs.Prelude.{◌≡◌, ⊤, List, ℕ, [], ◌∷◌, ◌++◌, Some, filter}
-use Rattle.std.specs.List.{flat_map}
-use Rattle.line_fields.specs.Fields.{is_text}
+-- Orders of the lines of traces. Lines are named by their numbers, from 0.
+use Rattle.std.specs.Prelude.{◌≡◌, ℕ, zero, suc, ◌+◌, ◌<◌, List, [], ◌∷◌, Bool, true, false, Option, Some, None, codes, get_or, length, map}
+use Rattle.std.specs.Prelude.{slice_get, slice_index_or, take, unwrap_or}
+use Rattle.line_fields.specs.Fields.{fields, is_text}
 use Rattle.nop_types.specs.Lists.{Has}
-use Rattle.braiding.specs.Steps.{Step, node_of, taken_by, sent_by}
+use Rattle.braiding.specs.declared.traces.Line.{Line}
 
--- the steps of a node, in their order
-abbrev pub own : List ℕ → List Step → List Step
-own node steps = filter (λ x. is_text node (node_of x)) steps
+abbrev pub is_field : List ℕ → Option (List ℕ) → Bool
+is_field word None = false
+is_field word (Some field) = is_text word field
 
--- the packets that steps send
-abbrev pub packets : List Step → List (List ℕ)
-packets steps = flat_map sent_by steps
+-- a step begins with a line whose first field is `in`
+abbrev pub starts_step : List ℕ → Bool
+starts_step line = is_field (codes "in") (slice_get (fields line) 0)
 
--- A step may go where it takes no packet, or one that was sent. A packet that no step of the input sends stops nothing.
-abbrev pub MayGo : List (List ℕ) → List (List ℕ) → Step → Type 0
-MayGo all sent x = (packet : List ℕ) → taken_by x ≡ Some packet → Has all packet → Has sent packet
+-- the second field, no bytes where there is none
+abbrev pub node_in : List ℕ → List ℕ
+node_in line = unwrap_or (slice_get (fields line) 1) []
 
--- each step may go where it stands, behind steps that sent these
-abbrev pub IsCausal : List (List ℕ) → List (List ℕ) → List Step → Type 0
-IsCausal all sent [] = ⊤
-IsCausal all sent (x ∷ xs) = MayGo all sent x × IsCausal all (sent ++ sent_by x) xs
+-- the number behind that of the last line
+abbrev pub behind : ℕ → List ℕ → ℕ
+behind n [] = n
+behind n (p ∷ ps) = behind (p + 1) ps
 
--- the same steps, each node's in their order: so none is missing, and none is there twice
-abbrev pub IsOrderOf : List Step → List Step → Type 0
-IsOrderOf steps order = (node : List ℕ) → own node order ≡ own node steps
+module _ (lines : List (List ℕ)) where
+  abbrev pub line_at : ℕ → List ℕ
+  line_at p = slice_index_or lines p []
 
--- The order that is written is `first` and then `rest`.
-pub record IsBraid (steps first rest : List Step) : Type 0 where
-  pub order : IsOrderOf steps (first ++ rest)
-  pub goes : IsCausal (packets steps) [] first
-  -- no step of the rest that is its node's next may go
-  pub stuck : (node : List ℕ) (x : Step) (xs : List Step) → own node rest ≡ x ∷ xs → MayGo (packets steps) (packets first) x → ⊥
+  -- whether a step starts with the line; none does with the first
+  abbrev pub starts : ℕ → Bool
+  starts zero = false
+  starts (suc p) = starts_step (line_at (suc p))
+
+  -- the step comes behind those of its node only that are earlier
+  abbrev pub IsBehindOwn : List ℕ → ℕ → Type 0
+  IsBehindOwn before p = (q : ℕ) → Has before q → starts q ≡ true → node_in (line_at q) ≡ node_in (line_at p) → q < p
+
+  -- the line may come behind these
+  pub record Fits (before : List ℕ) (p : ℕ) : Type 0 where
+    pub within : p < length lines
+    pub once : Has before p → ⊥
+    -- the lines of the head, and those of a step, stand behind each other
+    pub together : starts p ≡ false → p ≡ behind 0 before
+    pub own : starts p ≡ true → IsBehindOwn before p
+
+  -- each line stands there once
+  pub record IsOrder (order : List ℕ) : Type 0 where
+    pub all : length order ≡ length lines
+    pub fits : (i : ℕ) → i < length order → Fits (take i order) (get_or order i 0)
+
+abbrev pub texts_of : List Line → List (List ℕ)
+texts_of lines = map (λ l. l.text.items) lines

@@ -1,7 +1,14 @@
+//! Why no order was written, and how much is read and written.
+
 use line_reader::ReadError;
-use nop_types::NoMemory as OutOfMemory;
 use outside::WriteError;
 use std::alloc::AllocError;
+
+/// The most lines of all traces, their first line included.
+pub const MAX_TRACE_LINES: u32 = 4_000_000;
+
+// A number that code and contracts name would be proved whatever it was: here it stands once more.
+const _: () = prove!(MAX_TRACE_LINES == 4_000_000);
 
 /// Why no order was written, or not all of it.
 #[derive(Clone, Copy, PartialEq, Eq)]
@@ -11,17 +18,6 @@ pub enum BraidError {
     ReadFault,
     WriteFault,
     NoMemory,
-}
-
-impl From<OutOfMemory> for BraidError {
-    ghost use Rattle.std.specs.Prelude.{◌≡◌};
-    ghost use Rattle.braiding.specs.declared.error.BraidError.TheVariants.{NoMemory};
-
-    ghost from_gives = { λ _ e. e ≡ NoMemory };
-
-    fn from(_e: OutOfMemory) -> BraidError {
-        BraidError::NoMemory
-    }
 }
 
 impl From<AllocError> for BraidError {
@@ -35,23 +31,9 @@ impl From<AllocError> for BraidError {
     }
 }
 
-impl From<ReadError> for BraidError {
-    ghost use Rattle.std.specs.Prelude.{◌≡◌};
-    ghost use Rattle.braiding.specs.Errors.{of_reader};
-
-    ghost from_gives = { λ e d. d ≡ of_reader e };
-
-    fn from(e: ReadError) -> BraidError {
-        match e {
-            ReadError::ReadFault => BraidError::ReadFault,
-            ReadError::NoMemory => BraidError::NoMemory,
-        }
-    }
-}
-
 impl From<WriteError> for BraidError {
     ghost use Rattle.std.specs.Prelude.{◌≡◌};
-    ghost use Rattle.braiding.specs.Errors.{of_sink};
+    ghost use Rattle.braiding.specs.Ending.{of_sink};
 
     ghost from_gives = { λ e d. d ≡ of_sink e };
 

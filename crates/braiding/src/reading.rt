@@ -1,15 +1,14 @@
 //! All lines of a source.
 
-ghost use Rattle.std.specs.Prelude.{◌≡◌, ◌++◌, ◌∷◌, [], ◌≤◌, ◌<◌, ◌⊎◌, ℕ, List, take, IfOk, OnOk, IfErr, MatchBool};
-ghost use Rattle.braiding.specs.Gathering.{IsGathered};
+ghost use Rattle.std.specs.Prelude.{◌≡◌, ◌++◌, ◌∷◌, [], ◌≤◌, ◌<◌, ◌⊎◌, take, IfOk, OnOk, IfErr, MatchBool};
+ghost use Rattle.braiding.specs.Orders.{texts_of};
 ghost use Rattle.braiding.specs.Reading.{Advances, IsNoLine, IsRead, RefusesFirst};
 ghost use Rattle.line_reader.specs.Reading.{IsFirst, Reaches, TakesFrom};
 ghost use Rattle.nop_types.specs.declared.limits.TheConstants.{MAX_LINE_BYTES};
 ghost use Rattle.outside.specs.Causes.{CountsFor};
 
-use crate::error::BraidError;
-use crate::gathered::Gathered;
-use crate::limits::MAX_TRACE_LINES;
+use crate::error::{BraidError, MAX_TRACE_LINES};
+use crate::traces::Traces;
 use line_reader::{FirstLine, LineReader, ReadError};
 use nop_types::MAX_LINE_BYTES;
 use outside::Source;
@@ -42,13 +41,13 @@ fn is_too_much(before: u32, len: usize) -> bool
 fn take_line(
     lines: &mut LineReader,
     first: FirstLine,
-    gathered: &mut Gathered,
+    traces: &mut Traces,
 ) -> Result<(), BraidError>
     requires first { IsFirst lines.old first }
     requires most { lines.old.most ≡ MAX_TRACE_LINES }
     ensures advances { OnOk result (Advances lines.old lines.new first) }
-    ensures gathered { OnOk result ((texts : List (List ℕ)) → IsGathered gathered.old texts
-        → IsGathered gathered.new (texts ++ take first.len lines.old.pending ∷ [])) }
+    ensures taken { OnOk result (texts_of traces.new.lines.items
+        ≡ texts_of traces.old.lines.items ++ take first.len lines.old.pending ∷ []) }
     ensures err { IfErr result (RefusesFirst lines.old first) }
 {
     let before = lines.line();
@@ -57,23 +56,23 @@ fn take_line(
             line: before.saturating_add(1),
         });
     }
-    gathered.take(lines.text(first))?;
+    traces.take(lines.text(first))?;
     lines.take(first);
     Ok(())
 }
 
 /// Reads all lines.
-pub(crate) fn read_all<S: Source>(alloc: Global, source: &mut S) -> Result<Gathered, BraidError>
+pub(crate) fn read_all<S: Source>(alloc: Global, source: &mut S) -> Result<Traces, BraidError>
     ensures read { IsRead (S.left source.old) (S.left source.new) result }
     ensures count { CountsFor (S.fault_count source.old) (S.fault_count source.new)
         BraidError.ReadFault result }
 {
     let mut lines = LineReader::new(alloc, MAX_TRACE_LINES);
-    let mut gathered = Gathered::new(alloc);
+    let mut traces = Traces::new(alloc);
     loop {
         let Some(first) = next(&mut lines, source)? else {
-            return Ok(gathered);
+            return Ok(traces);
         };
-        take_line(&mut lines, first, &mut gathered)?;
+        take_line(&mut lines, first, &mut traces)?;
     }
 }
