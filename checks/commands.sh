@@ -1,7 +1,7 @@
 #!/bin/bash
 # Runs the commands that README.md, examples/README.md and docs/OWN-SERVICE.md show, as they are written there, each at the top of the tree,
 # and looks at what they print. A command that this script does not know is a difference, and so is one that it knows and no document shows;
-# .ci/run is known and not run here, since it runs this. `rt try` makes its program anew each time: it takes some minutes. It leaves nothing
+# .ci/quick and .ci/run are known and not run here, since the second runs both. `rt try` makes its program anew each time: it takes some minutes. It leaves nothing
 # behind but what `rt run` keeps, and ends with status 1 at any difference.
 . "$(dirname "$0")/common.bash" || exit 2
 # The top of the tree, in a folder that can be written to.
@@ -38,7 +38,7 @@ is_picture() {
 }
 
 # Both examples are run, below and by checks/hosts.sh, at ports that nobody has.
-printf '%s\n' .ci/run examples/cluster.sh examples/hosts.sh > "$folder/known"
+printf '%s\n' .ci/quick .ci/run examples/cluster.sh examples/hosts.sh > "$folder/known"
 runs README.md '(cd crates/nopaxos && rt try -- replay) < examples/one-put.schedule'
 cmp -s "$folder/out" examples/one-put.transcript || differs "the one put has another transcript"
 
