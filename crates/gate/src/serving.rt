@@ -18,8 +18,8 @@ use attached_links::{AttachedLink, attach_all, detach_all};
 use client_call::Service;
 use gate_core::GateState;
 use kv_host::KvHost;
-use near_observer::NearObserver;
 use nop_types::{Config, MAX_OBSERVERS, NoMemory};
+use observer::Observer;
 use outside::{Clock, Link, Ports};
 use roll_call::Roll;
 use std::alloc::Global;
@@ -69,12 +69,12 @@ fn near_at(
     alloc: Global,
     config: Config,
     observer: Option<u8>,
-) -> Result<Option<NearObserver<KvHost>>, NoMemory>
+) -> Result<Option<Observer<KvHost>>, NoMemory>
     ensures { IfOk result (λ near. near ≡ near_at observer config) }
 {
     match observer {
         Some(number) if number < MAX_OBSERVERS => {
-            Ok(Some(NearObserver::new(alloc, config, number)?))
+            Ok(Some(Observer::new(alloc, config, number)?))
         }
         _ => Ok(None),
     }

@@ -6,9 +6,7 @@ use Rattle.std.specs.FinMap as finite
 use Rattle.nop_types.specs.Configuration.{Configuration}
 use Rattle.nop_types.specs.Given as given
 use Rattle.nop_types.specs.Given.{Given, Packet, Ticked}
-use Rattle.nop_types.specs.Logs.{Trimmed}
 use Rattle.nop_types.specs.Machine.{Machine}
-use Rattle.nop_types.specs.Services.{get_of}
 use Rattle.nop_types.specs.declared.datagram.Datagram.{Datagram}
 use Rattle.nop_types.specs.declared.datagram.Datagram.TheVariants as datagrams
 use Rattle.nop_types.specs.declared.input.Tick.TheVariants as ticks
@@ -278,7 +276,7 @@ heard_near (Some o) datagram = Some (heard_if o datagram)
 abbrev pub near_answer : Machine Observer → (key : List ℕ) → NearAnswer
 near_answer o key = record {
   position = observing.position o.state.heard.state;
-  result = observing.answer kv_meaning Trimmed o.state.heard.state (get_of key);
+  result = observers.answer_of kv_meaning o.state key;
 }
 
 -- if there is one

@@ -30,8 +30,8 @@ use crate::watched::{put_info, take_turn};
 use desk::{Desk, DeskError, Labelled};
 use kv_host::{GET, KvHost};
 use kv_resp::{Demand, Form, asked};
-use near_observer::NearObserver;
 use nop_types::{Bytes, Config, Input, Key, NoMemory, Op, Out, Tick};
+use observer::Observer;
 use resp::{Parsed, Reply, Request};
 use std::alloc::Global;
 use users::UserEvent;
@@ -49,7 +49,7 @@ pub struct GateState {
     pub observers: u8,
     pub next_user: u64,
     pub watch: Option<Watch>,
-    pub near: Option<NearObserver<KvHost>>,
+    pub near: Option<Observer<KvHost>>,
 }
 
 /// What is replied to a user that is one too many.
@@ -140,7 +140,7 @@ impl GateState {
         first: u32,
         count: usize,
         watch: Option<Watch>,
-        near: Option<NearObserver<KvHost>>,
+        near: Option<Observer<KvHost>>,
     ) -> Result<GateState, NoMemory>
         requires { first + count ≤ 2 ^ 32 }
         ensures { IfOk result (λ g. g ≡ opening config first count watch near) }
@@ -723,12 +723,17 @@ impl GateState {
     }
 
     /// A turn of the watch, and of the near observer, if there are these.
-    fn watch(&mut self, now: u64, datagram: Option<&Bytes>) -> Result<(), NoMemory>
+    fn watch(
+        &mut self,
+        alloc: Global,
+        now: u64,
+        datagram: Option<&Bytes>,
+    ) -> Result<(), NoMemory>
         ensures { OnOk result (self.new ≡ with_turn self.old
             (record { now = now; datagram = option_map (λ d. d.now) datagram.entry })) }
     {
         take_turn(&mut self.watch, now, datagram)?;
-        hear(&mut self.near, datagram)
+        hear(alloc, &mut self.near, datagram)
     }
 
     /// A step, and what is done in it. After an error no more steps are taken.
@@ -749,7 +754,7 @@ impl GateState {
                 user,
             } => self.ask_read(alloc, core, observer, user, acts),
             Event::Reassign { core } => self.reassign(core, acts),
-            Event::Watch { now, datagram } => self.watch(now, datagram.as_ref()),
+            Event::Watch { now, datagram } => self.watch(alloc, now, datagram.as_ref()),
             Event::Idle => self.ask(alloc, acts),
         }
     }

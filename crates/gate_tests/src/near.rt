@@ -2,8 +2,8 @@
 //! and from its formats.
 
 use kv_host::KvHost;
-use near_observer::NearObserver;
-use nop_types::{Config, Key};
+use nop_types::{Config, Core, Input, Key, Outbox};
+use observer::Observer;
 use std::alloc::Global;
 use std::process::Abort;
 
@@ -29,37 +29,39 @@ fn check(rt: &impl Abort, holds: bool, text: &str) {
     assert!(rt; holds, "{text}");
 }
 
-fn hear(rt: &impl Abort, near: &mut NearObserver<KvHost>, bytes: &[u8]) {
-    near.hear(bytes).expect(rt, "memory");
+fn hear(rt: &impl Abort, alloc: Global, near: &mut Observer<KvHost>, bytes: &[u8]) {
+    let mut unsent = Outbox::new(alloc);
+    near.step(Input::Packet(bytes), &mut unsent)
+        .expect(rt, "memory");
 }
 
 /// Whether this is read at the key.
 fn reads(
     rt: &impl Abort,
     alloc: Global,
-    near: &mut NearObserver<KvHost>,
+    near: &mut Observer<KvHost>,
     key: u8,
     expected: &[u8],
 ) -> bool {
     let key = Key::new(alloc, &[key]).expect(rt, "memory");
-    near.read(&key).expect(rt, "memory").as_slice() == expected
+    near.answer_of(&key).expect(rt, "memory").as_slice() == expected
 }
 
-fn check_reads(rt: &impl Abort, alloc: Global, near: &mut NearObserver<KvHost>) {
-    hear(rt, near, PREPARE);
+fn check_reads(rt: &impl Abort, alloc: Global, near: &mut Observer<KvHost>) {
+    hear(rt, alloc, near, PREPARE);
     check(rt, reads(rt, alloc, near, b'k', b"none"), "k, prepared");
     check(rt, near.position() == 0, "position 0");
-    hear(rt, near, COMMIT);
-    hear(rt, near, READ);
-    hear(rt, near, b"no datagram");
+    hear(rt, alloc, near, COMMIT);
+    hear(rt, alloc, near, READ);
+    hear(rt, alloc, near, b"no datagram");
     check(rt, reads(rt, alloc, near, b'k', b"=v"), "k, committed");
     check(rt, reads(rt, alloc, near, b'j', b"none"), "j");
     check(rt, near.position() == 1, "position 1");
 }
 
-fn new_observer(rt: &impl Abort, alloc: Global) -> NearObserver<KvHost> {
+fn new_observer(rt: &impl Abort, alloc: Global) -> Observer<KvHost> {
     let config = Config::new(3, 1, 1, 1, 1).expect(rt, "a group");
-    NearObserver::new(alloc, config, 0).expect(rt, "memory")
+    Observer::new(alloc, config, 0).expect(rt, "memory")
 }
 
 #[test]

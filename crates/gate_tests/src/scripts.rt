@@ -2,8 +2,8 @@
 
 use gate_core::{Act, Event, GateState};
 use kv_host::KvHost;
-use near_observer::NearObserver;
 use nop_types::{Bytes, Config};
+use observer::Observer;
 use std::alloc::Global;
 use std::process::Abort;
 use users::UserEvent;
@@ -244,7 +244,7 @@ fn new_gate(
     alloc: Global,
     config: Config,
     cores: usize,
-    near: Option<NearObserver<KvHost>>,
+    near: Option<Observer<KvHost>>,
 ) -> GateState {
     assert!(rt; cores <= 16);
     GateState::new(alloc, config, 0, cores, None, near).expect(rt, "memory")
@@ -255,7 +255,7 @@ fn play_with(
     alloc: Global,
     config: Config,
     cores: usize,
-    near: Option<NearObserver<KvHost>>,
+    near: Option<Observer<KvHost>>,
     script: &str,
 ) {
     let mut gate = new_gate(rt, alloc, config, cores, near);

@@ -1,3 +1,4 @@
 mod Following
 pub mod Positions
+mod Rising
 mod Saved

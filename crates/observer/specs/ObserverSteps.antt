@@ -29,13 +29,17 @@ abbrev pub opening : Configuration → ℕ → Observer
 opening config number = record { config = config; number = number; heard = hearing.opening config.replicas }
 
 module _ {S : Type 0} (m : Meaning S) where
+  -- what the service answers to a read of a key, at the position
+  abbrev pub answer_of : Observer → List ℕ → List ℕ
+  answer_of s key = answer m Trimmed s.heard.state (get_of key)
+
   abbrev pub answer_to : Observer → Read → Answer
   answer_to s r = record {
     observer = s.number;
     position = position s.heard.state;
     client = r.client;
     id = r.id;
-    result = answer m Trimmed s.heard.state (get_of r.key);
+    result = answer_of s r.key;
   }
 
   -- to the client that asks, whether or not there is one of its number

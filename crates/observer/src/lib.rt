@@ -31,5 +31,5 @@ mod observer;
 mod synced;
 mod told;
 
-pub use laws::positions_rise;
+pub use laws::{positions_never_fall, positions_rise};
 pub use observer::Observer;

@@ -1,4 +1,4 @@
-ghost use Rattle.std.specs.Prelude.{◌≡◌, ◌<◌, ◌++◌, [], ◌∷◌, OnOk, OnErr, IfOk, false};
+ghost use Rattle.std.specs.Prelude.{◌≡◌, ◌<◌, ◌++◌, [], ◌∷◌, OnOk, OnErr, IfOk, IsErr, true, false};
 ghost use Rattle.nop_types.specs.Given.{given};
 ghost use Rattle.nop_types.specs.Ranges.{PeerFits, ReadFits};
 ghost use Rattle.nop_types.specs.Logs.{Trimmed};
@@ -6,14 +6,13 @@ ghost use Rattle.nop_types.specs.declared.limits.TheConstants.{MAX_OBSERVERS};
 ghost use Rattle.peer_codec.specs.Reading as peers;
 ghost use Rattle.observer.specs.Hearing as hearing;
 ghost use Rattle.observer.specs.Known.{IsHearing, hearing_of, observer_of, observing_of};
-ghost use Rattle.observer.specs.ObserverSteps.{answered, next, opening};
+ghost use Rattle.observer.specs.ObserverSteps.{answer_of, answered, next, opening};
 ghost use Rattle.observer.specs.Observing.{position, told};
 
-use crate::asking::get_of;
 use crate::synced::SyncedHost;
 use fragments::Reassembly;
 use nop_types::{
-    Actor, Answer, Body, Bytes, Config, Core, Datagram, Dest, Fragment, Host, Input, NoMemory,
+    Actor, Answer, Body, Bytes, Config, Core, Datagram, Dest, Fragment, Host, Input, Key, NoMemory,
     Outbox, Peer, Read, Tick, leader_of,
 };
 use oum_codec::{read_datagram, send_datagram};
@@ -154,13 +153,12 @@ impl<H: Host> ObserverParts<H> {
             ≡ out.old ++ answered H.meaning (observer_of H.Host self.old) read.now ∷ []) }
         ensures err { OnErr result (out.new ≡ out.old) }
     {
-        let op = get_of(self.alloc, &read.key)?;
         let answer = Answer {
             observer: self.number,
             position: self.synced.position(),
             client: read.client,
             id: read.id,
-            result: self.synced.read(&op)?,
+            result: self.synced.read(&read.key)?,
         };
         let dest = Dest::One(Actor::Client(read.client));
         send_datagram(self.alloc, dest, &Datagram::Answer(answer), out)
@@ -206,6 +204,20 @@ impl<H: Host> Observer<H> {
         ensures { result ≡ position self.now.state.heard.state }
     {
         self.node.synced.position()
+    }
+
+    /// What a read of this key is answered now, for who has the observer in its own process.
+    /// Nothing changes.
+    pub fn answer_of(&mut self, key: &Key) -> Result<Bytes, NoMemory>
+        ensures answer { IfOk result (λ bytes. bytes
+            ≡ answer_of H.meaning self.old.state key.now) }
+        ensures same { self.new ≡ self.old }
+        ensures for_good { self.old.failed ≡ true → IsErr result }
+    {
+        if self.failed {
+            return Err(NoMemory);
+        }
+        self.node.synced.read(key)
     }
 }
 

@@ -3,14 +3,16 @@ ghost use Rattle.std.specs.Option.{option_map};
 ghost use Rattle.nop_types.specs.CheckpointedLogs.{loads};
 ghost use Rattle.nop_types.specs.Logs.{Trimmed};
 ghost use Rattle.nop_types.specs.Ranges.{LogFits};
+ghost use Rattle.nop_types.specs.Services.{get_of};
 ghost use Rattle.nop_types.specs.declared.limits.TheConstants.{MAX_RESULT_BYTES};
 ghost use Rattle.observer.specs.Observing.{opening, is_better, known_with, prepare, commit, answer};
 ghost use Rattle.observer.specs.Known.{candidate_of, observing_of, IsReady};
 
+use crate::asking::get_of;
 use crate::entering::{follow, loaded};
 use crate::told::Told;
 use client_table::ClientTable;
-use nop_types::{Bytes, Host, Log, NoMemory, View};
+use nop_types::{Bytes, Host, Key, Log, NoMemory, View};
 use std::alloc::Global;
 
 /// A service as far as it is synchronised: it executes what leaders commit of the logs that they told, and undoes nothing.
@@ -124,16 +126,17 @@ impl<H: Host> SyncedHost<H> {
         self.position
     }
 
-    /// What the service answers to an op there; its state stays.
-    pub fn read(&mut self, op: &[u8]) -> Result<Bytes, NoMemory>
+    /// What the service answers there to the op that asks for a key; its state stays.
+    pub fn read(&mut self, key: &Key) -> Result<Bytes, NoMemory>
         requires ready { IsReady H.Host self.old }
         ensures ready { IsReady H.Host self.new }
         ensures state { observing_of H.Host self.new ≡ observing_of H.Host self.old }
         ensures answer { IfOk result (λ a. a
-            ≡ answer H.meaning Trimmed (observing_of H.Host self.old) op.now) }
+            ≡ answer H.meaning Trimmed (observing_of H.Host self.old) (get_of key.now)) }
         ensures short { IfOk result (λ a. length a ≤ MAX_RESULT_BYTES) }
     {
-        let (answer, undo) = self.host.apply(op)?;
+        let op = get_of(self.alloc, key)?;
+        let (answer, undo) = self.host.apply(&op)?;
         self.host.undo(undo);
         Ok(answer)
     }
