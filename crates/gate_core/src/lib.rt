@@ -10,7 +10,7 @@
 //! read waits again; `Reassign` lets it wait for another core where no answer comes. Where the
 //! gateway has a watch (`watching`), at the place of an observer, `Watch` gives it a turn: the
 //! time, and a datagram if one came. INFO is replied a line on the server, and the lines that the
-//! watch showed last. Where it has an observer in its own process (`near_observer`), this hears
+//! watch showed last. Where it has an observer in its own process (`observer`), this hears
 //! the same datagrams, and no core asks for reads: a read is replied by it at once, unless the user
 //! has seen a later state; then the read waits, and at `Ask` the near observer is looked at again.
 //! `GateState::step` computes the step table `next` of `specs/Gates`. Over any events in any order:

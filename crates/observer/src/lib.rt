@@ -12,12 +12,14 @@
 //! of that log; the log that they stand for is that of the checkpoint which they are saved as
 //! (`specs/Known`, `observing_of`). `Observer` meets `Core` with the step table `next`, from `opening`
 //! on, whatever comes, forged datagrams too. A log whose checkpoint doesn't load changes nothing. No
-//! position falls (`positions_rise`).
+//! position falls, by a message (`positions_rise`) or a step (`positions_never_fall`). Who has the
+//! observer in its own process asks it by `answer_of`, without datagrams: the result is the one that a
+//! Read of this key is answered.
 //!
 //! What the messages mean, and that the answers are those of the one history, is in `observer_laws` and
 //! `safety`.
 //!
-//! Calls: `Observer::new`, `step` by the trait, `position`.
+//! Calls: `Observer::new`, `step` by the trait, `position`, `answer_of`.
 //!
 //! Files: `told`, `entering` (entries and checkpoints executed), `synced`, `asking` (the op for a key),
 //! `observer`, `laws`. Definitions: `specs/ObserverSteps` (`next`), `Hearing`, `Observing`, `Known`; the op is
