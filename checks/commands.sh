@@ -1,7 +1,7 @@
 #!/bin/bash
 # Runs the commands that README.md, examples/README.md and docs/OWN-SERVICE.md show, as they are written there, each at the top of the tree,
 # and looks at what they print. A command that this script does not know is a difference, and so is one that it knows and no document shows;
-# .ci/run is known and not run here, since it runs this, nor is .ci/quick, which it has run before. `rt try` makes its program anew each time: it takes some
+# .ci/run is known and not run here, since it runs this, nor is .ci/quick. `rt try` makes its program anew each time: it takes some
 # minutes. It leaves nothing behind but what `rt run` keeps, and ends with status 1 at any difference.
 . "$(dirname "$0")/common.bash" || exit 2
 # The top of the tree, in a folder that can be written to.
