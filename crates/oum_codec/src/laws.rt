@@ -1,12 +1,14 @@
 //! What the definitions of spelling and reading say together.
 
-ghost use Rattle.std.specs.Prelude.{◌≡◌, ◌<◌, ◌^◌, ◌↔◌, Ok, List, ℕ};
+ghost use Rattle.std.specs.Prelude.{◌≡◌, ◌<◌, ◌^◌, ◌↔◌, Ok, List, slice_get, ℕ};
 ghost use Rattle.std.specs.Int.{w16, w32, w64};
 ghost use Rattle.nop_types.specs.Parts.{IsPart};
 ghost use Rattle.nop_types.specs.Ranges.{DatagramFits, RequestFits};
+ghost use Rattle.nop_types.specs.declared.kinds.TheConstants.{KIND_PLACE};
 ghost use Rattle.nop_types.specs.declared.view.View.{View};
 ghost use Rattle.nop_types.specs.declared.request.Request.{Request};
 ghost use Rattle.nop_types.specs.declared.datagram.Datagram.{Datagram};
+ghost use Rattle.oum_codec.specs.Kinds.{IsOfKind};
 ghost use Rattle.oum_codec.specs.Numbers.{IsBytes, be_bytes};
 ghost use Rattle.oum_codec.specs.Places.{StandsAt, ViewWidths, number_in, view_in, request_in};
 ghost use Rattle.oum_codec.specs.Spelling.{IsPartOfSeveral, Spells, request_bytes, spelling, view_bytes};
@@ -35,6 +37,12 @@ pub fn spelling_is_injective()
 #[tactic(auto, using(crate::proofs::PartBytes::parts_are_told))]
 pub fn parts_are_told()
     ensures { (d : Datagram) → DatagramFits d → IsPart (spelling d) ↔ IsPartOfSeveral d }
+{}
+
+/// What is read from bytes is of the kind at `KIND_PLACE`, in whatever ranges.
+#[tactic(auto, using(crate::proofs::KindBytes::kinds_are_told))]
+pub fn kinds_are_told()
+    ensures { (bytes : List ℕ) → IsOfKind (slice_get bytes KIND_PLACE) (reading bytes) }
 {}
 
 /// A field that stands at a place, in its range, is read there.

@@ -30,7 +30,7 @@ pub use fields::{
     split_u32, split_u64, split_view,
 };
 pub use laws::{
-    fields_are_read, parts_are_told, read_fields_stand, read_is_spelled, spelled_is_read,
+    fields_are_read, kinds_are_told, parts_are_told, read_fields_stand, read_is_spelled, spelled_is_read,
     spelling_is_injective,
 };
 pub use read::{decode, read_datagram};

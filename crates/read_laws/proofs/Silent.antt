@@ -1,6 +1,6 @@
 -- Who neither asks nor answers: replicas, sequencers, controllers, and the requests of clients.
-use Rattle.std.proofs.Common.{◌≡◌, ℕ, ◌+◌, Bool, true, false, List, [], ◌∷◌, ◌++◌, Option, Some, None, map, refl, ap, ◌∙◌, inl, inr}
-use Rattle.std.specs.Prelude.{Result, Ok, Err, ⊤, nat_lt, ◌==◌}
+use Rattle.std.proofs.Common.{◌≡◌, ℕ, ◌+◌, Bool, true, false, List, [], ◌∷◌, ◌++◌, Option, Some, None, map, refl, ap, subst, ◌∙◌, inl, inr}
+use Rattle.std.specs.Prelude.{Result, Ok, Err, ⊤, nat_lt, slice_get, ◌==◌, ◌||◌}
 use Rattle.nop_types.specs.Given.{Given, Packet, Ticked}
 use Rattle.nop_types.specs.Lines as said
 use Rattle.nop_types.specs.Lines.{Line}
@@ -14,6 +14,8 @@ use Rattle.nop_types.specs.declared.datagram.Reply.{Reply}
 use Rattle.nop_types.specs.declared.datagram.Stamped.{Stamped}
 use Rattle.nop_types.specs.declared.input.Tick.{Tick}
 use Rattle.nop_types.specs.declared.input.Tick.TheVariants as ticks
+use Rattle.nop_types.specs.declared.kinds.TheConstants as kinds
+use Rattle.nop_types.specs.declared.kinds.TheConstants.{KIND_PLACE}
 use Rattle.nop_types.specs.declared.output.Actor.{Actor}
 use Rattle.nop_types.specs.declared.output.Dest.{Dest}
 use Rattle.nop_types.specs.declared.output.Out.{Out}
@@ -22,11 +24,10 @@ use Rattle.nop_types.specs.declared.peer.Peer.{Peer}
 use Rattle.nop_types.specs.declared.request.Request.{Request}
 use Rattle.lemmas.proofs.Members.{Has-none, Has-cases}
 use Rattle.oum_codec.specs.declared.bad.Bad.{Bad}
-use Rattle.oum_codec.specs.Fixed.{request_fields_at, request_in_range, stamped_fields_at, stamped_in_range, reply_fields_at, reply_in_range}
-use Rattle.oum_codec.specs.Fixed.{fragment_fields_at, fragment_in_range, least_payload}
-use Rattle.oum_codec.specs.Reading.{◌>>=◌, fields_of, sized, reading, request_of, stamped_of, reply_of, install_of, ping_of, fragment_of}
-use Rattle.oum_codec.specs.Spelling.{spelling, request_bytes, stamped_bytes, reply_bytes, install_bytes, ping_bytes, fragment_bytes}
-use Rattle.nop_types.specs.declared.limits.TheConstants.{FRAGMENT_BYTES}
+use Rattle.oum_codec.specs.Kinds.{IsOfKind, kind_of}
+use Rattle.oum_codec.specs.Reading.{reading}
+use Rattle.oum_codec.specs.Spelling.{spelling}
+use Rattle.oum_codec.proofs.KindBytes.{kinds_are_told}
 use Rattle.peer_codec.specs.declared.bad_peer.BadPeer.{BadPeer}
 use Rattle.peer_codec.specs.Reading as peers
 use Rattle.peer_codec.specs.Spelling as peer
@@ -64,92 +65,44 @@ is_exchanged _ = false
 abbrev pub IsSilent : Result Datagram Bad → Type 0
 IsSilent r = is_exchanged r ≡ false
 
-then_silent : {A : Type 0} (r : Result A Bad) (next : A → Result Datagram Bad) → ((x : A) → IsSilent (next x)) → IsSilent (r >>= next)
-then_silent (Ok x) next h = h x
-then_silent (Err e) next h = refl
+abbrev is_exchange : ℕ → Bool
+is_exchange kind = kind == kinds.READ || kind == kinds.ANSWER
 
--- fields, a part of some size, and a datagram of both
-parts_silent : {F : Type 0} (r : Result (F × List ℕ) Bad) (size : F × List ℕ → Result (List ℕ) Bad)
-    (make : F × List ℕ → List ℕ → Datagram) → ((f : F × List ℕ) (x : List ℕ) → IsSilent (Ok (make f x)))
-    → IsSilent (r >>= λ f. size f >>= λ x. Ok (make f x))
-parts_silent r size make h =
-    then_silent r (λ f. size f >>= λ x. Ok (make f x)) (λ f. then_silent (size f) (λ x. Ok (make f x)) (h f))
+of_kind : (kind : ℕ) (r : Result Datagram Bad) → IsOfKind (Some kind) r → is_exchange kind ≡ false → IsSilent r
+of_kind kind (Ok (datagrams.Read r)) is other = absurd (let same : kind ≡ kinds.READ = cc in let e = ap is_exchange same in cc)
+of_kind kind (Ok (datagrams.Answer a)) is other = absurd (let same : kind ≡ kinds.ANSWER = cc in let e = ap is_exchange same in cc)
+of_kind kind _ is other = refl
 
-request_silent : (bytes : List ℕ) → IsSilent (request_of bytes)
-unfolding request_of
-request_silent bytes =
-    parts_silent (fields_of (request_fields_at bytes) request_in_range) (λ f. sized f.0.op_len f.0.op_len f.1)
-    (λ f op. datagrams.Request (record { client = f.0.client; id = f.0.id; op = op })) (λ f x. refl)
-
-stamped_silent : (bytes : List ℕ) → IsSilent (stamped_of bytes)
-unfolding stamped_of
-stamped_silent bytes =
-    parts_silent (fields_of (stamped_fields_at bytes) stamped_in_range) (λ f. sized f.0.request.op_len f.0.request.op_len f.1)
-    (λ f op. datagrams.Stamped (record {
-      session = f.0.session;
-      number = f.0.number;
-      request = record { client = f.0.request.client; id = f.0.request.id; op = op };
-    })) (λ f x. refl)
-
-reply_silent : (bytes : List ℕ) → IsSilent (reply_of bytes)
-unfolding reply_of
-reply_silent bytes =
-    parts_silent (fields_of (reply_fields_at bytes) reply_in_range) (λ f. sized f.0.result_len f.0.result_len f.1)
-    (λ f x. datagrams.Reply (record {
-      replica = f.0.replica;
-      view = f.0.view;
-      slot = f.0.slot;
-      client = f.0.client;
-      id = f.0.id;
-      tag = f.0.tag;
-      result = x;
-    })) (λ f x. refl)
-
-fragment_silent : (bytes : List ℕ) → IsSilent (fragment_of bytes)
-unfolding fragment_of
-fragment_silent bytes =
-    parts_silent (fields_of (fragment_fields_at bytes) fragment_in_range) (λ f. sized (least_payload f.0) FRAGMENT_BYTES f.1)
-    (λ f x. datagrams.Fragment (record {
-      replica = f.0.replica;
-      message = f.0.message;
-      index = f.0.index;
-      count = f.0.count;
-      payload = x;
-    })) (λ f x. refl)
+-- what is spelled as a datagram of another kind
+spelled_is : (d : Datagram) → slice_get (spelling d) KIND_PLACE ≡ Some (kind_of d) → is_exchange (kind_of d) ≡ false
+    → IsSilent (reading (spelling d))
+spelled_is d here other =
+    of_kind (kind_of d) (reading (spelling d))
+    (subst (λ (kind : Option ℕ). IsOfKind kind (reading (spelling d))) here (kinds_are_told (spelling d))) other
 
 request_is : (r : Request) → IsSilent (reading (spelling (datagrams.Request r)))
-unfolding reading
-request_is r = request_silent (request_bytes r)
+request_is r = spelled_is (datagrams.Request r) refl refl
 
 stamped_is : (p : Stamped) → IsSilent (reading (spelling (datagrams.Stamped p)))
-unfolding reading
-stamped_is p = stamped_silent (stamped_bytes p)
+stamped_is p = spelled_is (datagrams.Stamped p) refl refl
 
 reply_is : (p : Reply) → IsSilent (reading (spelling (datagrams.Reply p)))
-unfolding reading
-reply_is p = reply_silent (reply_bytes p)
+reply_is p = spelled_is (datagrams.Reply p) refl refl
 
 fragment_is : (f : Fragment) → IsSilent (reading (spelling (datagrams.Fragment f)))
-unfolding reading
-fragment_is f = fragment_silent (fragment_bytes f)
+fragment_is f = spelled_is (datagrams.Fragment f) refl refl
 
 install_is : (k j s : ℕ) → IsSilent (reading (spelling (datagrams.Install k j s)))
-unfolding reading
-install_is k j s =
-    then_silent (install_of (install_bytes k j s)) (λ f. Ok (datagrams.Install f.controller f.sequencer f.session)) (λ f. refl)
+install_is k j s = spelled_is (datagrams.Install k j s) refl refl
 
 installed_is : (k j s : ℕ) → IsSilent (reading (spelling (datagrams.Installed k j s)))
-unfolding reading
-installed_is k j s =
-    then_silent (install_of (install_bytes k j s)) (λ f. Ok (datagrams.Installed f.controller f.sequencer f.session)) (λ f. refl)
+installed_is k j s = spelled_is (datagrams.Installed k j s) refl refl
 
 ping_is : (k j n : ℕ) → IsSilent (reading (spelling (datagrams.Ping k j n)))
-unfolding reading
-ping_is k j n = then_silent (ping_of (ping_bytes k j n)) (λ f. Ok (datagrams.Ping f.controller f.sequencer f.round)) (λ f. refl)
+ping_is k j n = spelled_is (datagrams.Ping k j n) refl refl
 
 pong_is : (k j n : ℕ) → IsSilent (reading (spelling (datagrams.Pong k j n)))
-unfolding reading
-pong_is k j n = then_silent (ping_of (ping_bytes k j n)) (λ f. Ok (datagrams.Pong f.controller f.sequencer f.round)) (λ f. refl)
+pong_is k j n = spelled_is (datagrams.Pong k j n) refl refl
 
 -- ---- outputs that neither ask nor answer
 

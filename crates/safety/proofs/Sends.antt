@@ -1,7 +1,7 @@
 -- What a sequencer, a client or a controller sends is neither a fragment nor an answer, and its lines are those of which the whole
 -- world speaks.
-use Rattle.std.proofs.Common.{◌≡◌, ℕ, ◌+◌, Bool, true, false, cond, List, [], ◌∷◌, ◌++◌, Option, Some, None, map, refl, ap}
-use Rattle.std.specs.Prelude.{Result, Ok, Err, not, filter, ⊤}
+use Rattle.std.proofs.Common.{◌≡◌, ℕ, ◌+◌, Bool, true, false, cond, List, [], ◌∷◌, ◌++◌, Option, Some, None, map, refl, ap, subst}
+use Rattle.std.specs.Prelude.{Result, Ok, Err, not, filter, slice_get, ⊤, ◌==◌, ◌||◌}
 use Rattle.nop_types.specs.Given.{Given, Packet, Ticked}
 use Rattle.nop_types.specs.Lines.{Line}
 use Rattle.nop_types.specs.Lines as lines
@@ -13,15 +13,17 @@ use Rattle.nop_types.specs.declared.datagram.Reply.{Reply}
 use Rattle.nop_types.specs.declared.datagram.Stamped.{Stamped}
 use Rattle.nop_types.specs.declared.input.Tick.{Tick}
 use Rattle.nop_types.specs.declared.input.Tick.TheVariants as ticks
+use Rattle.nop_types.specs.declared.kinds.TheConstants as kinds
+use Rattle.nop_types.specs.declared.kinds.TheConstants.{KIND_PLACE}
 use Rattle.nop_types.specs.declared.output.Actor.{Actor}
 use Rattle.nop_types.specs.declared.output.Out.{Out}
 use Rattle.nop_types.specs.declared.output.Out.TheVariants as outs
 use Rattle.nop_types.specs.declared.request.Request.{Request}
 use Rattle.oum_codec.specs.declared.bad.Bad.{Bad}
-use Rattle.oum_codec.specs.Fixed.{request_fields_at, request_in_range, stamped_fields_at, stamped_in_range, reply_fields_at, reply_in_range}
-use Rattle.oum_codec.specs.Fixed.{read_in_range}
-use Rattle.oum_codec.specs.Reading.{◌>>=◌, fields_of, sized, reading, request_of, stamped_of, reply_of, install_of, ping_of, read_of}
-use Rattle.oum_codec.specs.Spelling.{spelling, request_bytes, stamped_bytes, reply_bytes, install_bytes, ping_bytes, read_bytes}
+use Rattle.oum_codec.specs.Kinds.{IsOfKind, kind_of}
+use Rattle.oum_codec.specs.Reading.{reading}
+use Rattle.oum_codec.specs.Spelling.{spelling}
+use Rattle.oum_codec.proofs.KindBytes.{kinds_are_told}
 use Rattle.client_reads.specs.declared.state.Reads.{Reads}
 use Rattle.client_reads.specs.ReadSteps as asked
 use Rattle.client_reads.specs.Rows as reads
@@ -50,86 +52,44 @@ no_fragment _ e = refl
 abbrev IsOther : Result Datagram Bad → Type 0
 IsOther r = is_apart r ≡ false
 
-then_other : {A : Type 0} (r : Result A Bad) (next : A → Result Datagram Bad) → ((x : A) → IsOther (next x)) → IsOther (r >>= next)
-then_other (Ok x) next h = h x
-then_other (Err e) next h = refl
+abbrev is_other_kind : ℕ → Bool
+is_other_kind kind = not (kind == kinds.FRAGMENT || kind == kinds.ANSWER)
 
--- fields, a part of some size, and a datagram of both
-parts_other : {F : Type 0} (r : Result (F × List ℕ) Bad) (size : F × List ℕ → Result (List ℕ) Bad)
-    (make : F × List ℕ → List ℕ → Datagram) → ((f : F × List ℕ) (x : List ℕ) → IsOther (Ok (make f x)))
-    → IsOther (r >>= λ f. size f >>= λ x. Ok (make f x))
-parts_other r size make h =
-    then_other r (λ f. size f >>= λ x. Ok (make f x)) (λ f. then_other (size f) (λ x. Ok (make f x)) (h f))
+of_kind : (kind : ℕ) (r : Result Datagram Bad) → IsOfKind (Some kind) r → is_other_kind kind ≡ true → IsOther r
+of_kind kind (Ok (datagrams.Fragment f)) is other = absurd (let same : kind ≡ kinds.FRAGMENT = cc in let e = ap is_other_kind same in cc)
+of_kind kind (Ok (datagrams.Answer a)) is other = absurd (let same : kind ≡ kinds.ANSWER = cc in let e = ap is_other_kind same in cc)
+of_kind kind _ is other = refl
 
-request_other : (bytes : List ℕ) → IsOther (request_of bytes)
-unfolding request_of
-request_other bytes =
-    parts_other (fields_of (request_fields_at bytes) request_in_range) (λ f. sized f.0.op_len f.0.op_len f.1)
-    (λ f op. datagrams.Request (record { client = f.0.client; id = f.0.id; op = op })) (λ f x. refl)
-
-stamped_other : (bytes : List ℕ) → IsOther (stamped_of bytes)
-unfolding stamped_of
-stamped_other bytes =
-    parts_other (fields_of (stamped_fields_at bytes) stamped_in_range) (λ f. sized f.0.request.op_len f.0.request.op_len f.1)
-    (λ f op. datagrams.Stamped (record {
-      session = f.0.session;
-      number = f.0.number;
-      request = record { client = f.0.request.client; id = f.0.request.id; op = op };
-    })) (λ f x. refl)
-
-reply_other : (bytes : List ℕ) → IsOther (reply_of bytes)
-unfolding reply_of
-reply_other bytes =
-    parts_other (fields_of (reply_fields_at bytes) reply_in_range) (λ f. sized f.0.result_len f.0.result_len f.1)
-    (λ f x. datagrams.Reply (record {
-      replica = f.0.replica;
-      view = f.0.view;
-      slot = f.0.slot;
-      client = f.0.client;
-      id = f.0.id;
-      tag = f.0.tag;
-      result = x;
-    })) (λ f x. refl)
-
-read_other : (bytes : List ℕ) → IsOther (read_of bytes)
-unfolding read_of
-read_other bytes =
-    parts_other (fields_of (request_fields_at bytes) read_in_range) (λ f. sized f.0.op_len f.0.op_len f.1)
-    (λ f key. datagrams.Read (record { client = f.0.client; id = f.0.id; key = key })) (λ f x. refl)
+-- what is spelled as one of them
+spelled_is : (d : Datagram) → slice_get (spelling d) KIND_PLACE ≡ Some (kind_of d) → is_other_kind (kind_of d) ≡ true
+    → IsOther (reading (spelling d))
+spelled_is d here other =
+    of_kind (kind_of d) (reading (spelling d))
+    (subst (λ (kind : Option ℕ). IsOfKind kind (reading (spelling d))) here (kinds_are_told (spelling d))) other
 
 pub request_is : (r : Request) → IsOther (reading (spelling (datagrams.Request r)))
-unfolding reading
-request_is r = request_other (request_bytes r)
+request_is r = spelled_is (datagrams.Request r) refl refl
 
 pub stamped_is : (p : Stamped) → IsOther (reading (spelling (datagrams.Stamped p)))
-unfolding reading
-stamped_is p = stamped_other (stamped_bytes p)
+stamped_is p = spelled_is (datagrams.Stamped p) refl refl
 
 pub reply_is : (p : Reply) → IsOther (reading (spelling (datagrams.Reply p)))
-unfolding reading
-reply_is p = reply_other (reply_bytes p)
+reply_is p = spelled_is (datagrams.Reply p) refl refl
 
 pub install_is : (k j s : ℕ) → IsOther (reading (spelling (datagrams.Install k j s)))
-unfolding reading
-install_is k j s =
-    then_other (install_of (install_bytes k j s)) (λ f. Ok (datagrams.Install f.controller f.sequencer f.session)) (λ f. refl)
+install_is k j s = spelled_is (datagrams.Install k j s) refl refl
 
 pub installed_is : (k j s : ℕ) → IsOther (reading (spelling (datagrams.Installed k j s)))
-unfolding reading
-installed_is k j s =
-    then_other (install_of (install_bytes k j s)) (λ f. Ok (datagrams.Installed f.controller f.sequencer f.session)) (λ f. refl)
+installed_is k j s = spelled_is (datagrams.Installed k j s) refl refl
 
 pub ping_is : (k j n : ℕ) → IsOther (reading (spelling (datagrams.Ping k j n)))
-unfolding reading
-ping_is k j n = then_other (ping_of (ping_bytes k j n)) (λ f. Ok (datagrams.Ping f.controller f.sequencer f.round)) (λ f. refl)
+ping_is k j n = spelled_is (datagrams.Ping k j n) refl refl
 
 pub pong_is : (k j n : ℕ) → IsOther (reading (spelling (datagrams.Pong k j n)))
-unfolding reading
-pong_is k j n = then_other (ping_of (ping_bytes k j n)) (λ f. Ok (datagrams.Pong f.controller f.sequencer f.round)) (λ f. refl)
+pong_is k j n = spelled_is (datagrams.Pong k j n) refl refl
 
 pub read_is : (r : Read) → IsOther (reading (spelling (datagrams.Read r)))
-unfolding reading
-read_is r = read_other (read_bytes r)
+read_is r = spelled_is (datagrams.Read r) refl refl
 
 -- ---- outputs without fragments and answers
 
