@@ -5,5 +5,4 @@ pub mod FixedFields
 pub mod KindBytes
 pub mod Numbers
 pub mod PartBytes
-pub mod Places
 pub mod Steps
