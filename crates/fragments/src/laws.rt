@@ -11,21 +11,14 @@ ghost use Rattle.fragments.specs.Runs.{AreCutFrom, WasSent, WaitingFits, CanBeCu
 
 use nop_types::{FRAGMENT_BYTES, MAX_FRAGMENTS};
 
-/// Nothing is kept at the opening, so all of it came in any fragments.
-pub fn opening_came()
-    ensures { (net : List Fragment) (n : ℕ) → AllCame net (opening n) }
-{}
-
-/// What came in some fragments came in these and more.
-pub fn stays_came()
-    ensures { (net more : List Fragment) (all : List Waiting) → AllCame net all
-        → AllCame (net ++ more) all }
-{}
-
-/// Where all that is kept came in the fragments of a list, so it is after one more of them; and where bytes are answered,
-/// for each index below the count a fragment of that sender, number, count and index with that part is in the list.
+/// Nothing is kept at the opening, so all of it came in any fragments. What came in some fragments came in these and more. Where all
+/// that is kept came in the fragments of a list, so it is after one more of them; and where bytes are answered, for each index below
+/// the count a fragment of that sender, number, count and index with that part is in the list.
 pub fn keeps_what_came()
-    ensures { (net : List Fragment) (all : List Waiting) (f : Fragment) → Has net f
+    ensures opening { (net : List Fragment) (n : ℕ) → AllCame net (opening n) }
+    ensures more { (net more : List Fragment) (all : List Waiting) → AllCame net all
+        → AllCame (net ++ more) all }
+    ensures taken { (net : List Fragment) (all : List Waiting) (f : Fragment) → Has net f
         → AllCame net all →
         StepKeeps net f (taken all f) }
 {}
@@ -37,17 +30,12 @@ pub fn answers_what_came()
 {}
 
 /// Where each fragment of a list was cut by its sender, and no sender used a number twice, bytes that came in them are one
-/// message, which its sender sent.
-pub fn joins_what_was_sent()
-    ensures { (sent : List Sent) (net : List Fragment) (f : Fragment) (bytes : List ℕ) →
+/// message, which its sender sent. So is what is answered after any that were taken.
+pub fn answers_what_was_sent()
+    ensures joined { (sent : List Sent) (net : List Fragment) (f : Fragment) (bytes : List ℕ) →
         AreDistinct sent → AreCutFrom sent net → Has net f → CameInParts net f bytes →
         WasSent sent f bytes }
-{}
-
-/// Where each fragment that was taken was cut by its sender, and no sender used a number twice, what is answered is one
-/// message, which its sender sent.
-pub fn answers_what_was_sent()
-    ensures { (sent : List Sent) (n : ℕ) (past : List Fragment) (f : Fragment)
+    ensures answered { (sent : List Sent) (n : ℕ) (past : List Fragment) (f : Fragment)
         (bytes : List ℕ) →
         AreDistinct sent → AreCutFrom sent (past ++ f ∷ []) →
         (taken (after n past) f).1 ≡ Some bytes →

@@ -12,8 +12,8 @@
 //! most 1,400 bytes (`stays_within_limits`).
 //!
 //! Calls: `cut`; `Reassembly::new`, `take`, `senders`, `held` (the bytes that are kept of a
-//! sender). Laws for the proofs above are `keeps_what_came`, `joins_what_was_sent`,
-//! `message_within_limit_is_cut`, `cut_fragments_fit` and those beside them.
+//! sender). Laws for the proofs above are `keeps_what_came`, `message_within_limit_is_cut`,
+//! `cut_fragments_fit` and those beside them.
 //!
 //! Files: `cutting`; `reassembly`, `queue` (one sender), `unfinished` (one message). Definitions:
 //! `specs/Cutting`, `Joining`, `Runs`.
@@ -30,7 +30,6 @@ pub use cut_error::CutError;
 pub use cutting::cut;
 pub use laws::{
     answers_what_came, answers_what_was_sent, cut_fragments_fit, cut_is_joined,
-    fitting_is_in_range, joins_what_was_sent, keeps_what_came, message_within_limit_is_cut,
-    opening_came, stays_came, stays_within_limits,
+    fitting_is_in_range, keeps_what_came, message_within_limit_is_cut, stays_within_limits,
 };
 pub use reassembly::Reassembly;
