@@ -2,15 +2,15 @@
 
 ghost use Rattle.std.specs.Prelude.{◌≤◌, ◌+◌, length, IfOk};
 ghost use Rattle.std.specs.Int.{w16, w32};
-ghost use Rattle.nop_types.specs.declared.limits.TheConstants.{MAX_HOST_BYTES, MAX_LENGTH, MAX_RESULT_BYTES};
+ghost use Rattle.nop_types.specs.declared.limits.TheConstants.{MAX_HOST_BYTES, MAX_LENGTH};
 ghost use Rattle.nop_types.specs.declared.limits.TheConstants.{MAX_SERVED, MAX_SLOTS};
 ghost use Rattle.peer_codec.specs.Answers.{GivesBy};
-ghost use Rattle.peer_codec.specs.Fields.{sender_at, view_at, slot_at, next_at, length_at, count_at, id_at, counted_at, op_at};
-ghost use Rattle.peer_codec.specs.Fields.{request_at, host_at, served_at, client_at, kept_count_at, kept_id_at, result_at};
+ghost use Rattle.peer_codec.specs.Fields.{sender_at, view_at, slot_at, next_at, length_at, count_at, id_at, counted_at};
+ghost use Rattle.peer_codec.specs.Fields.{request_at, host_at, served_at, client_at, kept_count_at, kept_id_at};
 
 use crate::BadPeer;
 use nop_types::{
-    Bytes, MAX_HOST_BYTES, MAX_LENGTH, MAX_OP_BYTES, MAX_REPLICAS, MAX_RESULT_BYTES, MAX_SERVED,
+    Bytes, MAX_HOST_BYTES, MAX_LENGTH, MAX_OP_BYTES, MAX_REPLICAS, MAX_SERVED,
     MAX_SLOTS, NUMBER_END, Op, Request, View, WINDOW,
 };
 use oum_codec::{split_bytes, split_u8, split_u16, split_u32, split_u64, split_view};
@@ -110,7 +110,7 @@ pub fn split_id(bytes: &[u8]) -> Result<(u64, &[u8]), BadPeer>
 
 /// A length in two bytes, and that many bytes, at most `most`.
 #[tactic(auto, unfolding(crate::specs::Fields::counted_at))]
-fn split_short(most: usize, bytes: &[u8]) -> Result<(&[u8], &[u8]), BadPeer>
+pub fn split_short(most: usize, bytes: &[u8]) -> Result<(&[u8], &[u8]), BadPeer>
     ensures exact { GivesBy (λ x. (x.0.now, x.1.now)) result (counted_at w16 most bytes.now) }
     ensures small { IfOk result (λ x. length x.0.now ≤ most) }
 {
@@ -124,13 +124,6 @@ fn split_short(most: usize, bytes: &[u8]) -> Result<(&[u8], &[u8]), BadPeer>
     split_bytes(rest, len).ok_or(BadPeer::Short)
 }
 
-fn split_op(alloc: Global, bytes: &[u8]) -> Result<(Op, &[u8]), BadPeer>
-    ensures { GivesBy (λ x. (x.0, x.1.now)) result (op_at bytes.now) }
-{
-    let (op, rest) = split_short(MAX_OP_BYTES, bytes)?;
-    Ok((Op::new(alloc, op)?, rest))
-}
-
 #[tactic(auto, unfolding(crate::specs::Fields::request_at))]
 pub fn split_request(alloc: Global, bytes: &[u8]) -> Result<(Request, &[u8]), BadPeer>
     ensures { GivesBy (λ x. (x.0, x.1.now)) result (request_at bytes.now) }
@@ -139,7 +132,8 @@ pub fn split_request(alloc: Global, bytes: &[u8]) -> Result<(Request, &[u8]), Ba
         return Err(BadPeer::Short);
     };
     let (id, rest) = split_id(rest)?;
-    let (op, rest) = split_op(alloc, rest)?;
+    let (op, rest) = split_short(MAX_OP_BYTES, rest)?;
+    let op = Op::new(alloc, op)?;
     Ok((Request { client, id, op }, rest))
 }
 
@@ -217,11 +211,4 @@ pub fn split_kept_id(least: u128, greatest: u64, bytes: &[u8]) -> Result<(u64, &
         return Err(BadPeer::Field);
     }
     Ok((id, rest))
-}
-
-pub fn split_result(alloc: Global, bytes: &[u8]) -> Result<(Bytes, &[u8]), BadPeer>
-    ensures { GivesBy (λ x. (x.0, x.1.now)) result (result_at bytes.now) }
-{
-    let (result, rest) = split_short(MAX_RESULT_BYTES, bytes)?;
-    Ok((Bytes::new(alloc, result)?, rest))
 }

@@ -10,10 +10,10 @@ ghost use Rattle.nop_types.specs.Checkpoints.{saved_account};
 ghost use Rattle.oum_codec.specs.Spelling.{request_bytes};
 ghost use Rattle.peer_codec.specs.LogBodies.{log_in, with_log};
 ghost use Rattle.peer_codec.specs.Spelling.{entry_bytes, entries_bytes, answered_bytes, account_bytes, accounts_bytes};
-ghost use Rattle.peer_codec.specs.Spelling.{checkpoint_bytes, optional_bytes, log_bytes, body_bytes, spelling};
+ghost use Rattle.peer_codec.specs.Spelling.{checkpoint_bytes, optional_bytes, log_bytes, body_bytes};
 
 use crate::LogBody;
-use nop_types::{Answered, Body, Checkpoint, Entry, LogRef, Peer, Request, SavedClient};
+use nop_types::{Answered, Body, Checkpoint, Entry, LogRef, Request, SavedClient};
 
 /// The bytes of a spelling before the fields of its kind: kind, sender and view.
 pub const HEAD_BYTES: usize = 14;
@@ -126,7 +126,7 @@ fn log_len(log: LogRef<'_>) -> usize
 }
 
 #[tactic(auto, using(crate::proofs::SpelledLengths::body_lens))]
-fn body_len(body: &Body) -> usize
+pub fn body_len(body: &Body) -> usize
     ensures exact { result ≡ length (body_bytes body.now) }
     ensures small { result ≤ 36 + MAX_HOST_BYTES
         + MAX_SERVED * (13 + WINDOW * (10 + MAX_RESULT_BYTES))
@@ -144,13 +144,6 @@ fn body_len(body: &Body) -> usize
         Body::StartView { log, .. } => 8 + log_len(log.as_ref()),
         Body::SyncPrepare(log) => log_len(log.as_ref()),
     }
-}
-
-#[tactic(auto, using(crate::proofs::SpelledLengths::spelling_len))]
-pub fn spelled_len(message: &Peer) -> usize
-    ensures { result ≡ length (spelling message.now) }
-{
-    HEAD_BYTES + body_len(&message.body)
 }
 
 #[tactic(auto, using(crate::proofs::SpelledLengths::body_lens))]

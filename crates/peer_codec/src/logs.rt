@@ -10,9 +10,9 @@ ghost use Rattle.peer_codec.specs.Logs.{accounts_at, checkpoint_at, optional_at,
 use crate::BadPeer;
 use crate::fields::{
     split_client, split_count, split_host, split_id, split_kept_count, split_kept_id, split_length,
-    split_request, split_result, split_served,
+    split_request, split_served, split_short,
 };
-use nop_types::{Answered, Checkpoint, Entry, Log, SavedClient, WINDOW};
+use nop_types::{Answered, Bytes, Checkpoint, Entry, Log, MAX_RESULT_BYTES, SavedClient, WINDOW};
 use std::alloc::Global;
 
 /// With tag 0 a NO-OP, with tag 1 a request.
@@ -58,7 +58,8 @@ fn split_answered(
     ensures { GivesBy (λ x. (x.0, x.1.now)) result (answered_at least greatest bytes.now) }
 {
     let (id, rest) = split_kept_id(least, greatest, bytes)?;
-    let (result, rest) = split_result(alloc, rest)?;
+    let (result, rest) = split_short(MAX_RESULT_BYTES, rest)?;
+    let result = Bytes::new(alloc, result)?;
     Ok((Answered { id, result }, rest))
 }
 

@@ -14,7 +14,7 @@ ghost use Rattle.peer_codec.specs.Spelling.{checkpoint_bytes, optional_bytes, lo
 ghost use Rattle.peer_codec.specs.Spelling.{spelling};
 
 use crate::LogBody;
-use crate::lengths::{HEAD_BYTES, log_body_len, spelled_len};
+use crate::lengths::{HEAD_BYTES, body_len, log_body_len};
 use nop_types::{
     Answered, Body, Checkpoint, Entry, LogRef, NoMemory, Peer, SavedClient, View, kinds,
 };
@@ -264,7 +264,7 @@ pub fn encode_peer(alloc: Global, message: &Peer, to: &mut Vec<u8>) -> Result<()
     ensures ok { OnOk result (to.new.items ≡ to.old.items ++ spelling message.now) }
     ensures err { OnErr result (to.new.items ≡ to.old.items) }
 {
-    let mut bytes = Vec::with_capacity(alloc, spelled_len(message))?;
+    let mut bytes = Vec::with_capacity(alloc, HEAD_BYTES + body_len(&message.body))?;
     put_head(
         &mut bytes,
         kind_of(&message.body),
