@@ -7,46 +7,14 @@ ghost use Rattle.picture.specs.Texts.{Grows};
 ghost use Rattle.schedule_text.specs.EventText.{named_controller, tick_text, HasLine, HasWord};
 ghost use Rattle.transcript_text.specs.LineText.{after_space};
 ghost use Rattle.transcript_text.specs.Transcript.{actor_text};
-ghost use Rattle.world.specs.WorldSteps.{actor_of};
 ghost use Rattle.drawing.specs.Words.{shown_text};
 
 use nop_types::{Actor, NoMemory, Tick};
 use op_text::OpText;
 use picture::Text;
 use picture_labels::{put_key, put_op};
-use schedule_text::Event;
+use schedule_text::{Event, tick_word};
 use std::alloc::Global;
-
-/// The actor whose step an event is.
-pub fn actor_of(event: &Event) -> Actor
-    ensures { result ≡ actor_of event.now }
-{
-    match event {
-        Event::Submit(client, _) => Actor::Client(*client),
-        Event::Install(controller, _) => Actor::Controller(*controller),
-        Event::Read(client, _, _) => Actor::Client(*client),
-        Event::Deliver(_, actor)
-        | Event::Tick(actor, _)
-        | Event::Crash(actor)
-        | Event::Junk(actor, _) => *actor,
-    }
-}
-
-/// The word of a tick that a schedule may give.
-fn tick_word(tick: Tick) -> &'static str
-    ensures { HasWord tick → result.now ≡ tick_text tick }
-{
-    match tick {
-        Tick::Suspect => "suspect",
-        Tick::Watch => "watch",
-        Tick::Resend => "resend",
-        Tick::Sync => "sync",
-        Tick::Retry => "retry",
-        Tick::Next => "next",
-        Tick::Probe => "probe",
-        Tick::Install(_) => "install",
-    }
-}
 
 /// A space and the name of an actor.
 fn put_actor(actor: Actor, to: &mut Text)

@@ -34,7 +34,7 @@ ghost use Rattle.drawing.specs.Gathered.{
 };
 ghost use Rattle.drawing.specs.Rows.{AddsFlight, AddsRow};
 
-use crate::events::{actor_of, event_text, put_submitted};
+use crate::events::{event_text, put_submitted};
 use crate::notes::Notes;
 use crate::standing::{Standing, put_changes, role};
 use nop_types::{Actor, Config, Dest, NoMemory};
@@ -44,6 +44,7 @@ use picture_arrows::{Crash, Flight, Leg, actors, deliver, lanes, losses};
 use picture_labels::Label;
 use schedule_text::Event;
 use std::alloc::Global;
+use world::actor_of;
 
 /// The actor whose step an event is, the row of the event, and how many datagrams were sent before.
 #[derive(Clone, Copy)]

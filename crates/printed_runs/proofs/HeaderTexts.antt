@@ -20,7 +20,7 @@ use Rattle.trace_text.specs.Traces.{header_line}
 use Rattle.transcript_rows.proofs.RowLines.{header_is_line}
 use Rattle.transcript_rows.proofs.RowTexts.{Forms, forms, counted, header_fields, header_marked, spelled_header, whole_header}
 use Rattle.transcript_text.specs.LineText.{after_space}
-use Rattle.transcript_text.specs.Transcript.{transcript_line}
+use Rattle.transcript_text.specs.Transcript.{counts_line, transcript_line}
 
 -- the line without its end: the fields behind the word are those of the first line of a transcript
 unfoldable pub first_line : Header → List ℕ
@@ -32,7 +32,7 @@ unfolding spelled_header
 behind_word h e = ap (drop 10) (whole_header h e)
 
 pub first_line_whole : (h : Header) → is_header h ≡ true → header_line h.form h.config ≡ first_line h ++ 10 ∷ []
-unfolding header_line transcript_line first_line
+unfolding header_line transcript_line counts_line first_line
 first_line_whole h e = ap (λ (xs : List ℕ). codes "nopaxos" ++ xs) (behind_word h e)
 
 -- ---- its bytes

@@ -2,29 +2,15 @@
 
 ghost use Rattle.std.specs.Prelude.{◌≡◌, ◌++◌, ◌∷◌, [], codes, OnOk, OnErr};
 ghost use Rattle.hex.specs.Hex.{IsBytes};
-ghost use Rattle.schedule_text.specs.EventText.{HasWord, HasLine, tick_text, event_word};
+ghost use Rattle.schedule_text.specs.EventText.{HasLine, event_word};
 ghost use Rattle.schedule_text.specs.EventText.{event_fields, event_text, Means, IsTyped};
 ghost use Rattle.schedule_text.specs.EventText.{IsTypedKey};
 ghost use Rattle.transcript_text.specs.LineText.{line_of};
 
 use crate::event::Event;
-use nop_types::{Actor, Key, NoMemory, Tick};
+use crate::ticks::tick_word;
+use nop_types::{Actor, Key, NoMemory};
 use transcript_text::{Field, write_line};
-
-fn tick_word(tick: Tick) -> &'static str
-    requires { HasWord tick }
-    ensures { result.now ≡ tick_text tick }
-{
-    match tick {
-        Tick::Suspect => "suspect",
-        Tick::Watch => "watch",
-        Tick::Resend => "resend",
-        Tick::Sync => "sync",
-        Tick::Retry => "retry",
-        Tick::Probe => "probe",
-        Tick::Next | Tick::Install(_) => unreachable!(),
-    }
-}
 
 fn are_bytes(bytes: &[u8])
     ensures { IsBytes bytes.now }

@@ -17,7 +17,7 @@
 //!
 //! Calls: `Reader::new`, `open` (line 1), `next`, `has_line` (whether `next` will leave the source
 //! as it is), `config`, `form`, `line`; `Event`; `Rule::number`; `event_line`; `takes_tick`, which
-//! ticks a schedule may give.
+//! ticks a schedule may give; `tick_named`, `tick_word`.
 //!
 //! Where a line ends, and when it is decided, is said in `line_reader`, which cuts them.
 //!
@@ -44,4 +44,4 @@ pub use laws::{read_events_fit, read_headers_fit, read_junk_fits};
 pub use next_error::NextError;
 pub use reader::Reader;
 pub use rule::Rule;
-pub use ticks::takes_tick;
+pub use ticks::{takes_tick, tick_named, tick_word};

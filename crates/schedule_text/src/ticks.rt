@@ -1,6 +1,7 @@
-//! The ticks that a schedule may give.
+//! The ticks that a schedule may give, and their words.
 
 ghost use Rattle.std.specs.Prelude.{◌≡◌};
+ghost use Rattle.schedule_text.specs.EventText.{HasWord, tick_text};
 ghost use Rattle.schedule_text.specs.Ticks.{tick_named, takes_tick};
 
 use line_fields::is_word;
@@ -29,6 +30,22 @@ pub fn tick_named(field: &[u8]) -> Option<Tick>
         return Some(Tick::Probe);
     }
     None
+}
+
+/// The word of a tick that a schedule may give.
+pub fn tick_word(tick: Tick) -> &'static str
+    ensures { HasWord tick → result.now ≡ tick_text tick }
+{
+    match tick {
+        Tick::Suspect => "suspect",
+        Tick::Watch => "watch",
+        Tick::Resend => "resend",
+        Tick::Sync => "sync",
+        Tick::Retry => "retry",
+        Tick::Next => "next",
+        Tick::Probe => "probe",
+        Tick::Install(_) => "install",
+    }
 }
 
 /// Whether a schedule may give the actor this tick. No actor is given Next, which is a timer of

@@ -1,38 +1,12 @@
-//! Ticks, numbers and bytes.
+//! Numbers and bytes.
 
 ghost use Rattle.std.specs.Prelude.{◌≡◌, ◌≤◌, IfOk};
 ghost use Rattle.nop_types.specs.declared.limits.TheConstants as limits;
-ghost use Rattle.schedule_text.specs.Ticks.{tick_named};
 ghost use Rattle.trace_rows.specs.Reading.{bytes_within, id_of, position_of};
 
-use line_fields::{is_word, number};
-use nop_types::{Bytes, MAX_OP_BYTES, NoMemory, Op, Tick};
+use line_fields::number;
+use nop_types::{Bytes, MAX_OP_BYTES, NoMemory, Op};
 use std::alloc::Global;
-
-/// The tick that a word names.
-pub(crate) fn tick(field: &[u8]) -> Option<Tick>
-    ensures { result ≡ tick_named field.now }
-{
-    if is_word(field, "suspect") {
-        return Some(Tick::Suspect);
-    }
-    if is_word(field, "watch") {
-        return Some(Tick::Watch);
-    }
-    if is_word(field, "resend") {
-        return Some(Tick::Resend);
-    }
-    if is_word(field, "sync") {
-        return Some(Tick::Sync);
-    }
-    if is_word(field, "retry") {
-        return Some(Tick::Retry);
-    }
-    if is_word(field, "probe") {
-        return Some(Tick::Probe);
-    }
-    None
-}
 
 /// A number of 64 bits from 1.
 pub(crate) fn id(field: &[u8]) -> Option<u64>

@@ -7,11 +7,12 @@ ghost use Rattle.nop_types.specs.declared.limits.TheConstants as limits;
 ghost use Rattle.trace_rows.specs.Reading.{bytes_within, read_taken, short_taken, taken_of};
 ghost use Rattle.trace_rows.specs.declared.row.Taken.TheVariants as ins;
 
-use crate::fields::{bytes, op, tick};
+use crate::fields::{bytes, op};
 use crate::names::{observer, sequencer};
 use crate::row::Taken;
 use line_fields::{is_word, key, next_field};
 use nop_types::{MAX_DATAGRAM_BYTES, NoMemory};
+use schedule_text::tick_named;
 use std::alloc::Global;
 
 /// `packet HEX`
@@ -54,7 +55,7 @@ fn short(alloc: Global, word: &[u8], field: &[u8]) -> Result<Option<Taken>, NoMe
     ensures { IfOk result (λ taken. taken ≡ short_taken word.now field.now) }
 {
     if is_word(word, "tick") {
-        return match tick(field) {
+        return match tick_named(field) {
             Some(tick) => Ok(Some(Taken::Tick(tick))),
             None => Ok(None),
         };

@@ -1,2 +1,1 @@
-pub mod HeaderLines
 pub mod Texts

@@ -10,7 +10,7 @@ use Rattle.nop_types.specs.declared.output.Out.{Out}
 use Rattle.nop_types.specs.declared.output.Out.TheVariants as outs
 use Rattle.schedule_text.specs.EventText.{tick_text}
 use Rattle.transcript_text.specs.LineText.{line_of}
-use Rattle.transcript_text.specs.Transcript.{actor_text, dest_text, hex_text, observer_text, controllers_text, watching_text, line_end}
+use Rattle.transcript_text.specs.Transcript.{actor_text, dest_text, hex_text, observer_text, counts_line}
 
 -- ---- what a step took
 
@@ -85,6 +85,4 @@ trace_lines actor x os = step_lines actor (taken x os) os
 
 -- which a whole trace begins with; a header of form 1 has no count of controllers, and form 3 alone has one of observers
 unfoldable pub header_line : ℕ → Configuration → List ℕ
-header_line form c = codes "nopaxos " ++ decimal form ++ codes " replicas " ++ decimal c.replicas ++ codes " sequencers "
-    ++ decimal c.sequencers ++ codes " clients " ++ decimal c.clients ++ controllers_text form c.controllers
-    ++ watching_text form c.observers ++ line_end
+header_line form c = counts_line (codes "nopaxos") form c

@@ -5,12 +5,12 @@ ghost use Rattle.std.specs.Prelude.{OnOk, OnErr, MatchOption};
 ghost use Rattle.std.specs.List.{concat};
 ghost use Rattle.nop_types.specs.Given.{Submit, Ticked, given};
 ghost use Rattle.nop_types.specs.Lists.{IsPrefixOf};
-ghost use Rattle.schedule_text.specs.EventText.{HasWord, tick_text};
 ghost use Rattle.trace_text.specs.Traces.{asked_or, in_line, out_line, out_lines};
 ghost use Rattle.trace_text.specs.Traces.{out_text, submitted, taken, trace_lines};
 ghost use Rattle.transcript_text.specs.Transcript.{dest_text, hex_text, observer_text};
 
 use nop_types::{Actor, Dest, Input, NoMemory, Op, Out, Tick};
+use schedule_text::tick_word;
 use transcript_text::{Field, write_line};
 
 // ---- what a step took
@@ -53,21 +53,6 @@ fn taken<'a>(input: Input<'a>, outs: &'a [Out]) -> Option<Input<'a>>
 }
 
 // ---- its lines
-
-fn tick_word(tick: Tick) -> &'static str
-    requires { HasWord tick }
-    ensures { result.now ≡ tick_text tick }
-{
-    match tick {
-        Tick::Suspect => "suspect",
-        Tick::Watch => "watch",
-        Tick::Resend => "resend",
-        Tick::Sync => "sync",
-        Tick::Retry => "retry",
-        Tick::Probe => "probe",
-        Tick::Next | Tick::Install(_) => unreachable!(),
-    }
-}
 
 /// No line for the tick Next.
 fn put_tick(actor: Actor, tick: Tick, to: &mut Vec<u8>) -> Result<(), NoMemory>

@@ -32,7 +32,8 @@ use Rattle.transcript_rows.specs.Reading.{IsRowOf, IsHeaderOf, ◌>>=◌}
 use Rattle.transcript_rows.specs.Rows.{row_word, row_fields, row_text, row_fits, actor_fits, dest_fits, pair_fits, request_fits}
 use Rattle.transcript_rows.specs.Rows.{entry_fits, request_fields, entry_fields, IsTypedRequest, IsTypedEntry, IsTyped, RowFits}
 use Rattle.transcript_text.specs.LineText.{after_space}
-use Rattle.transcript_text.specs.Transcript.{actor_text, client_text, dest_text, hex_text, kind_text, phase_text, up_text, transcript_line}
+use Rattle.transcript_text.specs.Transcript.{actor_text, client_text, dest_text, hex_text, kind_text, phase_text, up_text}
+use Rattle.transcript_text.specs.Transcript.{transcript_line}
 use Rattle.transcript_text.proofs.LineLemmas.{first_form, second_form, third_form}
 use Rattle.nop_types.specs.Configuration.{Configuration, is_configuration}
 use Rattle.nop_types.specs.Headers.{gives, is_header}
@@ -416,14 +417,14 @@ pub counted : (h : Header) → is_header h ≡ true → is_configuration h.confi
 counted h e = (and_parts (gives h.form h.config) (is_configuration h.config) e).1
 
 pub whole_header : (h : Header) → is_header h ≡ true → transcript_line h.form h.config ≡ spelled_header h ++ 10 ∷ []
-unfolding spelled_header header_fields
+unfolding transcript_line spelled_header header_fields
 whole_header h e = by_form h.form h.config (forms h e)
   where
     by_form : (form : ℕ) (c : Configuration) → Forms (record { form = form; config = c })
         → transcript_line form c ≡ spelled_header (record { form = form; config = c }) ++ 10 ∷ []
-    by_form form c (inl three) = rw three (sym (third_form 3 c (λ same. omega (arith, same)) (λ same. omega (arith, same))))
-    by_form form c (inr (inl two)) = rw two.0 (sym (second_form c))
-    by_form form c (inr (inr one)) = rw one.0 (sym (first_form c))
+    by_form form c (inl three) = rw three (sym (third_form (codes "transcript") 3 c (λ same. omega (arith, same)) (λ same. omega (arith, same))))
+    by_form form c (inr (inl two)) = rw two.0 (sym (second_form (codes "transcript") c))
+    by_form form c (inr (inr one)) = rw one.0 (sym (first_form (codes "transcript") c))
 
 found_again : (form : ℕ) (made c : Configuration) → made ≡ c → is_configuration c ≡ true
     → (if◌then◌else◌ {A = Option Header} (is_configuration made) (Some (record { form = form; config = made })) None)

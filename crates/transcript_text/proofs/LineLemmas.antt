@@ -10,56 +10,56 @@ use Rattle.nop_types.specs.declared.replica_state.Phase.{Phase}
 use Rattle.nop_types.specs.declared.view.View.{View}
 use Rattle.transcript_text.specs.LineText.{line_of}
 use Rattle.transcript_text.specs.Transcript.{actor_text, dest_text, hex_text, kind_text, phase_text, up_text, send_line, answer_line, replica_line}
-use Rattle.transcript_text.specs.Transcript.{controllers_text, watching_text, line_end, observer_line, transcript_line}
+use Rattle.transcript_text.specs.Transcript.{controllers_text, watching_text, line_end, observer_line, counts_line}
 
-pub first_form : (c : Configuration) →
-    line_of (codes "transcript") (decimal 1 ∷ codes "replicas" ∷ decimal c.replicas ∷ codes "sequencers" ∷ decimal c.sequencers ∷ codes
-    "clients" ∷ decimal c.clients ∷ []) ≡ transcript_line 1 c
-unfolding transcript_line
-first_form c = simp append_assoc
+pub first_form : (word : List ℕ) (c : Configuration) →
+    line_of word (decimal 1 ∷ codes "replicas" ∷ decimal c.replicas ∷ codes "sequencers" ∷ decimal c.sequencers ∷ codes
+    "clients" ∷ decimal c.clients ∷ []) ≡ counts_line word 1 c
+unfolding counts_line
+first_form word c = simp append_assoc
 
-abbrev three_counts : ℕ → Configuration → List ℕ
-three_counts form c = codes "transcript " ++ decimal form ++ codes " replicas " ++ decimal c.replicas ++ codes " sequencers "
+abbrev three_counts : List ℕ → ℕ → Configuration → List ℕ
+three_counts word form c = word ++ codes " " ++ decimal form ++ codes " replicas " ++ decimal c.replicas ++ codes " sequencers "
     ++ decimal c.sequencers ++ codes " clients " ++ decimal c.clients
 
-four_counts : (form : ℕ) (c : Configuration) →
-    line_of (codes "transcript") (decimal form ∷ codes "replicas" ∷ decimal c.replicas ∷ codes "sequencers" ∷ decimal c.sequencers ∷ codes
+four_counts : (word : List ℕ) (form : ℕ) (c : Configuration) →
+    line_of word (decimal form ∷ codes "replicas" ∷ decimal c.replicas ∷ codes "sequencers" ∷ decimal c.sequencers ∷ codes
     "clients" ∷ decimal c.clients ∷ codes "controllers" ∷ decimal c.controllers ∷ [])
-    ≡ three_counts form c ++ codes " controllers " ++ decimal c.controllers ++ line_end
-four_counts form c = simp append_assoc
+    ≡ three_counts word form c ++ codes " controllers " ++ decimal c.controllers ++ line_end
+four_counts word form c = simp append_assoc
 
 nothing_more : (a b c : List ℕ) → a ++ b ++ c ≡ a ++ (b ++ c) ++ []
 nothing_more a b c = simp (append_assoc, append-nil)
 
-pub second_form : (c : Configuration) →
-    line_of (codes "transcript") (decimal 2 ∷ codes "replicas" ∷ decimal c.replicas ∷ codes "sequencers" ∷ decimal c.sequencers ∷ codes
-    "clients" ∷ decimal c.clients ∷ codes "controllers" ∷ decimal c.controllers ∷ []) ≡ transcript_line 2 c
-unfolding transcript_line
-second_form c =
-    four_counts 2 c
-    ∙ ap (λ (text : List ℕ). text ++ line_end) (nothing_more (three_counts 2 c) (codes " controllers ") (decimal c.controllers))
+pub second_form : (word : List ℕ) (c : Configuration) →
+    line_of word (decimal 2 ∷ codes "replicas" ∷ decimal c.replicas ∷ codes "sequencers" ∷ decimal c.sequencers ∷ codes
+    "clients" ∷ decimal c.clients ∷ codes "controllers" ∷ decimal c.controllers ∷ []) ≡ counts_line word 2 c
+unfolding counts_line
+second_form word c =
+    four_counts word 2 c
+    ∙ ap (λ (text : List ℕ). text ++ line_end) (nothing_more (three_counts word 2 c) (codes " controllers ") (decimal c.controllers))
 
-all_counts : (form : ℕ) (c : Configuration) →
-    line_of (codes "transcript") (decimal form ∷ codes "replicas" ∷ decimal c.replicas ∷ codes "sequencers" ∷ decimal c.sequencers ∷ codes
+all_counts : (word : List ℕ) (form : ℕ) (c : Configuration) →
+    line_of word (decimal form ∷ codes "replicas" ∷ decimal c.replicas ∷ codes "sequencers" ∷ decimal c.sequencers ∷ codes
     "clients" ∷ decimal c.clients ∷ codes "controllers" ∷ decimal c.controllers ∷ codes "observers" ∷ decimal c.observers ∷ [])
-    ≡ three_counts form c ++ codes " controllers " ++ decimal c.controllers ++ codes " observers " ++ decimal c.observers ++ line_end
-all_counts form c = simp append_assoc
+    ≡ three_counts word form c ++ codes " controllers " ++ decimal c.controllers ++ codes " observers " ++ decimal c.observers ++ line_end
+all_counts word form c = simp append_assoc
 
 two_pairs : (a b c d e : List ℕ) → a ++ b ++ c ++ d ++ e ≡ a ++ (b ++ c) ++ (d ++ e)
 two_pairs a b c d e = simp append_assoc
 
 -- a form that is neither the first nor the second counts all
-pub third_form : (form : ℕ) (c : Configuration) → (form ≡ 1 → ⊥) → (form ≡ 2 → ⊥) →
-    line_of (codes "transcript") (decimal form ∷ codes "replicas" ∷ decimal c.replicas ∷ codes "sequencers" ∷ decimal c.sequencers ∷ codes
+pub third_form : (word : List ℕ) (form : ℕ) (c : Configuration) → (form ≡ 1 → ⊥) → (form ≡ 2 → ⊥) →
+    line_of word (decimal form ∷ codes "replicas" ∷ decimal c.replicas ∷ codes "sequencers" ∷ decimal c.sequencers ∷ codes
     "clients" ∷ decimal c.clients ∷ codes "controllers" ∷ decimal c.controllers ∷ codes "observers" ∷ decimal c.observers ∷ [])
-    ≡ transcript_line form c
-unfolding transcript_line
-third_form form c first second =
-    let counts : List ℕ = three_counts form c in
+    ≡ counts_line word form c
+unfolding counts_line
+third_form word form c first second =
+    let counts : List ℕ = three_counts word form c in
     let controllers : controllers_text form c.controllers ≡ codes " controllers " ++ decimal c.controllers = rw (ne_eqb form 1 first) refl in
     let observers : watching_text form c.observers ≡ codes " observers " ++ decimal c.observers =
     rw (ne_eqb form 1 first) (rw (ne_eqb form 2 second) refl) in
-    all_counts form c ∙ ap (λ (text : List ℕ). text ++ line_end)
+    all_counts word form c ∙ ap (λ (text : List ℕ). text ++ line_end)
     (two_pairs counts (codes " controllers ") (decimal c.controllers) (codes " observers ") (decimal c.observers)
     ∙ ap (λ (text : List ℕ). counts ++ text ++ (codes " observers " ++ decimal c.observers)) (sym controllers)
     ∙ ap (λ (text : List ℕ). counts ++ controllers_text form c.controllers ++ text) (sym observers))

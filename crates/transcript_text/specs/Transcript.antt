@@ -134,10 +134,14 @@ controllers_text form controllers = if form == 1 then [] else codes " controller
 abbrev pub watching_text : ℕ → ℕ → List ℕ
 watching_text form observers = if form == 1 then [] else if form == 2 then [] else codes " observers " ++ decimal observers
 
-unfoldable pub transcript_line : ℕ → Configuration → List ℕ
-transcript_line form c = codes "transcript " ++ decimal form ++ codes " replicas " ++ decimal c.replicas
+-- a word, a form and the counts of a configuration: the first line of schedules, traces and transcripts
+unfoldable pub counts_line : List ℕ → ℕ → Configuration → List ℕ
+counts_line word form c = word ++ codes " " ++ decimal form ++ codes " replicas " ++ decimal c.replicas
     ++ codes " sequencers " ++ decimal c.sequencers ++ codes " clients " ++ decimal c.clients
     ++ controllers_text form c.controllers ++ watching_text form c.observers ++ line_end
+
+unfoldable pub transcript_line : ℕ → Configuration → List ℕ
+transcript_line form c = counts_line (codes "transcript") form c
 
 unfoldable pub replica_line : ℕ → Bool → Phase → View → ℕ → ℕ → List ℕ
 replica_line number crashed status view len sync_point =

@@ -9,9 +9,10 @@ use nop_types::{Actor, Bytes, Config, Dest, Entry, Key, NoMemory, Phase, Request
 
 /// The first line of a form that counts controllers, and observers in form 3.
 #[tactic(auto, using(crate::proofs::LineLemmas::second_form))]
-fn counted_line(form: u8, config: Config, to: &mut Vec<u8>) -> Result<(), NoMemory>
+fn counted_line(word: &str, form: u8, config: Config, to: &mut Vec<u8>) -> Result<(), NoMemory>
     requires { form ≢ 1 }
-    ensures ok { OnOk result (to.new.items ≡ to.old.items ++ texts.transcript_line form config) }
+    ensures ok { OnOk result (to.new.items
+        ≡ to.old.items ++ texts.counts_line word.now form config) }
     ensures err { OnErr result (to.new.items ≡ to.old.items) }
 {
     let fields = [
@@ -28,17 +29,23 @@ fn counted_line(form: u8, config: Config, to: &mut Vec<u8>) -> Result<(), NoMemo
         Field::Number(u64::from(config.observers())),
     ];
     if form == 2 {
-        write_line("transcript", &fields[..9], to)
+        write_line(word, &fields[..9], to)
     } else {
-        write_line("transcript", &fields, to)
+        write_line(word, &fields, to)
     }
 }
 
-/// The first line of a transcript, in the form of its schedule's header.
+/// A word, a form and the counts of a configuration. With their words it is the first line of
+/// schedules, traces and transcripts.
 #[tactic(auto, using(crate::proofs::LineLemmas::first_form))]
-pub fn transcript_line(form: u8, config: Config, to: &mut Vec<u8>) -> Result<(), NoMemory>
-    requires { IsTrue (gives form config) }
-    ensures ok { OnOk result (to.new.items ≡ to.old.items ++ texts.transcript_line form config) }
+pub fn counts_line(
+    word: &str,
+    form: u8,
+    config: Config,
+    to: &mut Vec<u8>,
+) -> Result<(), NoMemory>
+    ensures ok { OnOk result (to.new.items
+        ≡ to.old.items ++ texts.counts_line word.now form config) }
     ensures err { OnErr result (to.new.items ≡ to.old.items) }
 {
     let fields = [
@@ -51,10 +58,20 @@ pub fn transcript_line(form: u8, config: Config, to: &mut Vec<u8>) -> Result<(),
         Field::Number(u64::from(config.clients())),
     ];
     if form == 1 {
-        write_line("transcript", &fields, to)
+        write_line(word, &fields, to)
     } else {
-        counted_line(form, config, to)
+        counted_line(word, form, config, to)
     }
+}
+
+/// The first line of a transcript, in the form of its schedule's header.
+#[tactic(auto, unfolding(crate::specs::Transcript::transcript_line))]
+pub fn transcript_line(form: u8, config: Config, to: &mut Vec<u8>) -> Result<(), NoMemory>
+    requires { IsTrue (gives form config) }
+    ensures ok { OnOk result (to.new.items ≡ to.old.items ++ texts.transcript_line form config) }
+    ensures err { OnErr result (to.new.items ≡ to.old.items) }
+{
+    counts_line("transcript", form, config, to)
 }
 
 /// An event came to a crashed actor.

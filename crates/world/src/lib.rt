@@ -11,7 +11,7 @@
 //!
 //! The other calls read what the definition of their name reads: `config`, `sent`, `sent_to`,
 //! `sent_count`, `replica`, `observer`, `entry`, `crashed`, `timer`, `history`, `main_view`, `main_log`,
-//! `replica_lines`, `observer_lines`. `final_lines` appends the lines at the end of a transcript, or nothing on an
+//! `replica_lines`, `observer_lines`. `actor_of` is the actor whose step an event is. `final_lines` appends the lines at the end of a transcript, or nothing on an
 //! error. `find` is the first index of a datagram with the given bytes. `takes(client)`:
 //! whether a submit would be accepted: the client exists, is up, has room for one more open request,
 //! and an id is left. `with_index` is `new` with an index for `find`.
@@ -39,4 +39,5 @@ pub use laws::{crashed_actors_take_no_step, junk_changes_nothing, refuses_by_fir
 pub use main_log::LogParts;
 pub use network::Lines;
 pub use step_error::StepError;
+pub use stimulus::actor_of;
 pub use world_state::World;

@@ -16,7 +16,7 @@ returns-else-form-eq2-clause-ok c =
       c.controllers.ensures.count,
       c.observers.ensures.count,
     ) at c.write_line-else-form-eq2.ensures.ok in
-    rw (← third_form c.args.form c.args.config c.requires c.if-form-eq2.false) text
+    rw (← third_form c.args.word.now c.args.form c.args.config c.requires c.if-form-eq2.false) text
 
 pub returns-then-form-eq2-clause-ok : goal.returns-then-form-eq2-clause-ok
 returns-then-form-eq2-clause-ok c =
@@ -32,4 +32,4 @@ returns-then-form-eq2-clause-ok c =
       c.controllers.ensures.count,
       c.if-form-eq2.true,
     ) at c.write_line.ensures.ok in
-    rw (c.if-form-eq2.true) (rw (← second_form c.args.config) text)
+    rw (c.if-form-eq2.true) (rw (← second_form c.args.word.now c.args.config) text)
