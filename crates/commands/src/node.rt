@@ -1,6 +1,6 @@
 //! A run of a core over the ports, and its last line.
 
-ghost use Rattle.std.specs.Prelude.{◌≡◌, ◌≤◌, ◌++◌, decimal, length, option_map, OnOk};
+ghost use Rattle.std.specs.Prelude.{◌≡◌, ◌≤◌, ◌++◌, length, option_map, OnOk};
 ghost use Rattle.nop_types.specs.Given.{given};
 ghost use Rattle.outside.specs.Causes.{CountsFor, CountsWhere};
 ghost use Rattle.udp_node.specs.Effects.{Writes};
@@ -14,6 +14,7 @@ use crate::status::Status;
 use nop_types::{Core, Input, NoMemory};
 use outside::{AttachError, Clock, Link, Ports, Sink, WriteError, write_all};
 use std::alloc::Global;
+use transcript_text::put_number;
 use udp_node::{Address, ServeError, Served, serve};
 
 /// What a node runs: the input before its first turn, the most turns, whether it waits for its core to be done, and whether it
@@ -24,14 +25,6 @@ pub(crate) struct Task<'a> {
     pub(crate) turns: u64,
     pub(crate) waits: bool,
     pub(crate) trace: bool,
-}
-
-fn put_number(n: u64, to: &mut Vec<u8>) -> Result<(), NoMemory>
-    ensures { OnOk result (to.new.items ≡ to.old.items ++ decimal n) }
-{
-    let mut buffer = itoa::Buffer::new();
-    to.extend_from_slice(buffer.format(n).as_bytes())?;
-    Ok(())
 }
 
 fn put_served(served: Served, to: &mut Vec<u8>) -> Result<(), NoMemory>

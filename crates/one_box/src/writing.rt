@@ -17,16 +17,8 @@ use outside::{Sink, WriteError, write_all};
 use schedule_text::{Event, event_line};
 use std::alloc::Global;
 use trace_text::header_line;
-use transcript_text::transcript_line;
+use transcript_text::{put_number, transcript_line};
 use world::final_lines;
-
-fn put_number(n: u64, to: &mut Vec<u8>) -> Result<(), NoMemory>
-    ensures { OnOk result (to.new.items ≡ to.old.items ++ decimal n) }
-{
-    let mut buffer = itoa::Buffer::new();
-    to.extend_from_slice(buffer.format(n).as_bytes())?;
-    Ok(())
-}
 
 fn put_labelled(label: &[u8], n: u64, to: &mut Vec<u8>) -> Result<(), NoMemory>
     ensures { OnOk result (to.new.items ≡ to.old.items ++ (label.now ++ decimal n)) }

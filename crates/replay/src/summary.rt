@@ -9,15 +9,14 @@ ghost use Rattle.transcript_text.specs.Transcript.{line_end};
 
 use crate::generated::Counts;
 use nop_types::{Entry, Host, NoMemory, View};
+use transcript_text::put_number;
 use world::{LogParts, World};
 
 fn put_counted(text: &str, n: u64, to: &mut Vec<u8>) -> Result<(), NoMemory>
     ensures { OnOk result (to.new.items ≡ to.old.items ++ text_and_number text.now n) }
 {
     to.extend_from_slice(text.as_bytes())?;
-    let mut buffer = itoa::Buffer::new();
-    to.extend_from_slice(buffer.format(n).as_bytes())?;
-    Ok(())
+    put_number(n, to)
 }
 
 fn put_two(a: &str, m: u64, b: &str, n: u64, to: &mut Vec<u8>) -> Result<(), NoMemory>

@@ -75,7 +75,8 @@ fn put_byte(byte: u8, to: &mut Vec<u8>) -> Result<(), NoMemory>
     }
 }
 
-fn put_number(n: u64, to: &mut Vec<u8>) -> Result<(), NoMemory>
+/// Appends a number in decimal.
+pub fn put_number(n: u64, to: &mut Vec<u8>) -> Result<(), NoMemory>
     ensures ok { OnOk result (to.new.items ≡ to.old.items ++ decimal n) }
     ensures err { OnErr result (to.new.items ≡ to.old.items) }
 {
