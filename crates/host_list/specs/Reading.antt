@@ -16,6 +16,7 @@ use Rattle.host_list.specs.declared.rule.Rule.TheVariants.{NoCluster, Hole, Wron
 use Rattle.host_list.specs.Addresses.{address_of}
 use Rattle.host_list.specs.Places.{Addresses, address_at, controllers_in, counts_of, has_address, has_hole, named, observers_in, replicas_in, sequencers_in}
 use Rattle.host_list.specs.Words.{lines_of, words_of}
+pub use Rattle.nop_types.specs.Results.{◌>>=◌}
 
 abbrev pub rule_number : Rule → ℕ
 rule_number WrongWords = 1
@@ -32,11 +33,6 @@ rule_number WrongCount = 9
 abbrev pub or_rule : {A : Type 0} → Rule → Option A → Result A Rule
 or_rule rule None = Err rule
 or_rule rule (Some x) = Ok x
-
-infixl 10 ◌>>=◌
-abbrev pub ◌>>=◌ : {A B E : Type 0} → Result A E → (A → Result B E) → Result B E
-Ok x >>= f = f x
-Err e >>= f = Err e
 
 -- ---- a line by itself
 

@@ -1,10 +1,11 @@
 -- The ops of the key-value service, and how their bytes are read.
-use Rattle.std.specs.Prelude.{ℕ, List, [], ◌∷◌, length, take, drop, Option, Some, None, nat_le, option_and_then, unwrap_or, ◌==◌, ◌&&◌}
+use Rattle.std.specs.Prelude.{ℕ, List, [], ◌∷◌, length, take, drop, Option, Some, None, nat_le, unwrap_or, ◌==◌, ◌&&◌}
 use Rattle.std.specs.Prelude.{if◌then◌else◌}
 use Rattle.std.specs.Int.{w16, from_be_bytes}
 use Rattle.nop_types.specs.declared.limits.TheConstants.{MAX_KEY_BYTES, MAX_VALUE_BYTES}
 use Rattle.nop_types.specs.Lists.{all_below}
 use Rattle.kv_host.specs.declared.op.TheConstants.{GET, PUT, DELETE, SWAP}
+pub use Rattle.nop_types.specs.Options.{◌>>=◌}
 
 pub data Op : Type 0 where
   -- the value of the key
@@ -36,10 +37,6 @@ key_at bytes = field_at 1 MAX_KEY_BYTES bytes
 
 abbrev pub value_at : List ℕ → Option Field
 value_at bytes = field_at 0 MAX_VALUE_BYTES bytes
-
-infixl 10 ◌>>=◌
-abbrev pub ◌>>=◌ : {A B : Type 0} → Option A → (A → Option B) → Option B
-o >>= f = option_and_then f o
 
 -- the op, where nothing follows
 abbrev pub at_end : List ℕ → Op → Option Op

@@ -5,10 +5,7 @@ use Rattle.line_fields.specs.Fields.{is_text}
 use Rattle.op_text.specs.Words.{bytes_of, word_of}
 use Rattle.kv_host.specs.Op.{Op, Get, Put, Delete, Swap, Bad, read_op}
 use Rattle.kv_spelling.specs.Spell.{spell}
-
-infixl 10 ◌>>=◌
-abbrev pub ◌>>=◌ : {A B : Type 0} → Option A → (A → Option B) → Option B
-o >>= f = option_and_then f o
+pub use Rattle.nop_types.specs.Options.{◌>>=◌}
 
 -- ---- from words
 

@@ -1,13 +1,9 @@
 -- Results of the lock service from words, the other way of `result_words` of `lock_text`.
 use Rattle.std.specs.Prelude.{ℕ, List, [], ◌∷◌, ◌++◌, Option, Some, None, codes, if◌then◌else◌}
-use Rattle.std.specs.Option.{option_and_then}
 use Rattle.line_fields.specs.Fields.{is_text, number_of}
 use Rattle.op_text.specs.Words.{bytes_of}
 use Rattle.saved_fields.specs.Numbers.{number_bytes}
-
-infixl 10 ◌>>=◌
-abbrev pub ◌>>=◌ : {A B : Type 0} → Option A → (A → Option B) → Option B
-o >>= f = option_and_then f o
+pub use Rattle.nop_types.specs.Options.{◌>>=◌}
 
 -- `granted` and a token
 abbrev pub granted_of : List ℕ → List ℕ → Option (List ℕ)

@@ -1,3 +1,4 @@
+pub mod Actors
 pub mod BorrowedLogs
 pub mod Bounds
 pub mod CheckpointedLogs
@@ -13,10 +14,12 @@ pub mod Lists
 pub mod Logs
 pub mod Machine
 pub mod Meaning
+pub mod Options
 pub mod Parts
 pub mod PlainChanges
 pub mod Ranges
 pub mod Reads
+pub mod Results
 pub mod Services
 pub mod Sessions
 pub mod Slots

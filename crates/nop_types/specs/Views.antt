@@ -1,5 +1,5 @@
 -- Views, their order and their rank.
-use Rattle.std.specs.Prelude.{◌≡◌, ◌≤◌, ◌%◌, ◌⊎◌, ◌==◌, ◌&&◌, ◌||◌, ℕ, Bool, max, nat_lt}
+use Rattle.std.specs.Prelude.{◌≡◌, ◌≤◌, ◌%◌, ◌⊎◌, ◌==◌, ◌&&◌, ◌||◌, ℕ, Bool, cond, max, nat_lt}
 use Rattle.nop_types.specs.declared.view.View.{View}
 
 -- each part of a is at most that of b
@@ -25,6 +25,10 @@ join_of a b = record { leader = max a.leader b.leader; session = max a.session b
 -- by rank sessions count first, then leader numbers
 abbrev pub outranks : View → View → Bool
 outranks a b = nat_lt b.session a.session || ((a.session == b.session) && nat_lt b.leader a.leader)
+
+-- the one of two views that ranks above the other
+abbrev pub greater : View → View → View
+greater a b = cond (outranks b a) b a
 
 abbrev pub is_view : View → View → Bool
 is_view a b = (a.leader == b.leader) && (a.session == b.session)

@@ -1,8 +1,9 @@
 -- Numbers as bytes, the highest byte first.
-use Rattle.std.specs.Prelude.{ℕ, ◌<◌, List, [], ◌∷◌, length, slice_index, take, drop, Option, Some, None, option_and_then, nat_lt}
+use Rattle.std.specs.Prelude.{ℕ, ◌<◌, List, [], ◌∷◌, length, slice_index, take, drop, Option, Some, None, nat_lt}
 use Rattle.std.specs.Prelude.{if◌then◌else◌}
 use Rattle.std.specs.Int.{Width, w32, w64, byte_len, from_be_bytes, to_be_bytes}
 use Rattle.nop_types.specs.declared.view.View.{View}
+pub use Rattle.nop_types.specs.Options.{◌>>=◌}
 
 -- each of the list is a byte
 abbrev pub IsBytes : List ℕ → Type 0
@@ -13,9 +14,6 @@ unfoldable pub be_bytes : Width → ℕ → List ℕ
 be_bytes w n = to_be_bytes w n
 
 -- A reader answers the value at the front and the bytes after it, or nothing where its bytes are not there.
-infixl 10 ◌>>=◌
-abbrev pub ◌>>=◌ : {A B : Type 0} → Option A → (A → Option B) → Option B
-found >>= next = option_and_then next found
 
 -- the number in the bytes of a width, the highest one first
 abbrev pub number_at : Width → List ℕ → Option (ℕ × List ℕ)

@@ -12,6 +12,7 @@ use Rattle.nop_types.specs.declared.limits.TheConstants.{FRAGMENT_BYTES}
 use Rattle.oum_codec.specs.Fixed.{request_fields_at, request_in_range, stamped_fields_at, stamped_in_range, reply_fields_at, reply_in_range}
 use Rattle.oum_codec.specs.Fixed.{install_fields_at, install_in_range, ping_fields_at, ping_in_range, fragment_fields_at, fragment_in_range}
 use Rattle.oum_codec.specs.Fixed.{least_payload, read_in_range, answer_fields_at, answer_in_range}
+pub use Rattle.nop_types.specs.Results.{◌>>=◌}
 
 -- reading fails with this error; being out of memory says nothing of it
 abbrev pub Fails : {A : Type 0} → Bad → Result A Bad → Type 0
@@ -31,12 +32,6 @@ Gives result read = GivesBy (λ x. x) result read
 abbrev pub Finds : {A E : Type 0} → Option A → Result A E → Type 0
 Finds {A} {E} (Some x) read = read ≡ Ok x
 Finds {A} {E} None read = (e : E) × (read ≡ Err e)
-
--- the next step, where the first did not fail
-infixl 10 ◌>>=◌
-abbrev pub ◌>>=◌ : {A B E : Type 0} → Result A E → (A → Result B E) → Result B E
-(Ok x) >>= next = next x
-(Err e) >>= next = Err e
 
 -- all fields of a fixed size are there, then all of them are in range
 abbrev pub fields_of : {F : Type 0} → Option (F × List ℕ) → (F → Bool) → Result (F × List ℕ) Bad

@@ -6,16 +6,11 @@ use Rattle.resp.specs.declared.parsed.Fault.{Fault}
 use Rattle.resp.specs.declared.parsed.Fault.TheVariants.{Spelling, TooMany, TooLong}
 use Rattle.resp.specs.declared.parsed.Stop.{Stop}
 use Rattle.resp.specs.declared.parsed.Stop.TheVariants.{More, Wrong}
+pub use Rattle.nop_types.specs.Results.{◌>>=◌}
 
 -- what is read, and the bytes after it
 abbrev pub Read : Type 0 → Type 0
 Read A = Result (A × List ℕ) Stop
-
--- the next step, where the first did not stop
-infixl 10 ◌>>=◌
-abbrev pub ◌>>=◌ : {A B E : Type 0} → Result A E → (A → Result B E) → Result B E
-Ok x >>= next = next x
-Err e >>= next = Err e
 
 -- what follows a carriage return and a line feed
 unfoldable pub read_end : List ℕ → Result (List ℕ) Stop

@@ -1,12 +1,8 @@
 -- Lists of elements of any kind, by how an element is spelled and read.
 use Rattle.std.specs.Prelude.{ℕ, zero, suc, ◌≤◌, List, [], ◌∷◌, ◌++◌, length, Option, Some, None, All, nat_le, if◌then◌else◌}
-use Rattle.std.specs.Prelude.{option_and_then}
 use Rattle.std.specs.List.{flat_map}
 use Rattle.saved_fields.specs.Numbers.{number_at, number_bytes}
-
-infixl 10 ◌>>=◌
-abbrev pub ◌>>=◌ : {A B : Type 0} → Option A → (A → Option B) → Option B
-o >>= f = option_and_then f o
+pub use Rattle.nop_types.specs.Options.{◌>>=◌}
 
 -- how many elements there are, and each of them
 abbrev pub list_bytes : {A : Type 0} → (A → List ℕ) → List A → List ℕ

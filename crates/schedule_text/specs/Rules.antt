@@ -14,6 +14,7 @@ use Rattle.schedule_text.specs.declared.rule.Rule.TheVariants.{WrongActor, NoSuc
 use Rattle.line_fields.specs.Fields.{fields, is_text, number_of, number_below, actor_of, client_number, sequencer_number, controller_number}
 use Rattle.line_fields.specs.Fields.{observer_number, bytes_of, key_of}
 use Rattle.schedule_text.specs.Ticks.{tick_named, takes_tick}
+pub use Rattle.nop_types.specs.Results.{◌>>=◌}
 
 -- the number of a rule, as an error line has it
 abbrev pub rule_number : Rule → ℕ
@@ -31,11 +32,6 @@ rule_number TooManyLines = 10
 -- the value, or the rule that is broken
 abbrev pub Read : Type 0 → Type 0
 Read A = Result A Rule
-
-infixl 10 ◌>>=◌
-abbrev pub ◌>>=◌ : {A B : Type 0} → Result A Rule → (A → Result B Rule) → Result B Rule
-Ok x >>= f = f x
-Err rule >>= f = Err rule
 
 -- where there is no value, the rule is broken
 abbrev pub or_rule : {A : Type 0} → Rule → Option A → Result A Rule

@@ -9,6 +9,7 @@ use Rattle.service_tool.specs.declared.reason.Fault.{Fault}
 use Rattle.service_tool.specs.declared.reason.Reason.{Reason}
 use Rattle.service_tool.specs.declared.reason.Reason.TheVariants.{UnknownOption, NoValue, BadBase, BadReplicas, BadSequencers}
 use Rattle.service_tool.specs.declared.reason.Reason.TheVariants.{BadId, BadObserver, BadTurns}
+pub use Rattle.nop_types.specs.Results.{◌>>=◌}
 
 -- without options
 abbrev pub opening : Options
@@ -105,11 +106,6 @@ last_word o at word =
     if is_flag word then Ok (with_flag o word, at + 1)
     else if is_option word then Err (record { reason = NoValue; at = at })
     else Ok (o, at)
-
-infixl 10 ◌>>=◌
-abbrev pub ◌>>=◌ : {A B E : Type 0} → Result A E → (A → Result B E) → Result B E
-Ok x >>= f = f x
-Err e >>= f = Err e
 
 -- the options at the front of words, the first of which has this index; and the index of the first word that is none
 abbrev pub options_in : Options → ℕ → List (List ℕ) → Result (Options × ℕ) Fault

@@ -13,10 +13,7 @@ use Rattle.service_words.specs.declared.direction.Direction.TheVariants.{ToWords
 use Rattle.service_words.specs.declared.row.Row.{Row}
 use Rattle.service_words.specs.declared.row.Kind.{Kind}
 use Rattle.service_words.specs.declared.row.Kind.TheVariants.{Op, Answer, Key}
-
-infixl 10 ◌>>=◌
-abbrev pub ◌>>=◌ : {A B : Type 0} → Option A → (A → Option B) → Option B
-o >>= f = option_and_then f o
+pub use Rattle.nop_types.specs.Options.{◌>>=◌}
 
 -- how a service writes its ops and results
 pub record Texts : Type 0 where

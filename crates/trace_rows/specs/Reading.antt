@@ -17,11 +17,7 @@ use Rattle.trace_rows.specs.declared.row.Taken.{Taken}
 use Rattle.trace_rows.specs.declared.row.Taken.TheVariants as ins
 use Rattle.trace_rows.specs.declared.row.To.{To}
 use Rattle.trace_rows.specs.declared.row.To.TheVariants.{Replicas, Sequencers, One}
-
-infixl 10 ◌>>=◌
-abbrev pub ◌>>=◌ : {A B : Type 0} → Option A → (A → Option B) → Option B
-None >>= f = None
-Some x >>= f = f x
+pub use Rattle.nop_types.specs.Options.{◌>>=◌}
 
 -- ---- names
 

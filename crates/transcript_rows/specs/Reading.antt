@@ -19,11 +19,7 @@ use Rattle.transcript_rows.specs.declared.row.Row.TheVariants.{Dead, Submit, Acc
 use Rattle.transcript_rows.specs.declared.row.Row.TheVariants.{Member, End}
 use Rattle.transcript_rows.specs.Rows.{RowFits, row_text}
 use Rattle.transcript_text.specs.Transcript.{transcript_line}
-
-infixl 10 ◌>>=◌
-abbrev pub ◌>>=◌ : {A B : Type 0} → Option A → (A → Option B) → Option B
-None >>= f = None
-Some x >>= f = f x
+pub use Rattle.nop_types.specs.Options.{◌>>=◌}
 
 -- ---- fields
 

@@ -10,6 +10,7 @@ use Rattle.transcript_text.specs.Transcript.{actor_text}
 use Rattle.watching.specs.declared.lines.Change.{Change}
 use Rattle.watching.specs.declared.lines.State.{State}
 use Rattle.watching.specs.declared.lines.Warning.{Warning}
+pub use Rattle.nop_types.specs.Options.{◌>>=◌}
 
 -- a view of n replicas: its two numbers, who leads it, and whose session it has
 abbrev pub view_fields : ℕ → View → List (List ℕ)
@@ -60,11 +61,6 @@ warning_news now (Some v) None = over_line now
 warning_news now before (Some w) = cond (is_warning before w) [] (warning_line w)
 
 -- ---- read back
-
-infixl 10 ◌>>=◌
-abbrev pub ◌>>=◌ : {A B : Type 0} → Option A → (A → Option B) → Option B
-None >>= f = None
-Some a >>= f = f a
 
 abbrev pub number_at : List (List ℕ) → ℕ → Option ℕ
 number_at fields i = slice_get fields i >>= number_of
