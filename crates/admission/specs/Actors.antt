@@ -1,15 +1,8 @@
 -- Which actor a greeting speaks of, and which nodes are asked.
 use Rattle.std.specs.Prelude.{ℕ, Bool, true, false, not, ◌%◌, ◌==◌, ◌&&◌, if◌then◌else◌, Option, Some, None}
+pub use Rattle.nop_types.specs.Actors.{number_of, same_actor}
 use Rattle.nop_types.specs.declared.output.Actor.{Actor}
 use Rattle.nop_types.specs.declared.output.Actor.TheVariants.{Replica, Sequencer, Client, Controller, Observer}
-
-abbrev pub same_actor : Actor → Actor → Bool
-same_actor (Replica i) (Replica j) = i == j
-same_actor (Sequencer i) (Sequencer j) = i == j
-same_actor (Client i) (Client j) = i == j
-same_actor (Controller i) (Controller j) = i == j
-same_actor (Observer i) (Observer j) = i == j
-same_actor _ _ = false
 
 abbrev pub is_client : Actor → Bool
 is_client (Client i) = true
@@ -22,13 +15,6 @@ is_replica _ = false
 abbrev pub is_observer : Actor → Bool
 is_observer (Observer i) = true
 is_observer _ = false
-
-abbrev pub number_of : Actor → ℕ
-number_of (Replica i) = i
-number_of (Sequencer i) = i
-number_of (Client i) = i
-number_of (Controller i) = i
-number_of (Observer i) = i
 
 -- the actor that a greeting with this number speaks of, from the address of `source`: a node is itself; a place of clients is that of
 -- each client with its remainder by 16

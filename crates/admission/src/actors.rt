@@ -2,23 +2,9 @@
 
 ghost use Rattle.std.specs.Prelude.{◌≡◌};
 ghost use Rattle.admission.specs.Actors.{actor_named, counts, is_asked, is_client, is_observer};
-ghost use Rattle.admission.specs.Actors.{is_replica, number_of, same_actor};
+ghost use Rattle.admission.specs.Actors.{is_replica};
 
-use nop_types::Actor;
-
-/// Whether both are one.
-pub(crate) fn same_actor(a: Actor, b: Actor) -> bool
-    ensures { result ≡ same_actor a b }
-{
-    match (a, b) {
-        (Actor::Replica(i), Actor::Replica(j)) => i == j,
-        (Actor::Sequencer(i), Actor::Sequencer(j)) => i == j,
-        (Actor::Client(i), Actor::Client(j)) => i == j,
-        (Actor::Controller(i), Actor::Controller(j)) => i == j,
-        (Actor::Observer(i), Actor::Observer(j)) => i == j,
-        _ => false,
-    }
-}
+use nop_types::{Actor, number_of, same_actor};
 
 pub(crate) fn is_client(actor: Actor) -> bool
     ensures { result ≡ is_client actor }
@@ -44,16 +30,6 @@ fn is_observer(actor: Actor) -> bool
     match actor {
         Actor::Observer(_) => true,
         _ => false,
-    }
-}
-
-pub(crate) fn number_of(actor: Actor) -> u32
-    ensures { result ≡ number_of actor }
-{
-    match actor {
-        Actor::Replica(i) | Actor::Sequencer(i) | Actor::Controller(i) | Actor::Observer(i) =>
-            u32::from(i),
-        Actor::Client(i) => i,
     }
 }
 

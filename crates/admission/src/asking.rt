@@ -4,11 +4,10 @@ ghost use Rattle.admission.specs.Rounds.{is_admitted, is_agreement, is_ask, is_c
 ghost use Rattle.admission.specs.Rounds.{is_going, is_late, is_refusal, is_to, next_round};
 ghost use Rattle.admission.specs.Rounds.{opening, reminded, turned};
 
-use crate::actors::number_of;
 use crate::greeting::{Greeting, Word};
 use crate::others::{agreed, forget, have_answered, is_other, mark, others_of};
 use crate::own::{ALL_MICROS, ASK_MICROS, Other, Own, REMIND_MICROS, ROUND_MICROS, Standing};
-use nop_types::{Actor, NoMemory};
+use nop_types::{Actor, NoMemory, number_of};
 use std::alloc::Global;
 use std::marker::Model;
 

@@ -5,9 +5,9 @@ ghost use Rattle.std.specs.List.{list_all};
 ghost use Rattle.admission.specs.Rounds.{agreed, answers, forgotten, have_all, have_most, how_many};
 ghost use Rattle.admission.specs.Rounds.{is_other, marked, others_of, unanswered};
 
-use crate::actors::{counts, is_asked, same_actor};
+use crate::actors::{counts, is_asked};
 use crate::own::Other;
-use nop_types::{Actor, NoMemory};
+use nop_types::{Actor, NoMemory, same_actor};
 use std::alloc::Global;
 
 fn unanswered(actor: Actor) -> Other

@@ -5,10 +5,10 @@ ghost use Rattle.admission.specs.Registries.{answered, answered_of, answer_to, c
 ghost use Rattle.admission.specs.Registries.{has_room, is_question, may_have, none_noted, process_of};
 ghost use Rattle.admission.specs.Registries.{with_noted};
 
-use crate::actors::{actor_named, is_client, same_actor};
+use crate::actors::{actor_named, is_client};
 use crate::claim::Claim;
 use crate::greeting::{Greeting, Word};
-use nop_types::{Actor, NoMemory};
+use nop_types::{Actor, NoMemory, same_actor};
 use std::alloc::Global;
 use std::marker::Model;
 

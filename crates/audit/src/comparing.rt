@@ -5,8 +5,8 @@ ghost use Rattle.std.specs.Str.{bytes_eq};
 ghost use Rattle.audit.specs.Telling.{teller, tells};
 ghost use Rattle.audit_laws.specs.Names.{same_actor};
 
-use crate::names::{is_number, names_dest, same_actor};
-use nop_types::{Actor, Out};
+use crate::names::{is_number, names_dest};
+use nop_types::{Actor, Out, same_actor};
 use trace_rows::Gave;
 
 fn same_bytes(a: &[u8], b: &[u8]) -> bool

@@ -2,7 +2,7 @@
 
 ghost use Rattle.std.specs.Prelude.{◌≡◌};
 ghost use Rattle.audit_laws.specs.Names.{actor_in, is_number, names_actor, names_dest};
-ghost use Rattle.audit_laws.specs.Names.{number_within, same_actor};
+ghost use Rattle.audit_laws.specs.Names.{number_within};
 
 use nop_types::{Actor, Config, Dest};
 use trace_rows::{Name, Number, To};
@@ -29,19 +29,6 @@ pub fn is_number(number: Number, of: u64) -> bool
     match number {
         Number::Is(i) => i == of,
         Number::Past => false,
-    }
-}
-
-pub fn same_actor(a: Actor, b: Actor) -> bool
-    ensures { result ≡ same_actor a b }
-{
-    match (a, b) {
-        (Actor::Replica(i), Actor::Replica(j)) => i == j,
-        (Actor::Sequencer(i), Actor::Sequencer(j)) => i == j,
-        (Actor::Client(i), Actor::Client(j)) => i == j,
-        (Actor::Controller(i), Actor::Controller(j)) => i == j,
-        (Actor::Observer(i), Actor::Observer(j)) => i == j,
-        _ => false,
     }
 }
 

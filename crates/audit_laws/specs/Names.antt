@@ -1,6 +1,7 @@
 -- The names of traces: which actors and destinations they are.
 use Rattle.std.specs.Prelude.{ℕ, ◌==◌, Bool, true, false, nat_lt, Option, Some, None, option_map, if◌then◌else◌}
 use Rattle.nop_types.specs.Configuration.{Configuration}
+pub use Rattle.nop_types.specs.Actors.{same_actor}
 use Rattle.nop_types.specs.declared.output.Actor.{Actor}
 use Rattle.nop_types.specs.declared.output.Actor.TheVariants.{Replica, Sequencer, Client, Controller, Observer}
 use Rattle.nop_types.specs.declared.output.Dest.{Dest}
@@ -11,14 +12,6 @@ use Rattle.trace_rows.specs.declared.row.Number.{Number}
 use Rattle.trace_rows.specs.declared.row.Number.TheVariants.{Is, Past}
 use Rattle.trace_rows.specs.declared.row.To.{To}
 use Rattle.trace_rows.specs.declared.row.To.TheVariants as tos
-
-abbrev pub same_actor : Actor → Actor → Bool
-same_actor (Replica i) (Replica j) = i == j
-same_actor (Sequencer i) (Sequencer j) = i == j
-same_actor (Client i) (Client j) = i == j
-same_actor (Controller i) (Controller j) = i == j
-same_actor (Observer i) (Observer j) = i == j
-same_actor a b = false
 
 -- a number below a limit
 abbrev pub number_within : ℕ → Number → Option ℕ

@@ -1,6 +1,7 @@
 -- Which actor a word names.
 use Rattle.std.specs.Prelude.{ℕ, ◌^◌, List, [], ◌∷◌, nat_lt, ◌==◌, if◌then◌else◌, Option, Some, None, codes}
 use Rattle.nop_types.specs.Configuration.{Configuration}
+pub use Rattle.nop_types.specs.Actors.{number_of}
 use Rattle.nop_types.specs.declared.output.Actor.{Actor}
 use Rattle.nop_types.specs.declared.output.Actor.TheVariants.{Replica, Sequencer, Client, Controller, Observer}
 use Rattle.line_fields.specs.Fields.{actor_of, number_of as number_in}
@@ -24,13 +25,6 @@ actor_or None word = any_client word
 -- an actor of a configuration, or any client
 abbrev pub named : Configuration → List ℕ → Option Actor
 named config word = actor_or (actor_of config word) word
-
-abbrev pub number_of : Actor → ℕ
-number_of (Replica i) = i
-number_of (Sequencer i) = i
-number_of (Client i) = i
-number_of (Controller i) = i
-number_of (Observer i) = i
 
 -- the command that runs an actor
 abbrev pub command_name : Actor → List ℕ

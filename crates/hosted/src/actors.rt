@@ -1,7 +1,7 @@
 //! Which actor a word names, and the command that runs it.
 
 ghost use Rattle.std.specs.Prelude.{◌≡◌};
-ghost use Rattle.hosted.specs.Actors.{client_named, command_name, named, number_of};
+ghost use Rattle.hosted.specs.Actors.{client_named, command_name, named};
 
 use line_fields::number;
 use nop_types::{Actor, Config};
@@ -41,16 +41,5 @@ pub(crate) fn command_of(actor: Actor) -> &'static str
         Actor::Client(_) => "client",
         Actor::Controller(_) => "controller",
         Actor::Observer(_) => "observer",
-    }
-}
-
-pub(crate) fn number_of(actor: Actor) -> u32
-    ensures { result ≡ number_of actor }
-{
-    match actor {
-        Actor::Replica(i) | Actor::Sequencer(i) | Actor::Controller(i) | Actor::Observer(i) => {
-            u32::from(i)
-        }
-        Actor::Client(i) => i,
     }
 }

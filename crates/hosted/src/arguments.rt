@@ -5,8 +5,8 @@ ghost use Rattle.std.specs.Fmt.{decimal};
 ghost use Rattle.command_line.specs.Commands.{texts_of};
 ghost use Rattle.hosted.specs.Arguments.{asked_by, asked_of, option_words, own_words};
 
-use crate::actors::{command_of, number_of};
-use nop_types::{Actor, NoMemory};
+use crate::actors::command_of;
+use nop_types::{Actor, NoMemory, number_of};
 use std::alloc::Global;
 use udp_node::Address;
 

@@ -31,7 +31,7 @@
 //! for a key), `Ranges` (of each field of a message), `Parts` (`IsPart`: which bytes are a
 //! part of a long message), `Logs` and `CheckpointedLogs` (a log with its sync point, trimmed as in
 //! what runs, or kept whole), `PlainChanges` (a change whose log is a list, as the protocol tells
-//! it).
+//! it), `Actors`, `Options` and `Results` (`>>=`, what reads a value and goes on with it).
 #![tactic(auto)]
 
 mod bytes;
@@ -75,9 +75,9 @@ pub use limits::{
 pub use log::{Log, LogRef};
 pub use memory::NoMemory;
 pub use op::Op;
-pub use output::{Accept, Actor, Dest, Out, Outbox};
+pub use output::{Accept, Actor, Dest, Out, Outbox, number_of, same_actor};
 pub use peer::{Body, Change, Peer};
 pub use replica_state::{Phase, Vote};
 pub use request::{Entry, Request};
 pub use slots::lay_over;
-pub use view::{View, join_is_least, leader_of};
+pub use view::{View, greater, join_is_least, leader_of};

@@ -1,4 +1,5 @@
 ghost use Rattle.std.specs.Prelude.{◌≡◌, ◌++◌, ◌∷◌, [], take, OnOk, OnErr};
+ghost use Rattle.nop_types.specs.Actors.{number_of, same_actor};
 
 use crate::{Bytes, Key, Log, NoMemory, Request};
 use std::alloc::Global;
@@ -12,6 +13,32 @@ pub enum Actor {
     Client(u32),
     Controller(u8),
     Observer(u8),
+}
+
+/// Whether both are one.
+pub fn same_actor(a: Actor, b: Actor) -> bool
+    ensures { result ≡ same_actor a b }
+{
+    match (a, b) {
+        (Actor::Replica(i), Actor::Replica(j)) => i == j,
+        (Actor::Sequencer(i), Actor::Sequencer(j)) => i == j,
+        (Actor::Client(i), Actor::Client(j)) => i == j,
+        (Actor::Controller(i), Actor::Controller(j)) => i == j,
+        (Actor::Observer(i), Actor::Observer(j)) => i == j,
+        _ => false,
+    }
+}
+
+/// The number of an actor among those of its kind.
+pub fn number_of(actor: Actor) -> u32
+    ensures { result ≡ number_of actor }
+{
+    match actor {
+        Actor::Replica(i) | Actor::Sequencer(i) | Actor::Controller(i) | Actor::Observer(i) => {
+            u32::from(i)
+        }
+        Actor::Client(i) => i,
+    }
 }
 
 /// Where a datagram is sent: to all replicas, to all sequencers, or to one actor.

@@ -1,5 +1,5 @@
 ghost use Rattle.std.specs.Prelude.{◌≡◌, ◌↔◌, ◌≤◌, ◌<◌, IsTrue};
-ghost use Rattle.nop_types.specs.Views.{AtMost, is_view, join_of, leader_of, outranks};
+ghost use Rattle.nop_types.specs.Views.{AtMost, greater, is_view, join_of, leader_of, outranks};
 
 /// A view: a leader number, and the session of the sequencer. The leader number is no replica's number; `leader_of` says
 /// which replica leads. A session is an epoch times 2^32 plus a count; `specs/Sessions` says which controller gives it out.
@@ -41,6 +41,13 @@ impl View {
         self.session > other.session
             || (self.session == other.session && self.leader > other.leader)
     }
+}
+
+/// The one of two views that ranks above the other.
+pub fn greater(a: View, b: View) -> View
+    ensures { result ≡ greater a b }
+{
+    if b.outranks(a) { b } else { a }
 }
 
 /// The replica that leads a view, of n replicas.

@@ -2,7 +2,6 @@
 
 ghost use Rattle.std.specs.Prelude.{◌≡◌, IfOk, IsTrue, IsFalse, OnErr};
 ghost use Rattle.admission.specs.Registries.{answer_to, answered};
-ghost use Rattle.admission.specs.Actors.{number_of};
 ghost use Rattle.admission.specs.Rounds.{heard};
 ghost use Rattle.udp_ports.specs.Guards.{GoesOn, Greets, IsAdmitted, IsNoGreeting, Ran, actors_at};
 ghost use Rattle.udp_ports.specs.Guards.{question};
@@ -10,7 +9,7 @@ ghost use Rattle.udp_ports.specs.Guards.{question};
 use crate::places::{Place, Source};
 use crate::socket::{Patience, Socket};
 use admission::{Admission, Greeting, Own, Registry, Standing, Word};
-use nop_types::{Actor, MAX_SERVED, NoMemory};
+use nop_types::{Actor, MAX_SERVED, NoMemory, number_of};
 use outside::AttachError;
 use std::alloc::Global;
 use std::time::Clock;
@@ -31,16 +30,6 @@ pub(crate) struct Guard {
     registry: Registry,
     admission: Admission,
     now: u64,
-}
-
-fn number_of(actor: Actor) -> u32
-    ensures { result ≡ number_of actor }
-{
-    match actor {
-        Actor::Replica(i) | Actor::Sequencer(i) | Actor::Controller(i) | Actor::Observer(i) =>
-            u32::from(i),
-        Actor::Client(i) => i,
-    }
 }
 
 fn question(own: Own, word: Word) -> Greeting

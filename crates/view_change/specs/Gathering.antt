@@ -6,7 +6,6 @@ use Rattle.nop_types.specs.declared.view.View.{View}
 use Rattle.nop_types.specs.Lists.{Has}
 use Rattle.nop_types.specs.Logs.{Trimmed}
 use Rattle.nop_types.specs.PlainChanges.{plain}
-use Rattle.nop_types.specs.Views.{outranks}
 use Rattle.log_merge.specs.Merging.{merged, kept_changes}
 use Rattle.log_merge.specs.Starting as starting
 use Rattle.view_change.specs.declared.starting.Start.{Start}
@@ -44,10 +43,6 @@ abbrev pub change_sender : Change → ℕ
 change_sender c = c.sender
 
 -- ---- what a view is started with
-
--- the one of two views that ranks above the other
-abbrev pub greater : View → View → View
-greater a b = cond (outranks b a) b a
 
 -- the number of the next request, and the merge of the trimmed logs that are kept
 abbrev pub started : View → List Change → Start

@@ -3,10 +3,10 @@ ghost use Rattle.nop_types.specs.PlainChanges.{plain};
 ghost use Rattle.nop_types.specs.Views.{is_view};
 ghost use Rattle.log_merge.specs.Merged.{HasDistinctSenders};
 ghost use Rattle.log_merge.specs.Starting.{greatest, greatest_next};
-ghost use Rattle.view_change.specs.Gathering.{greater, started};
+ghost use Rattle.view_change.specs.Gathering.{started};
 
 use log_merge::{merge_moved, merge_of_view};
-use nop_types::{Change, Log, NoMemory, View};
+use nop_types::{Change, Log, NoMemory, View, greater};
 use std::alloc::Global;
 
 /// What a view is started with: the next message number, and the log.
@@ -21,13 +21,6 @@ pub struct Start {
 pub enum Step {
     Started(Start),
     Waiting,
-}
-
-/// The one of two views that ranks above the other.
-fn greater(a: View, b: View) -> View
-    ensures { result ≡ greater a b }
-{
-    if b.outranks(a) { b } else { a }
 }
 
 /// The last normal view of greatest rank.

@@ -1,4 +1,4 @@
-ghost use Rattle.std.specs.Prelude.{◌≡◌, ◌≤◌, ◌∷◌, [], map, slice_get, take, length};
+ghost use Rattle.std.specs.Prelude.{◌≡◌, ◌≤◌, map, slice_get, take, length};
 ghost use Rattle.world.specs.Actors.{world_of};
 ghost use Rattle.world.specs.Parts.{parts_of};
 ghost use Rattle.world.specs.SeatOutcomes.{seated_of};
@@ -6,15 +6,8 @@ ghost use Rattle.world.specs.WorldSteps.{greatest_view, greatest_of, log_of, mai
 
 use crate::actors::Actors;
 use crate::seat::{Seat, seat_at};
-use nop_types::{Entry, Host, View, leader_of};
+use nop_types::{Entry, Host, View, greater, leader_of};
 use replica_core::Replica;
-
-/// The greater view by session, then by leader number.
-fn greater(a: View, b: View) -> View
-    ensures { result ≡ greatest_view a (b ∷ []) }
-{
-    if b.outranks(a) { b } else { a }
-}
 
 fn greatest_after<H: Host>(first: View, seats: &[Seat<Replica<H>>]) -> View
     ensures { result ≡ greatest_view first

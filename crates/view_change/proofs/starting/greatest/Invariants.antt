@@ -1,7 +1,7 @@
 use Rattle.std.proofs.Common.{◌≡◌, drop, map}
 use Rattle.nop_types.specs.PlainChanges.{plain}
 use Rattle.log_merge.specs.Starting.{greatest}
-use Rattle.view_change.specs.Gathering.{greater}
+use Rattle.nop_types.specs.Views.{greater}
 use Rattle.view_change.proofs.starting.greatest.Given as goal
 
 -- the greatest so far, against the rest
