@@ -1,7 +1,7 @@
 -- Which results are unknown, by the lines that have marks.
 use Rattle.std.proofs.Common.{◌≡◌, ◌∙◌, ℕ, zero, suc, Bool, true, false, List, [], ◌∷◌, Some, refl, sym, ap}
 use Rattle.std.specs.Prelude.{slice_get, ◌&&◌, ◌||◌, ◌==◌}
-use Rattle.std.proofs.lemmas.Bool.{eq-eqb, eqb-true}
+use Rattle.std.proofs.lemmas.Bool.{eq-eqb, eqb-true, and_from}
 use Rattle.nop_types.specs.Legality.{AcceptedOnce}
 use Rattle.nop_types.specs.Lines.{Line, Submit, Accept}
 use Rattle.unknown_results.specs.Asking.{accepts_of, unknown_in}
@@ -21,10 +21,6 @@ or_right : (a b : Bool) → b ≡ true → a || b ≡ true
 or_right true b e = refl
 or_right false b e = e
 
-and_both : (a b : Bool) → a ≡ true → b ≡ true → a && b ≡ true
-and_both true b e f = f
-and_both false b e f = absurd cc
-
 and_left : (a b : Bool) → a && b ≡ true → a ≡ true
 and_left true b e = refl
 and_left false b e = absurd cc
@@ -34,7 +30,7 @@ and_right true b e = e
 and_right false b e = absurd cc
 
 accepts_itself : (client id : ℕ) (result : List ℕ) → accepts_of client id (Accept client id result) ≡ true
-accepts_itself client id result = and_both (client == client) (id == id) (eq-eqb client client refl) (eq-eqb id id refl)
+accepts_itself client id result = and_from (client == client) (id == id) (eq-eqb client client refl) (eq-eqb id id refl)
 
 accepts_is : (client id : ℕ) (l : Line) → accepts_of client id l ≡ true → (result : List ℕ) × (l ≡ Accept client id result)
 accepts_is client id (Accept c i result) e =
@@ -52,7 +48,7 @@ is_unknown_at (b ∷ marks) (l ∷ lines) zero client id result e f =
     let marked : b ≡ true = cc in
     let line : l ≡ Accept client id result = cc in
     or_left (b && accepts_of client id l) (unknown_in marks lines client id)
-    (and_both b (accepts_of client id l) marked (ap (accepts_of client id) line ∙ accepts_itself client id result))
+    (and_from b (accepts_of client id l) marked (ap (accepts_of client id) line ∙ accepts_itself client id result))
 is_unknown_at (b ∷ marks) (l ∷ lines) (suc k) client id result e f =
     or_right (b && accepts_of client id l) (unknown_in marks lines client id) (is_unknown_at marks lines k client id result e f)
 

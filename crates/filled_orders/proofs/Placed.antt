@@ -8,7 +8,7 @@ use Rattle.filled_orders.proofs.Marked.{by_its_mark, unaccepted_is_known}
 use Rattle.filled_orders.proofs.Structure.{accept_in, accept_out}
 use Rattle.filled_orders.specs.Filling.{answered, filled_along, has_mark, marked_of, set_result, with_result, IsAcceptOf}
 use Rattle.lemmas.proofs.Options.{same_Some-at}
-use Rattle.lemmas.proofs.Places.{slice_get-some}
+use Rattle.lemmas.proofs.Places.{slice_get-some, Splits-at}
 use Rattle.nop_types.specs.Legality.{AcceptedOnce, IsOf}
 use Rattle.nop_types.specs.Lines.{Line, Submit, Accept}
 use Rattle.nop_types.specs.Meaning.{Meaning}
@@ -22,11 +22,6 @@ use Rattle.unknown_results.specs.Asking.{asked_by, asked_line, erased, is_unknow
 use Rattle.unknown_results.specs.Filling.{Fills}
 
 -- ---- lists
-
-drop_at : (places : List ℕ) (k i : ℕ) → slice_get places k ≡ Some i → drop k places ≡ i ∷ drop (suc k) places
-drop_at [] k i e = absurd cc
-drop_at (p ∷ places) zero i e = let same : p ≡ i = cc in ap (λ (x : ℕ). x ∷ places) same
-drop_at (p ∷ places) (suc k) i e = drop_at places k i e
 
 pub set_in_lines : (claims : List Claim) (k : ℕ) (claim new : Claim) (answer : List ℕ) → slice_get (lines_of claims) k ≡ Some (line_of claim)
     → line_of new ≡ with_result answer (line_of claim) → lines_of (slice_set claims k new) ≡ set_result (lines_of claims) (Some k) answer
@@ -223,7 +218,7 @@ module _ (marks : List Bool) (lines : List Line) (n : ℕ) (accepts submits : Li
 
       history_is : history_at lines (drop p places) ≡ r ∷ rest
       history_is =
-          let next : drop p places ≡ i ∷ drop (p + 1) places = rw add-one (drop_at places p i place) in
+          let next : drop p places ≡ i ∷ drop (p + 1) places = rw add-one (Splits-at places p i place).back in
           ap (history_at lines) next
           ∙ ap (λ (o : Option Line). told_by o ++ rest) at
 

@@ -11,13 +11,14 @@ use Rattle.nop_types.specs.Lines.{Line, Submit, Accept}
 use Rattle.nop_types.specs.Lists.{Has}
 use Rattle.nop_types.specs.Meaning.{Meaning}
 use Rattle.nop_types.specs.declared.request.Request.{Request}
+use Rattle.lemmas.proofs.Mapped.{slice_get-into_map}
 use Rattle.order_search.specs.Bounds.{AcceptsAt}
 use Rattle.order_search.specs.Searching.{told, requests_at}
 use Rattle.order_search.specs.Turns.{AllSubmit, history_at}
 use Rattle.pairs.specs.Stops.{IsGroundless, IsRepeat}
 use Rattle.filled_orders.specs.FilledAnswers.{LacksOrders}
 use Rattle.unknown_results.proofs.Histories.{asked_is_legal}
-use Rattle.unknown_results.proofs.Lines.{at_map, from_map, asked_lines, from_submit, from_accept, at_submit, same_asked}
+use Rattle.unknown_results.proofs.Lines.{from_map, asked_lines, from_submit, from_accept, at_submit, same_asked}
 use Rattle.unknown_results.specs.AnyResults.{any_result}
 use Rattle.unknown_results.specs.Asking.{asked, asked_line, erased, without_byte, without_first}
 use Rattle.unknown_results.specs.Filling.{Fills}
@@ -50,14 +51,14 @@ module _ (unknown : ℕ → ℕ → Bool) where
     pub accept_in : (k client id : ℕ) (result : List ℕ) → slice_get filled k ≡ Some (Accept client id result)
         → (a : List ℕ) × (slice_get lines k ≡ Some (Accept client id a))
     accept_in k client id result e =
-        let there = ap (λ (ls : List Line). slice_get ls k) (sym fills) ∙ at_map (erased unknown) filled k (Accept client id result) e in
+        let there = ap (λ (ls : List Line). slice_get ls k) (sym fills) ∙ slice_get-into_map (erased unknown) filled k (Accept client id result) e in
         let x = from_map (erased unknown) lines k (erased unknown (Accept client id result)) there in
         let a = erased_accept x.0 client id (cond (unknown client id) [] result) x.2 in
         (a.0, x.1 ∙ ap (λ (l : Line). Some l) a.1)
 
     pub submit_in : (k : ℕ) (r : Request) → slice_get filled k ≡ Some (Submit r) → slice_get lines k ≡ Some (Submit r)
     submit_in k r e =
-        let there = ap (λ (ls : List Line). slice_get ls k) (sym fills) ∙ at_map (erased unknown) filled k (Submit r) e in
+        let there = ap (λ (ls : List Line). slice_get ls k) (sym fills) ∙ slice_get-into_map (erased unknown) filled k (Submit r) e in
         let x = from_map (erased unknown) lines k (Submit r) there in
         x.1 ∙ ap (λ (l : Line). Some l) (erased_submit x.0 r x.2)
 

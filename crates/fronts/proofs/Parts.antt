@@ -7,7 +7,7 @@ use Rattle.lemmas.proofs.Members.{Has-from_filter}
 use Rattle.lemmas.proofs.Options.{same_Some-at}
 use Rattle.fronts.specs.Fronts.{AcceptedLater, AreApart, AreOrdered}
 use Rattle.fronts.specs.Parts.{IsPart, of_part, AreOwn, AreTimed}
-use Rattle.fronts.proofs.Ranks.{rank, passes_at, comes_from, rank_passes, back_in_order, one_rank}
+use Rattle.lemmas.proofs.Ranks.{rank, passes_at, comes_from, rank_passes, back_in_order, one_rank}
 use Rattle.execution_laws.specs.Legality.{SubmittedOnce}
 use Rattle.nop_types.specs.Histories.{answer_from, answer_at}
 use Rattle.nop_types.specs.Legality.{IsOf, IsAnswered, AcceptedOnce, Legal}

@@ -18,7 +18,7 @@ use Rattle.nop_types.specs.declared.request.Request.{Request}
 use Rattle.fronts.specs.Fronts.{AreApart, after_all, GoesOn, AreOrdered, MayFollow, IsFront, OnlyReads}
 use Rattle.fronts.proofs.Following.{after_all-push, answers_behind}
 use Rattle.fronts.proofs.Fronts.{front_places}
-use Rattle.fronts.proofs.Ranks.{rank, passes_at, comes_from, rank_passes}
+use Rattle.lemmas.proofs.Ranks.{rank, passes_at, comes_from, rank_passes}
 
 -- ---- requests of another client or id
 

@@ -5,7 +5,7 @@ use Rattle.std.proofs.lemmas.Bool.{cases_lt}
 use Rattle.std.proofs.lemmas.List.{append_assoc, length-append, take_all}
 use Rattle.std.proofs.lemmas.List.Elements.{filter-append}
 use Rattle.std.proofs.lemmas.Option.{slice_get_within}
-use Rattle.fronts.proofs.Ranks.{rank, passes_at, comes_from, rank_rises, one_rank}
+use Rattle.lemmas.proofs.Ranks.{rank, passes_at, comes_from, rank_rises, one_rank}
 use Rattle.joined_orders.specs.Owning.{passes, places_where, one_of, members_at}
 use Rattle.lemmas.proofs.Places.{slice_get-some, slice_get-append_cases}
 

@@ -4,7 +4,7 @@ use Rattle.std.specs.Prelude.{filter}
 use Rattle.execution_laws.specs.Legality.{SubmittedOnce}
 use Rattle.fronts.specs.Fronts.{AcceptedLater}
 use Rattle.fronts.specs.Parts.{AreOwn}
-use Rattle.fronts.proofs.Ranks.{rank, passes_at, comes_from, rank_passes}
+use Rattle.lemmas.proofs.Ranks.{rank, passes_at, comes_from, rank_passes}
 use Rattle.nop_types.specs.Legality.{AcceptedOnce}
 use Rattle.nop_types.specs.Lines.{Line, Submit, Accept}
 

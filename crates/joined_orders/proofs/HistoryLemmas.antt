@@ -6,15 +6,12 @@ use Rattle.fronts.specs.Parts.{of_part}
 use Rattle.joined_orders.specs.Owning.{passes}
 use Rattle.order_search.specs.declared.outcome.Placed.{Placed}
 use Rattle.order_search.specs.Outcomes.{submits_of, time_of}
-use Rattle.order_search.specs.Searching.{told_by, requests_at}
 use Rattle.order_search.specs.Turns.{history_at}
+use Rattle.order_search.proofs.StepLemmas.{requests_at-submit}
 use Rattle.lemmas.proofs.Members.{Has-rest}
 use Rattle.nop_types.specs.Lines.{Line, Submit}
 use Rattle.nop_types.specs.Lists.{Has}
 use Rattle.nop_types.specs.declared.request.Request.{Request}
-
-pub requests-submit : (lines : List Line) (i : ℕ) (r : Request) → slice_get lines i ≡ Some (Submit r) → requests_at lines i ≡ r ∷ []
-requests-submit lines i r h = ap told_by h
 
 pub index-at : (xs : List ℕ) (i n : ℕ) → slice_get xs i ≡ Some n → slice_index xs i ≡ n
 index-at xs i n h = get_or_from_slice_get xs i n 0 h
@@ -41,7 +38,7 @@ module _ (lines : List Line) where
   history-length [] all = refl
   history-length (x ∷ xs) all =
       let s = all x (0, refl) in
-      let e = requests-submit lines x.submit s.0 s.1 in
+      let e = requests_at-submit lines x.submit s.0 s.1 in
       rw e (ap suc (history-length xs (rest_of x xs all)))
 
   -- each member was placed at its place
@@ -50,7 +47,7 @@ module _ (lines : List Line) where
   placed_as [] all i r h = absurd cc
   placed_as (x ∷ xs) all i r h =
       let s = all x (0, refl) in
-      let e = requests-submit lines x.submit s.0 s.1 in
+      let e = requests_at-submit lines x.submit s.0 s.1 in
       here s.0 s.1 i (subst (λ (t : List Request). slice_get (t ++ history_at lines (submits_of xs)) i ≡ Some r) e h)
       (λ j g. placed_as xs (rest_of x xs all) j r g)
     where
@@ -69,11 +66,11 @@ module _ (lines : List Line) where
   member_at [] all i x r h g = absurd cc
   member_at (y ∷ ys) all zero x r h g =
       let same : y ≡ x = cc in
-      let e = requests-submit lines y.submit r (ap (λ (t : Placed). slice_get lines t.submit) same ∙ g) in
+      let e = requests_at-submit lines y.submit r (ap (λ (t : Placed). slice_get lines t.submit) same ∙ g) in
       rw e refl
   member_at (y ∷ ys) all (suc i) x r h g =
       let s = all y (0, refl) in
-      let e = requests-submit lines y.submit s.0 s.1 in
+      let e = requests_at-submit lines y.submit s.0 s.1 in
       rw e (member_at ys (rest_of y ys all) i x r h g)
 
   -- the members that are mine are those placed by lines of mine
@@ -87,7 +84,7 @@ module _ (lines : List Line) where
     history-filter [] all = refl
     history-filter (x ∷ xs) all =
         let s = all x (0, refl) in
-        let e = requests-submit lines x.submit s.0 s.1 in
+        let e = requests_at-submit lines x.submit s.0 s.1 in
         let o = ap (λ (t : Option Line). passes own t) s.1 ∙ submits s.0 in
         rw (e, o) (here s.0 s.1 (mine s.0.op) (history-filter xs (rest_of x xs all)))
       where
@@ -95,5 +92,5 @@ module _ (lines : List Line) where
             → of_part mine (history_at lines (submits_of xs)) ≡ history_at lines (submits_of (kept xs))
             → cond b (q ∷ of_part mine (history_at lines (submits_of xs))) (of_part mine (history_at lines (submits_of xs)))
             ≡ history_at lines (submits_of (cond b (x ∷ kept xs) (kept xs)))
-        here q is true r = let e = requests-submit lines x.submit q is in rw e (ap (λ (t : List Request). q ∷ t) r)
+        here q is true r = let e = requests_at-submit lines x.submit q is in rw e (ap (λ (t : List Request). q ∷ t) r)
         here q is false r = r

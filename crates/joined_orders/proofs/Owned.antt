@@ -2,8 +2,9 @@
 use Rattle.std.proofs.Common.{◌≡◌, ℕ, Bool, true, false, List, [], ◌∷◌, Some, refl, sym, ap, ◌∙◌, inl, inr}
 use Rattle.std.specs.Prelude.{◌==◌, ◌&&◌, ◌||◌, slice_get}
 use Rattle.std.specs.List.{list_any}
-use Rattle.std.proofs.lemmas.Bool.{eq-eqb, eqb-true}
+use Rattle.std.proofs.lemmas.Bool.{eq-eqb, eqb-true, and_parts, and_from}
 use Rattle.execution_laws.specs.Legality.{SubmittedOnce}
+use Rattle.execution_laws.proofs.Ids.{IsOf-both}
 use Rattle.fronts.specs.Parts.{is_of, AreOwn}
 use Rattle.joined_orders.specs.Owning.{submits_own, is_own}
 use Rattle.lemmas.proofs.Members.{Has-cases, Has-first, Has-none, Has-rest}
@@ -20,15 +21,6 @@ or-left false b e = absurd cc
 or-right : (a b : Bool) → b ≡ true → (a || b) ≡ true
 or-right true b e = refl
 or-right false b e = e
-
-and-both : (a b : Bool) → a ≡ true → b ≡ true → (a && b) ≡ true
-and-both true b e f = f
-and-both false b e f = absurd cc
-
-and-true : (a b : Bool) → (a && b) ≡ true → (a ≡ true) × (b ≡ true)
-and-true true true h = (refl, refl)
-and-true true false h = absurd cc
-and-true false b h = absurd cc
 
 pub any-has : {A : Type 0} (p : A → Bool) (xs : List A) (x : A) → Has xs x → p x ≡ true → list_any p xs ≡ true
 any-has p [] x h e = absurd (Has-none x h)
@@ -49,23 +41,19 @@ any-from {A} p (y ∷ ys) e = here (p y) refl e (λ g. any-from p ys g)
 module _ (part : List ℕ → List ℕ) (p : List ℕ) (client id : ℕ) where
   of_same : (r : Request) → IsOf client id r → is_of part p r.op ≡ true → submits_own part p client id (Submit r) ≡ true
   of_same r same e =
-      and-both ((r.client == client) && (r.id == id)) (is_of part p r.op)
-      (and-both (r.client == client) (r.id == id) (eq-eqb r.client client same.same_client) (eq-eqb r.id id same.same_id)) e
+      and_from ((r.client == client) && (r.id == id)) (is_of part p r.op)
+      (and_from (r.client == client) (r.id == id) (eq-eqb r.client client same.same_client) (eq-eqb r.id id same.same_id)) e
 
   same_of : (r : Request) → submits_own part p client id (Submit r) ≡ true → IsOf client id r × (is_of part p r.op ≡ true)
   same_of r e =
-      let a = and-true ((r.client == client) && (r.id == id)) (is_of part p r.op) e in
-      let b = and-true (r.client == client) (r.id == id) a.0 in
+      let a = and_parts ((r.client == client) && (r.id == id)) (is_of part p r.op) e in
+      let b = and_parts (r.client == client) (r.id == id) a.0 in
       (record { same_client = eqb-true r.client client b.0; same_id = eqb-true r.id id b.1 }, a.1)
 
   submits_at : (line : Line) → submits_own part p client id line ≡ true
       → (r : Request) × (line ≡ Submit r) × IsOf client id r × (is_of part p r.op ≡ true)
   submits_at (Submit r) e = let s = same_of r e in (r, refl, s.0, s.1)
   submits_at _ e = absurd cc
-
-same_ids : (client id : ℕ) (p q : Request) → IsOf client id p → IsOf client id q → IsOf p.client p.id q
-same_ids client id p q a b =
-    record { same_client = b.same_client ∙ sym a.same_client; same_id = b.same_id ∙ sym a.same_id }
 
 module _ (part : List ℕ → List ℕ) (lines : List Line) (p : List ℕ) (once : SubmittedOnce lines) where
   accepts : (client id : ℕ) (r : Request) → Has lines (Submit r) → IsOf client id r
@@ -83,7 +71,7 @@ module _ (part : List ℕ → List ℕ) (lines : List Line) (p : List ℕ) (once
           let found = any-from (submits_own part p client id) lines f in
           let q = submits_at part p client id found.0 found.2 in
           let at_q : slice_get lines found.1.0 ≡ Some (Submit q.0) = found.1.1 ∙ ap (λ (t : Line). Some t) q.1 in
-          let one = once h.0 found.1.0 r q.0 h.1 at_q (same_ids client id r q.0 same q.2) in
+          let one = once h.0 found.1.0 r q.0 h.1 at_q (IsOf-both client id r q.0 same q.2) in
           let lines_same : Submit r ≡ Submit q.0 =
           same_Some-at (slice_get lines h.0) (Submit r) (Submit q.0) h.1 (ap (λ (t : ℕ). slice_get lines t) one ∙ at_q) in
           let is : r ≡ q.0 = cc in

@@ -2,7 +2,7 @@
 use Rattle.std.proofs.Common.{◌≡◌, ℕ, suc, ◌≤◌, Bool, true, false, cond, List, [], ◌∷◌, Some, refl, sym, ap, subst, ◌∙◌, arith, inl, inr}
 use Rattle.std.specs.Prelude.{slice_get, filter}
 use Rattle.std.proofs.lemmas.Bool.{cases_lt}
-use Rattle.fronts.proofs.Ranks.{comes_from, rank_passes}
+use Rattle.lemmas.proofs.Ranks.{comes_from, rank_passes}
 use Rattle.lemmas.proofs.Members.{Has-filter, Has-from_filter}
 use Rattle.nop_types.specs.Lists.{Has}
 

@@ -34,7 +34,7 @@ said_within : (rows : List Row) → length (flat_map said_by rows) ≤ length ro
 said_within [] = omega arith
 said_within (row ∷ rows) = omega (arith, says_one row, said_within rows, length-append (said_by row) (flat_map said_by rows))
 
-numbered_each : (line : ℕ) (rows : List Row) → length (places_of line rows) ≡ length (flat_map said_by rows)
+pub numbered_each : (line : ℕ) (rows : List Row) → length (places_of line rows) ≡ length (flat_map said_by rows)
 numbered_each line [] = refl
 numbered_each line (row ∷ rows) =
     omega (
@@ -45,7 +45,7 @@ numbered_each line (row ∷ rows) =
       length-append (said_by row) (flat_map said_by rows),
     )
 
-member_count : (place : ℕ) (history : List Request) → length (members place history) ≡ length history
+pub member_count : (place : ℕ) (history : List Request) → length (members place history) ≡ length history
 member_count place [] = refl
 member_count place (r ∷ history) = ap suc (member_count (place + 1) history)
 

@@ -1,7 +1,8 @@
 -- Lists of bytes, and services that answer with them.
 use Rattle.std.proofs.Common.{◌≡◌, ℕ, zero, suc, ◌<◌, true, List, [], ◌∷◌, ◌++◌, Some, refl, subst, arith}
-use Rattle.std.specs.Prelude.{nat_lt}
-use Rattle.std.proofs.lemmas.Bool.{and_parts, ltb-true}
+use Rattle.std.specs.Prelude.{nat_lt, nat_eq}
+use Rattle.std.proofs.lemmas.Bool.{and_parts, ltb-true, eqb-true}
+use Rattle.std.specs.Cmp.Lexicographic.{pointwise}
 use Rattle.nop_types.specs.Histories.{answer_from}
 use Rattle.nop_types.specs.Lists.{all_below}
 use Rattle.nop_types.specs.Meaning.{Meaning}
@@ -51,3 +52,15 @@ module _ {S : Type 0} (m : Meaning S) (Is : S → Type 0) (opens : Is m.opening)
 
   pub answers_are_bytes : AnswersAreBytes m
   answers_are_bytes rs i result all e = answers_from rs m.opening i result opens all e
+
+-- ---- texts
+
+pub pointwise-true : (xs ys : List ℕ) → pointwise nat_eq xs ys ≡ true → xs ≡ ys
+pointwise-true [] [] e = refl
+pointwise-true [] (y ∷ ys) e = absurd cc
+pointwise-true (x ∷ xs) [] e = absurd cc
+pointwise-true (x ∷ xs) (y ∷ ys) e =
+    let p = and_parts (nat_eq x y) (pointwise nat_eq xs ys) e in
+    let first = eqb-true x y p.0 in
+    let rest = pointwise-true xs ys p.1 in
+    cc

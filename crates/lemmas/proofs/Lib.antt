@@ -1,12 +1,15 @@
 pub mod Bools
 pub mod Bytes
+pub mod Counts
 pub mod Functions
 pub mod Kept
 pub mod Limits
+pub mod Mapped
 pub mod Members
 pub mod Numbers
 pub mod Options
 pub mod Places
 pub mod Prefixes
+pub mod Ranks
 pub mod Slots
 pub mod Views

@@ -1,7 +1,9 @@
 -- Numbers below, above and greatest of a list.
 use Rattle.std.proofs.Common.{◌≡◌, ℕ, zero, suc, ◌<◌, ◌≤◌, Bool, true, false, ltb, List, [], ◌∷◌, ◌++◌, ◌&&◌, ◌||◌, refl, sym, arith, inl}
-use Rattle.std.proofs.Common.{inr}
-use Rattle.std.proofs.lemmas.Bool.{ltb-true, ltb-false, lt-ltb, le-ltb, or_right}
+use Rattle.std.proofs.Common.{inr, ◌∙◌}
+use Rattle.std.proofs.lemmas.Bool.{ltb-true, ltb-false, lt-ltb, le-ltb, or_right, ne_eqb}
+use Rattle.std.specs.Ordering.{nat_cmp, eq_by_cmp}
+use Rattle.std.specs.Cmp.{unsigned_tied}
 use Rattle.nop_types.specs.Lists.{Has, IsGreatest, all_below, any_above}
 use Rattle.lemmas.proofs.Members.{Has-append_left, Has-append_right, Has-append_cases, Has-one, Has-none}
 
@@ -85,3 +87,8 @@ all_below-greatest ns g n h = here (all_below ns n) refl
 
 pub IsGreatest-unique : (ns : List ℕ) (g h : ℕ) → IsGreatest ns g → IsGreatest ns h → g ≡ h
 IsGreatest-unique ns g h p q = omega (arith, p.most h q.has, q.most g p.has)
+
+-- ---- keys
+
+pub not_tied : (q k : ℕ) → (q ≡ k → ⊥) → eq_by_cmp nat_cmp q k ≡ false
+not_tied q k d = unsigned_tied q k ∙ ne_eqb q k d

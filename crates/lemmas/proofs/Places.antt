@@ -1,8 +1,10 @@
 -- Places of lists: of two lists joined, of a list with one more element, of a part, and where one is written.
 use Rattle.std.proofs.Common.{◌≡◌, ℕ, zero, suc, ◌+◌, ◌<◌, List, [], ◌∷◌, ◌++◌, length, take, drop, Some, refl, ap, ◌∙◌, arith, inl, inr}
-use Rattle.std.proofs.Common.{map}
+use Rattle.std.proofs.Common.{map, sym}
 use Rattle.std.specs.Prelude.{◌⊎◌, slice_get, slice_set}
 use Rattle.std.specs.List.{range_with_len}
+use Rattle.std.proofs.lemmas.List.{set-get_or}
+use Rattle.std.proofs.lemmas.Option.{get_or_from_slice_get}
 
 -- ---- a place that is there
 
@@ -108,6 +110,15 @@ slice_get-set_other (y ∷ ys) zero zero x d = absurd (d refl)
 slice_get-set_other (y ∷ ys) zero (suc j) x d = refl
 slice_get-set_other (y ∷ ys) (suc i) zero x d = refl
 slice_get-set_other (y ∷ ys) (suc i) (suc j) x d = slice_get-set_other ys i j x (λ e. d (ap suc e))
+
+pub length-slice_set : {A : Type 0} (xs : List A) (i : ℕ) (x : A) → length (slice_set xs i x) ≡ length xs
+length-slice_set [] i x = refl
+length-slice_set (y ∷ ys) zero x = refl
+length-slice_set (y ∷ ys) (suc i) x = ap suc (length-slice_set ys i x)
+
+-- what stands at a place is written back
+pub slice_set-found : {A : Type 0} (xs : List A) (i : ℕ) (x : A) → slice_get xs i ≡ Some x → slice_set xs i x ≡ xs
+slice_set-found xs i x found = ap (slice_set xs i) (sym (get_or_from_slice_get xs i x x found)) ∙ set-get_or xs i x
 
 -- what stands at a place afterwards was written there, or stood at a place that was not written
 pub slice_get-set_cases : {A : Type 0} (xs : List A) (i : ℕ) (x : A) (j : ℕ) (y : A) → slice_get (slice_set xs i x) j ≡ Some y

@@ -1,6 +1,6 @@
 -- Slots of logs: of prefixes, of longer logs, of logs in which slots are written, and of a log that is laid over another one.
 use Rattle.std.proofs.Common.{◌≡◌, ℕ, zero, suc, ◌+◌, ◌<◌, ◌≤◌, List, [], ◌∷◌, ◌++◌, length, take, drop, max, Some, refl, sym, ap, ◌∙◌}
-use Rattle.std.proofs.Common.{arith, inl, inr, map, take_at, length-take-le}
+use Rattle.std.proofs.Common.{arith, inl, inr, map, take_at, length-take-le, subst}
 use Rattle.std.specs.Prelude.{slice_get, ◌⊎◌}
 use Rattle.std.specs.List.{range_with_len}
 use Rattle.std.proofs.lemmas.List.{append-nil, length-set, length_push}
@@ -71,6 +71,10 @@ Carries-prefix xs ys (suc i) x p h =
 
 pub slot_of-last : {A : Type 0} (l : List A) (x : A) → slot_of (l ++ x ∷ []) (suc (length l)) ≡ Some x
 slot_of-last l x = slice_get-append_at l x []
+
+pub slot_of-next : {A : Type 0} (l : List A) (x : A) → slot_of (l ++ x ∷ []) (length l + 1) ≡ Some x
+slot_of-next l x =
+    let e : suc (length l) ≡ length l + 1 = omega arith in subst (λ (i : ℕ). slot_of (l ++ x ∷ []) i ≡ Some x) e (slot_of-last l x)
 
 pub slot_of-push : {A : Type 0} (l : List A) (x : A) → slot_of (l ++ x ∷ []) (length (l ++ x ∷ [])) ≡ Some x
 slot_of-push l x =

@@ -7,6 +7,7 @@
 //! from std. An equation is named by its left side (`length-laid`), another lemma by what it gives.
 //! Tactics take the rule sets `order_of_views`, `rank_of_views`, `written_slots` and `laid_slots`.
 //!
-//! Files, in `proofs/`: `Members`, `Places`, `Prefixes`, `Slots`, `Numbers`, `Views`, `Functions`, `Kept`;
-//! `Limits` of a configuration, `Bools`, `Options`; `Bytes`, with services that answer with bytes.
+//! Files, in `proofs/`: `Members`, `Places`, `Mapped`, `Prefixes`, `Counts`, `Ranks`, `Slots`,
+//! `Numbers`, `Views`, `Functions`, `Kept`; `Limits` of a configuration, `Bools`, `Options`; `Bytes`,
+//! with services that answer with bytes.
 #![tactic(auto)]

@@ -1,9 +1,7 @@
 -- The answer is right for what was read.
-use Rattle.std.proofs.Common.{◌≡◌, ◌∙◌, ◌+◌, ◌≤◌, ℕ, Bool, List, [], ◌∷◌, ◌++◌, length, map, refl, sym, ap, subst, arith, length-append, inr}
+use Rattle.std.proofs.Common.{◌≡◌, ◌∙◌, ◌≤◌, ℕ, Bool, List, [], ◌∷◌, ◌++◌, length, map, refl, sym, ap, subst, arith, length-append, inr}
 use Rattle.std.specs.Global.{Vec}
-use Rattle.std.specs.List.{flat_map}
 use Rattle.std.specs.Prelude.{Option, Some, None, Result, Ok, Err, slice_get}
-use Rattle.std.proofs.lemmas.List.{length-map}
 use Rattle.std.proofs.lemmas.Option.{slice_get_within}
 use Rattle.filled_orders.proofs.Structure.{groundless_out}
 use Rattle.filled_orders.specs.FilledAnswers.{IsFilledAnswer, IsFilledOrder}
@@ -21,18 +19,18 @@ use Rattle.nop_types.specs.Lines.{Line}
 use Rattle.nop_types.specs.Lines as lines
 use Rattle.nop_types.specs.Meaning.{Meaning}
 use Rattle.nop_types.specs.declared.limits.TheConstants.{MAX_RESULT_BYTES}
+use Rattle.judge.proofs.Checked.{numbered_each}
 use Rattle.order_search.specs.Searching.{requests_at, told_by}
 use Rattle.order_search.specs.Turns.{history_at}
 use Rattle.pairs.proofs.StopLemmas.{no_order}
 use Rattle.pairs.specs.Stops.{IsGroundless}
 use Rattle.transcript_reader.specs.Claims.{lines_of}
 use Rattle.transcript_reader.specs.Steps.{SoFar}
-use Rattle.transcript_reader.specs.Transcripts.{AllFit, members, places_of, said_by, transcript_text}
+use Rattle.transcript_reader.specs.Transcripts.{AllFit, members, transcript_text}
 use Rattle.transcript_reader.specs.declared.check_error.CheckError.{CheckError}
 use Rattle.transcript_reader.specs.declared.check_error.CheckError.TheVariants as errors
 use Rattle.transcript_reader.specs.declared.claim.Claim.{Claim}
 use Rattle.transcript_rows.specs.LineRows.{row_of}
-use Rattle.transcript_rows.specs.declared.row.Row.{Row}
 use Rattle.transcript_rows.specs.declared.row.Row.TheVariants.{End}
 use Rattle.unknown_results.specs.Asking.{unknown_in}
 use Rattle.unknown_results.specs.Filling.{HasNoOrder}
@@ -117,17 +115,6 @@ module _ {S : Type 0} (m : Meaning S) (IsSound : S → Type 0) (opens : IsSound 
       omega (arith, within, e)
 
 -- ---- of a source
-
-numbered_each : (line : ℕ) (rows : List Row) → length (places_of line rows) ≡ length (flat_map said_by rows)
-numbered_each line [] = refl
-numbered_each line (row ∷ rows) =
-    omega (
-      arith,
-      numbered_each (line + 1) rows,
-      length-map (said_by row) (λ (l : Line). line),
-      length-append (map (λ (l : Line). line) (said_by row)) (places_of (line + 1) rows),
-      length-append (said_by row) (flat_map said_by rows),
-    )
 
 module _ (before left : Option (List ℕ)) (s : SoFar) (marks : List Bool) (read : IsTranscript before left s marks) where
   pub input : IsInput s.said s.places

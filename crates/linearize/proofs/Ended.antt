@@ -1,6 +1,5 @@
 -- With what status it ends.
-use Rattle.std.proofs.Common.{◌≡◌, ℕ, List, Option, Result, Ok, Err, length, refl, subst, sym, inl, inr}
-use Rattle.std.proofs.Math.Seq.{take-length}
+use Rattle.std.proofs.Common.{◌≡◌, ℕ, List, Option, Result, Ok, Err, refl, subst, inl, inr}
 use Rattle.std.specs.Io.KnownBytes.{Appends}
 use Rattle.linearize.specs.Answers.{IsAnswered}
 use Rattle.linearize.specs.Ending.{Ends, ReadsTo, Wrote, status_of}
@@ -10,14 +9,9 @@ use Rattle.linearize.specs.declared.answer.Answer.TheVariants.{Order, NoOrder, R
 use Rattle.linearize.specs.declared.status.Status.{Status}
 use Rattle.nop_types.specs.Meaning.{Meaning}
 use Rattle.outside.specs.Causes.{CountsFor, StaysOrRises}
-use Rattle.outside.specs.Prefixes.{AppendsUpTo}
+use Rattle.outside.proofs.Written.{all_of}
 use Rattle.transcript_reader.specs.declared.check_error.CheckError.{CheckError}
 use Rattle.transcript_reader.specs.declared.check_error.CheckError.TheVariants as errors
-
--- a text is a front of itself
-all_of : (text : List ℕ) (before now : Option (List ℕ)) → Appends before now text → AppendsUpTo before now text
-all_of text before now wrote =
-    record { count = length text; appended = subst (Appends before now) (sym (take-length text)) wrote }
 
 module _ {S : Type 0} (m : Meaning S) (part_of : List ℕ → List ℕ) (most_parts most : ℕ) (bytes left before now : Option (List ℕ)) where
   -- by the answer that was written

@@ -1,8 +1,7 @@
 -- Results that were filled in fit a line.
 use Rattle.std.proofs.Common.{◌≡◌, ◌≤◌, ℕ, zero, suc, Bool, List, [], ◌∷◌, length, map, Some, refl, sym, ap, subst}
 use Rattle.std.specs.Prelude.{nat_le, slice_get}
-use Rattle.std.proofs.lemmas.Bool.{and_parts, le-leb}
-use Rattle.linearize.proofs.Spelled.{both}
+use Rattle.std.proofs.lemmas.Bool.{and_parts, le-leb, and_from}
 use Rattle.linearize.specs.Answering.{AllHaveBytes}
 use Rattle.nop_types.specs.Histories.{answer_from}
 use Rattle.nop_types.specs.Legality.{Legal}
@@ -50,7 +49,7 @@ with_result : (client id : ℕ) (a b : List ℕ) → RowFits (rows.Accept client
 with_result client id a b fits new =
     let old = and_parts (pair_fits client id) (nat_le (length b) MAX_RESULT_BYTES) fits.ranges in
     record {
-      ranges = both (pair_fits client id) (nat_le (length a) MAX_RESULT_BYTES) old.0 (le-leb (length a) MAX_RESULT_BYTES new.short);
+      ranges = and_from (pair_fits client id) (nat_le (length a) MAX_RESULT_BYTES) old.0 (le-leb (length a) MAX_RESULT_BYTES new.short);
       typed = (fits.typed.0, new.bytes);
     }
 

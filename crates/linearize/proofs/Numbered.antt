@@ -1,11 +1,12 @@
 -- The members of a history, numbered.
-use Rattle.std.proofs.Common.{◌≡◌, ◌∙◌, ◌+◌, ◌<◌, add-one, ℕ, zero, suc, List, [], ◌∷◌, ◌++◌, length, sym, ap, arith, append_assoc, get_or}
+use Rattle.std.proofs.Common.{◌≡◌, ◌∙◌, ◌+◌, ◌<◌, add-one, ℕ, List, ◌∷◌, ◌++◌, length, sym, ap, arith, append_assoc, get_or}
 use Rattle.std.specs.Prelude.{Option, Some, drop, slice_get}
 use Rattle.std.specs.List.{flat_map}
 use Rattle.std.proofs.lemmas.List.{length-map}
 use Rattle.std.proofs.lemmas.Option.{slice_get-get_or, slice_get_within}
 use Rattle.nop_types.specs.Lines.{Line, Submit}
 use Rattle.nop_types.specs.declared.request.Request.{Request}
+use Rattle.lemmas.proofs.Places.{Splits-at}
 use Rattle.order_search.specs.Searching.{told_by}
 use Rattle.order_search.specs.Turns.{AllSubmit, history_at}
 use Rattle.transcript_reader.specs.Claims.{line_of, lines_of}
@@ -39,11 +40,6 @@ submits_there ls places k line submit below is =
     let there = placed ls places k submit below in
     let same = there.submits in (there.request, cc)
 
-drop_at : (places : List ℕ) (k i : ℕ) → slice_get places k ≡ Some i → drop k places ≡ i ∷ drop (suc k) places
-drop_at [] k i e = absurd cc
-drop_at (p ∷ places) zero i e = let same : p ≡ i = cc in ap (λ (x : ℕ). x ∷ places) same
-drop_at (p ∷ places) (suc k) i e = drop_at places k i e
-
 -- one more member is written, and the others are left
 pub one_written : (ls : List Line) (places : List ℕ) (k number : ℕ) (line : Line) (before after : List ℕ) → AllSubmit ls places
     → k < length places → slice_get ls (get_or places k 0) ≡ Some line
@@ -54,7 +50,7 @@ one_written ls places k number line before after submit below is wrote =
     let there = placed ls places k submit below in
     let request : line ≡ Submit there.request = let same = there.submits in cc in
     let rest : List ℕ = flat_map row_text (members (number + 1) (history_at ls (drop (k + 1) places))) in
-    let next : drop k places ≡ get_or places k 0 ∷ drop (k + 1) places = rw add-one (drop_at places k (get_or places k 0) there.there) in
+    let next : drop k places ≡ get_or places k 0 ∷ drop (k + 1) places = rw add-one (Splits-at places k (get_or places k 0) there.there).back in
     let history : history_at ls (drop k places) ≡ there.request ∷ history_at ls (drop (k + 1) places) =
     ap (history_at ls) next
     ∙ ap (λ (o : Option Line). told_by o ++ history_at ls (drop (k + 1) places)) there.submits in

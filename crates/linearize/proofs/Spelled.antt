@@ -1,10 +1,10 @@
 -- What is written where an order is found spells a transcript of the same claims.
-use Rattle.std.proofs.Common.{◌≡◌, ◌∙◌, ◌+◌, ◌<◌, ◌≤◌, ◌^◌, ℕ, zero, suc, Bool, true, false, List, [], ◌∷◌, ◌++◌, length, map, refl, sym, ap}
+use Rattle.std.proofs.Common.{◌≡◌, ◌∙◌, ◌+◌, ◌<◌, ◌≤◌, ◌^◌, ℕ, zero, suc, Bool, List, [], ◌∷◌, ◌++◌, length, map, refl, sym, ap}
 use Rattle.std.proofs.Common.{arith, append_assoc, append-nil, length-append, subst}
-use Rattle.std.specs.Prelude.{◌&&◌, Err, Ok, OnOk, Result, Some, nat_le, slice_get}
-use Rattle.std.specs.List.{flat_map, list_all}
+use Rattle.std.specs.Prelude.{Err, Ok, OnOk, Result, Some, nat_le, slice_get}
+use Rattle.std.specs.List.{flat_map}
 use Rattle.std.proofs.lemmas.List.{length-map}
-use Rattle.std.proofs.lemmas.Bool.{le-leb}
+use Rattle.std.proofs.lemmas.Bool.{le-leb, and_from}
 use Rattle.lemmas.proofs.Members.{Has-first, Has-rest}
 use Rattle.linearize.specs.Answers.{IsOrdered}
 use Rattle.linearize.specs.Texts.{header, transcript_of}
@@ -14,11 +14,13 @@ use Rattle.nop_types.specs.Lines as lines
 use Rattle.nop_types.specs.Lists.{Has}
 use Rattle.nop_types.specs.Meaning.{Meaning}
 use Rattle.nop_types.specs.declared.request.Request.{Request}
+use Rattle.judge.proofs.Checked.{member_count}
 use Rattle.transcript_reader.specs.Claims.{line_of, lines_of}
-use Rattle.transcript_reader.specs.Transcripts.{AllFit, Spells, Transcript, body, is_event, members, said_by, transcript_lines, transcript_text}
+use Rattle.transcript_reader.specs.Transcripts.{AllFit, Spells, Transcript, body, members, said_by, transcript_lines, transcript_text}
 use Rattle.transcript_reader.specs.declared.claim.Claim.{Claim}
 use Rattle.transcript_reader.specs.declared.claim.Claim.TheVariants.{Submitted, Accepted}
 use Rattle.transcript_reader.specs.declared.limits.TheConstants.{MAX_TRANSCRIPT_LINES}
+use Rattle.transcript_reader.proofs.Events.{fit_both, all_events}
 use Rattle.transcript_rows.proofs.LineRows.{line_as_row, end_as_row}
 use Rattle.transcript_rows.specs.LineRows.{row_of}
 use Rattle.transcript_rows.specs.Rows.{RowFits, request_fits, row_text}
@@ -29,10 +31,6 @@ use Rattle.unknown_results.specs.Filling.{Fills}
 use Rattle.transcript_text.specs.Transcript.{end_line, line_text, lines_text, transcript_line}
 
 -- ---- rows that fit
-
-fit_both : (xs ys : List Row) → AllFit xs → AllFit ys → AllFit (xs ++ ys)
-fit_both [] ys f g = g
-fit_both (x ∷ xs) ys f g = (f.0, fit_both xs ys f.1 g)
 
 pub fit_front : (xs ys : List Row) → AllFit (xs ++ ys) → AllFit xs
 fit_front [] ys f = tt
@@ -60,13 +58,9 @@ fits_at [] i line f e = absurd cc
 fits_at (c ∷ claims) zero line f e = let same : c ≡ line = cc in subst (λ (l : Line). RowFits (row_of l)) same f.0
 fits_at (c ∷ claims) (suc i) line f e = fits_at claims i line f.1 e
 
-pub both : (a b : Bool) → a ≡ true → b ≡ true → a && b ≡ true
-both true b e f = f
-both false b e f = absurd cc
-
 member_fits : (place : ℕ) (r : Request) → 1 ≤ place → place < 2 ^ 32 → RowFits (Submit r) → RowFits (Member place r)
 member_fits place r low high f =
-    record { ranges = both (nat_le 1 place) (request_fits r) (le-leb 1 place low) f.ranges; typed = (high, f.typed) }
+    record { ranges = and_from (nat_le 1 place) (request_fits r) (le-leb 1 place low) f.ranges; typed = (high, f.typed) }
 
 members_fit : (place : ℕ) (history : List Request) → 1 ≤ place → place + length history ≤ 2 ^ 32
     → ((r : Request) → Has history r → RowFits (Submit r)) → AllFit (members place history)
@@ -78,17 +72,6 @@ members_fit place (r ∷ history) low room all = (
 
 -- ---- what is said
 
-line_is_event : (l : Line) → is_event (row_of l) ≡ true
-line_is_event (lines.Dead actor) = refl
-line_is_event _ = refl
-
-first_then : (p : Row → Bool) (x : Row) (xs : List Row) → p x ≡ true → list_all p xs ≡ true → list_all p (x ∷ xs) ≡ true
-first_then p x xs e f = rw e f
-
-all_events : (ls : List Line) → list_all is_event (map row_of ls) ≡ true
-all_events [] = refl
-all_events (l ∷ ls) = first_then is_event (row_of l) (map row_of ls) (line_is_event l) (all_events ls)
-
 -- claims say themselves
 said_again : (claims : List Claim) → flat_map said_by (map row_of (lines_of claims)) ≡ lines_of claims
 said_again [] = refl
@@ -96,10 +79,6 @@ said_again (Submitted r ∷ claims) = ap (λ (ls : List Line). lines.Submit r �
 said_again (Accepted client id result ∷ claims) = ap (λ (ls : List Line). lines.Accept client id result ∷ ls) (said_again claims)
 
 -- ---- the text
-
-member_count : (place : ℕ) (history : List Request) → length (members place history) ≡ length history
-member_count place [] = refl
-member_count place (r ∷ history) = ap suc (member_count (place + 1) history)
 
 line_count : (claims : List Line) (history : List Request)
     → length (transcript_lines (transcript_of claims history)) ≡ length claims + length history + 2

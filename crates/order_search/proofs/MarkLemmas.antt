@@ -1,22 +1,17 @@
 -- The marks of what is placed, one request more or less.
-use Rattle.std.proofs.Common.{◌≡◌, ℕ, zero, suc, Bool, true, false, List, [], ◌∷◌, ◌++◌, length, Some, refl, sym, ap, subst, ◌∙◌, inl, inr}
+use Rattle.std.proofs.Common.{◌≡◌, ℕ, Bool, true, false, List, [], ◌∷◌, ◌++◌, length, Some, sym, subst, ◌∙◌, inl, inr}
 use Rattle.std.specs.Prelude.{slice_get, slice_set, replicate}
 use Rattle.std.proofs.lemmas.List.{length-replicate}
 use Rattle.execution_laws.specs.Legality.{IsNoMember, SubmittedOnce}
 use Rattle.fronts.specs.Fronts.{IsMember}
 use Rattle.lemmas.proofs.Members.{Has-none}
 use Rattle.lemmas.proofs.Options.{same_Some-at}
-use Rattle.lemmas.proofs.Places.{slice_get-set_cases}
+use Rattle.lemmas.proofs.Places.{slice_get-set_cases, length-slice_set}
 use Rattle.nop_types.specs.Lines.{Line, Submit}
 use Rattle.nop_types.specs.declared.request.Request.{Request}
 use Rattle.order_search.proofs.Edits.{unmarked_all}
 use Rattle.order_search.proofs.FrontMembers.{IsMember-push, IsMember-last, IsMember-push_cases, IsNoMember-push, IsNoMember-front}
 use Rattle.order_search.specs.Placing.{AreMarked}
-
-length_set : {A : Type 0} (xs : List A) (n : ℕ) (x : A) → length (slice_set xs n x) ≡ length xs
-length_set [] n x = refl
-length_set (y ∷ xs) zero x = refl
-length_set (y ∷ xs) (suc n) x = ap suc (length_set xs n x)
 
 pub nothing_marked : (lines : List Line) (n : ℕ) → length lines ≡ n → AreMarked lines [] (replicate n false)
 nothing_marked lines n e = record {
@@ -36,7 +31,7 @@ module _ (lines : List Line) (once : SubmittedOnce lines) (front : List Request)
   -- its request is placed
   pub marked_more : AreMarked lines front placed → AreMarked lines (front ++ r ∷ []) (slice_set placed i true)
   marked_more old = record {
-    count = length_set placed i true ∙ old.count;
+    count = length-slice_set placed i true ∙ old.count;
     marked = λ n q h at. elim (slice_get-set_cases placed i true n true h) [
       | inl here ↦
           subst (λ (t : Request). IsMember (front ++ r ∷ []) t.client t.id) (same_request n q here.0 at) (IsMember-last front r)
@@ -53,7 +48,7 @@ module _ (lines : List Line) (once : SubmittedOnce lines) (front : List Request)
   pub marked_less : IsNoMember front r.client r.id → AreMarked lines (front ++ r ∷ []) placed
       → AreMarked lines front (slice_set placed i false)
   marked_less new old = record {
-    count = length_set placed i false ∙ old.count;
+    count = length-slice_set placed i false ∙ old.count;
     marked = λ n q h at. elim (slice_get-set_cases placed i false n true h) [
       | inl here ↦ absurd (let x : true ≡ false = here.1 in cc)
       | inr there ↦ elim (IsMember-push_cases front r q.client q.id (old.marked n q there.1 at)) [

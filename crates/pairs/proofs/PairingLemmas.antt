@@ -1,5 +1,5 @@
 -- Pairs of lines, one line more.
-use Rattle.std.proofs.Common.{◌≡◌, ℕ, zero, suc, ◌<◌, ◌≤◌, cond, List, [], ◌∷◌, ◌++◌, length, Option, Some, None, refl, sym, ap, subst, ◌∙◌, arith, inl, inr}
+use Rattle.std.proofs.Common.{◌≡◌, ℕ, suc, ◌<◌, ◌≤◌, cond, List, [], ◌∷◌, ◌++◌, length, Option, Some, None, refl, sym, ap, subst, ◌∙◌, arith, inl, inr}
 use Rattle.std.proofs.Common.{length-append}
 use Rattle.std.specs.Prelude.{◌⊎◌, slice_get, slice_set}
 use Rattle.std.proofs.lemmas.Bool.{cases_lt}
@@ -9,17 +9,13 @@ use Rattle.execution_laws.specs.Legality.{SubmittedOnce}
 use Rattle.fronts.specs.Fronts.{AcceptedLater}
 use Rattle.lemmas.proofs.Options.{same_Some-at}
 use Rattle.lemmas.proofs.Places.{slice_get-append_left, slice_get-append_at, slice_get-push_cases, slice_get-set_here, slice_get-set_other, slice_get-set_cases}
+use Rattle.lemmas.proofs.Places.{length-slice_set}
 use Rattle.nop_types.specs.Legality.{IsOf, AcceptedOnce}
 use Rattle.nop_types.specs.Lines.{Line, Submit, Accept}
 use Rattle.nop_types.specs.declared.request.Request.{Request}
 use Rattle.pairs.specs.Pairing.{IsPair, HasSubmit, ArePaired, IsPairing}
 use Rattle.pairs.specs.Submitted.{same_pair}
 use Rattle.pairs.proofs.SubmittedLemmas.{nothing_noted, noted_stays, noted_more}
-
-length_set : {A : Type 0} (xs : List A) (n : ℕ) (x : A) → length (slice_set xs n x) ≡ length xs
-length_set [] n x = refl
-length_set (y ∷ xs) zero x = refl
-length_set (y ∷ xs) (suc n) x = ap suc (length_set xs n x)
 
 length_push : {A : Type 0} (xs : List A) (x : A) (k : ℕ) → length xs ≡ k → length (xs ++ x ∷ []) ≡ suc k
 length_push xs x k e = let l = length-append xs (x ∷ []) in omega (arith, l, e)
@@ -158,7 +154,7 @@ module _ (lines : List Line) (k : ℕ) (f : ℕ × ℕ → Option ℕ) (accepts 
       pairing_accepts = record {
         noted = noted_stays lines k f old.noted (λ r h. not_submitting k r refl h);
         paired = record {
-          accepts_length = length_push (slice_set accepts i (Some k)) None k (length_set accepts i (Some k) ∙ old.paired.accepts_length);
+          accepts_length = length_push (slice_set accepts i (Some k)) None k (length-slice_set accepts i (Some k) ∙ old.paired.accepts_length);
           submits_length = length_push submits (Some i) k old.paired.submits_length;
           accepted = λ n j e. elim (pushed (slice_set accepts i (Some k)) None n j e) [
             | inl before ↦ elim (slice_get-set_cases accepts i (Some k) n (Some j) before) [

@@ -1,7 +1,7 @@
 -- Where clients and ids are submitted, one line more.
 use Rattle.std.proofs.Common.{◌≡◌, ℕ, suc, Bool, true, false, cond, List, Option, Some, None, refl, sym, ap, subst, ◌∙◌, arith, inl, inr}
-use Rattle.std.specs.Prelude.{◌⊎◌, ◌==◌, ◌&&◌, slice_get}
-use Rattle.std.proofs.lemmas.Bool.{cases_lt, eq-eqb, eqb-true}
+use Rattle.std.specs.Prelude.{◌⊎◌, ◌==◌, slice_get}
+use Rattle.std.proofs.lemmas.Bool.{cases_lt, eq-eqb, eqb-true, and_parts}
 use Rattle.execution_laws.proofs.Ids.{IsOf-refl}
 use Rattle.lemmas.proofs.Options.{same_Some-at}
 use Rattle.nop_types.specs.Legality.{IsOf}
@@ -12,14 +12,9 @@ use Rattle.pairs.specs.Submitted.{same_pair, SubmitsAt, IsNoted}
 same_both : (a b : ℕ) (p : ℕ × ℕ) → a ≡ p.0 → b ≡ p.1 → (a, b) ≡ p
 same_both a b (c, d) e f = cc
 
-and-true : (a b : Bool) → (a && b) ≡ true → (a ≡ true) × (b ≡ true)
-and-true true true h = (refl, refl)
-and-true true false h = absurd cc
-and-true false b h = absurd cc
-
 same_pair-true : (p q : ℕ × ℕ) → same_pair p q ≡ true → p ≡ q
 same_pair-true (a, b) (c, d) h =
-    let e = and-true (a == c) (b == d) h in
+    let e = and_parts (a == c) (b == d) h in
     same_both a b (c, d) (eqb-true a c e.0) (eqb-true b d e.1)
 
 same_pair-refl : (p : ℕ × ℕ) → same_pair p p ≡ true

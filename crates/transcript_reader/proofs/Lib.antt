@@ -1,5 +1,6 @@
 pub mod AsItIs
 pub mod Behinds
+pub mod Events
 pub mod Readings
 pub mod RowLemmas
 pub mod Runs

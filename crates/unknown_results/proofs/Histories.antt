@@ -8,7 +8,8 @@ use Rattle.nop_types.specs.Lines.{Line, Submit}
 use Rattle.nop_types.specs.Lists.{Has}
 use Rattle.nop_types.specs.Meaning.{Meaning}
 use Rattle.nop_types.specs.declared.request.Request.{Request}
-use Rattle.unknown_results.proofs.Lines.{at_map, from_map, takes_asked, unless_asked, asked_lines, from_submit, from_accept, at_submit, at_accept, same_asked}
+use Rattle.lemmas.proofs.Mapped.{slice_get-into_map}
+use Rattle.unknown_results.proofs.Lines.{from_map, takes_asked, unless_asked, asked_lines, from_submit, from_accept, at_submit, at_accept, same_asked}
 use Rattle.unknown_results.specs.AnyResults.{any_result, takes_any, unless}
 use Rattle.unknown_results.specs.Asking.{asked, without_byte, without_first}
 use Rattle.unknown_results.specs.Filling.{AreAnswers, HasNoOrder}
@@ -117,7 +118,7 @@ module _ {S : Type 0} (m : Meaning S) where
             (at_accept unknown filled k client id a g) (at_accept unknown filled l client id b h);
         answered = λ k client id result h.
             let an = legal.answered k client id (cond (unknown client id) [] result) (at_accept unknown filled k client id result h) in
-            let there = at_map without_byte history an.place an.request an.member in
+            let there = slice_get-into_map without_byte history an.place an.request an.member in
             let same : IsOf client id (without_byte an.request) =
             record { same_client = an.same.same_client; same_id = an.same.same_id } in
             record {
@@ -176,7 +177,7 @@ module _ {S : Type 0} (m : Meaning S) where
           record {
             place = an.place;
             request = asked unknown q;
-            member = at_map (asked unknown) history an.place q an.member;
+            member = slice_get-into_map (asked unknown) history an.place q an.member;
             same = to_asked unknown client id (asked unknown q) q refl an.same;
             answer = asked_answer unknown m.opening history an.place q t.0 an.member an.answer
                 ∙ ap (λ (c : ℕ). Some (cond (unknown c q.id) [] t.0)) an.same.same_client

@@ -3,16 +3,12 @@ use Rattle.std.proofs.Common.{◌≡◌, ◌∙◌, ℕ, zero, suc, Bool, true, 
 use Rattle.std.specs.Prelude.{slice_get}
 use Rattle.nop_types.specs.Lines.{Line, Submit, Accept}
 use Rattle.nop_types.specs.declared.request.Request.{Request}
+use Rattle.lemmas.proofs.Mapped.{slice_get-into_map}
 use Rattle.unknown_results.specs.AnyResults.{takes_any, unless}
 use Rattle.unknown_results.specs.Asking.{byte_of, asked, asked_line, erased, without_byte}
 use Rattle.unknown_results.specs.Filling.{Fills}
 
 -- ---- lists, member by member
-
-pub at_map : {A B : Type 0} (f : A → B) (xs : List A) (i : ℕ) (x : A) → slice_get xs i ≡ Some x → slice_get (map f xs) i ≡ Some (f x)
-at_map f [] i x e = absurd cc
-at_map f (y ∷ xs) zero x e = let same : y ≡ x = cc in ap (λ z. Some (f z)) same
-at_map f (y ∷ xs) (suc i) x e = at_map f xs i x e
 
 pub from_map : {A B : Type 0} (f : A → B) (xs : List A) (i : ℕ) (y : B) → slice_get (map f xs) i ≡ Some y
     → (x : A) × (slice_get xs i ≡ Some x) × (y ≡ f x)
@@ -66,11 +62,11 @@ module _ (unknown : ℕ → ℕ → Bool) where
         (s.0, x.1 ∙ ap (λ (l : Line). Some l) s.1, s.2)
 
     pub at_submit : (i : ℕ) (r : Request) → slice_get lines i ≡ Some (Submit r) → slice_get asked_lines i ≡ Some (Submit (asked unknown r))
-    at_submit i r e = at_map (asked_line unknown) lines i (Submit r) e
+    at_submit i r e = slice_get-into_map (asked_line unknown) lines i (Submit r) e
 
     pub at_accept : (k client id : ℕ) (a : List ℕ) → slice_get lines k ≡ Some (Accept client id a)
         → slice_get asked_lines k ≡ Some (Accept client id (cond (unknown client id) [] a))
-    at_accept k client id a e = at_map (asked_line unknown) lines k (Accept client id a) e
+    at_accept k client id a e = slice_get-into_map (asked_line unknown) lines k (Accept client id a) e
 
   -- ---- lines that are the same but for unknown results
 
