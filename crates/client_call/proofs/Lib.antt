@@ -1,5 +1,3 @@
-mod Accepting
-mod Ending
 mod LoneRequests
 mod SessionEnds
 mod Sessions

@@ -2,7 +2,7 @@
 use Rattle.std.proofs.Common.{◌≡◌, ℕ, zero, suc, ◌+◌, ◌≤◌, true, false, Option, Some, None, refl, sym, ap, subst, ◌∙◌, inl, inr, arith}
 use Rattle.std.proofs.Common.{List, [], ◌∷◌, ◌++◌, length}
 use Rattle.std.specs.Prelude.{◌⊎◌, ◌==◌, nat_lt, not, OnOk, Result, Ok, Err}
-use Rattle.std.proofs.lemmas.Bool.{eqb-true}
+use Rattle.std.proofs.lemmas.Bool.{eq-eqb, eqb-true}
 use Rattle.nop_types.specs.Configuration.{Configuration}
 use Rattle.nop_types.specs.declared.limits.TheConstants.{WINDOW}
 use Rattle.nop_types.specs.Given.{Given, Submit}
@@ -31,8 +31,14 @@ use Rattle.client_call.specs.Calls.{GivesAccepted}
 use Rattle.client_call.specs.Sessions as sessions
 use Rattle.client_call.specs.Sessions.{HasNoneOpen, IsRun, SessionState, acceptance, awaiting, first_of}
 use Rattle.client_call.specs.declared.errors.CallError.{CallError}
-use Rattle.client_call.proofs.Accepting.{alone_is, alone_left}
 use Rattle.client_call.proofs.Sessions.{acceptance_next, begun, had_room, no_op, others, row_rests, waits_none}
+
+-- the only open request is the one that is accepted
+pub alone_is : (r : Request) (id : ℕ) → Holds (r ∷ []) id → id ≡ r.id
+alone_is r id h = sym h.2 ∙ ap (λ (q : Request). q.id) (Has-one h.0 r h.1)
+
+pub alone_left : (r : Request) (id : ℕ) → id ≡ r.id → without (r ∷ []) id ≡ []
+alone_left r id is = rw (eq-eqb r.id id (sym is)) refl
 
 -- ---- what is accepted was submitted before
 

@@ -16,7 +16,6 @@ use Rattle.client_call.specs.Calls.{GivesAccepted, SomeCallsMade, TurnsEnded, er
 use Rattle.client_call.specs.Sessions.{Answered, EndsTurns, SessionState, TakesTurns, acceptance, awaiting, first_of, is_done, next, run_of, timers}
 use Rattle.client_call.specs.declared.errors.CallError.{CallError}
 use Rattle.client_call.specs.declared.errors.CallError.TheVariants.{PortFault, LinkFault, Unanswered, NoMemory}
-use Rattle.client_call.proofs.Ending.{no_calls}
 
 module _ (at : Address) (s t : SessionState) (op : List ℕ) (turns : ℕ) (h i : Option (List ℕ)) (a b : LinkSide) where
   abbrev asks : Step → List Effect
@@ -96,6 +95,11 @@ module _ (at : Address) (s t : SessionState) (op : List ℕ) (turns : ℕ) (h i 
   turns_failed None values e run = tt
   turns_failed (Some answers) None e run = tt
   turns_failed (Some answers) (Some values) e run = run_failed answers values e run
+
+no_calls : (trace : Option (List LinkCall)) (losses : ℕ) → Sends [] (side trace 0 losses) (side trace 0 losses)
+no_calls None losses = record { tries = []; all = refl; trace = tt; lost = refl; losses = refl; observed = tt }
+no_calls (Some cs) losses =
+    record { tries = []; all = refl; trace = ap Some (sym (append-nil cs)); lost = refl; losses = refl; observed = refl }
 
 -- the core had failed before
 pub turns_before : (at : Address) (s : SessionState) (op : List ℕ) (turns : ℕ) (answers : Option (List PollAnswer)) (values : Option (List ℕ))

@@ -27,7 +27,7 @@ use Rattle.udp_node.specs.NodeRun.{first_inputs}
 use Rattle.udp_node.specs.declared.address.Address.{Address}
 use Rattle.client_call.specs.Calls.{GivesAccepted}
 use Rattle.client_call.specs.Sessions as sessions
-use Rattle.client_call.specs.Sessions.{AnswersOp, GoesOn, IsAnswered, IsRun, SessionState, Submits, acceptance, awaiting, first_of, last_id}
+use Rattle.client_call.specs.Sessions.{AnswersOp, GoesOn, IsAnswered, IsLeftOpen, IsRun, SessionState, Submits, acceptance, awaiting, first_of, last_id}
 use Rattle.client_call.specs.declared.errors.CallError.{CallError}
 use Rattle.client_call.specs.declared.errors.CallError.TheVariants.{Unanswered}
 
@@ -305,10 +305,14 @@ module _ (at : Address) (s t : SessionState) (op : List ℕ) (h i : Option (List
       let both : None ≡ Some a = sym (acceptance_none may) ∙ is in
       absurd cc
 
+  left_open : (o : Option Accept) → acceptance t ≡ o → GivesAccepted o (Err Unanswered) → IsLeftOpen s t
+  left_open None is gives = λ may. sym (acceptance_next may) ∙ is
+  left_open (Some a) is gives = absurd gives
+
   pub goes_on : (result : Result Accept CallError) → GivesAccepted (acceptance t) result → GoesOn s t op result
   goes_on (Ok accept) gives =
       submits_by true (had_room accept (can_submit s.client.requests) refl (acceptance t) refl gives)
-  goes_on (Err Unanswered) gives = submits_op
+  goes_on (Err Unanswered) gives = (submits_op, left_open (acceptance t) refl gives)
   goes_on _ gives = tt
 
   answered_by : (accept : Accept) (b : Bool) → can_submit s.client.requests ≡ b → (o : Option Accept) → acceptance t ≡ o

@@ -109,10 +109,14 @@ pub record Submits (s t : SessionState) (ops : List (List ℕ)) : Type 0 where
   pub submitted : ops_of (gave s.client.requests inputs) ≡ ops
   pub last_id : last_id t ≡ last_id s + length ops
 
--- an op that is answered was submitted, and one that is not was where there was room for its request; no other op was
+-- the request of the next id is not accepted, where there was room for it
+abbrev pub IsLeftOpen : SessionState → SessionState → Type 0
+IsLeftOpen s t = can_submit s ≡ true → accepted_in t.client.requests.recent (last_id s + 1) ≡ None
+
+-- An op that is answered was submitted, and one that is not was where there was room for its request, which is not accepted; no other op was.
 abbrev pub GoesOn : SessionState → SessionState → List ℕ → Result Accept CallError → Type 0
 GoesOn s t op (Ok accept) = Submits s t (op ∷ [])
-GoesOn s t op (Err Unanswered) = Submits s t (cond (can_submit s) (op ∷ []) [])
+GoesOn s t op (Err Unanswered) = Submits s t (cond (can_submit s) (op ∷ []) []) × IsLeftOpen s t
 GoesOn s t op _ = ⊤
 
 -- none of its requests is open

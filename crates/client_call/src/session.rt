@@ -119,8 +119,8 @@ impl<L: Link> Session<L> {
         // at the slot.
         ensures answers { AnswersOp self.old.core.state op.now result }
 
-        // At Ok the op was submitted, and at Unanswered where there was room for it; no other op
-        // was.
+        // At Ok the op was submitted, and at Unanswered where there was room for it, where it is
+        // not accepted; no other op was.
         ensures goes_on { self.old.ended ≡ None
             → GoesOn self.old.core.state self.new.core.state op.now result }
 

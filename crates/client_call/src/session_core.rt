@@ -7,7 +7,7 @@ ghost use Rattle.client_call.specs.Sessions.{IsRun, acceptance, awaiting, can_su
 ghost use Rattle.client_call.specs.Sessions.{last_id, next, opening};
 
 use crate::CallError;
-use crate::waiting::accepted;
+use crate::call::accepted;
 use client_quorum::Client;
 use nop_types::{Accept, Config, Core, Input, NoMemory, Op, Outbox, Tick};
 use std::alloc::Global;

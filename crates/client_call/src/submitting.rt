@@ -8,8 +8,8 @@ ghost use Rattle.client_call.specs.Sessions.{address_in};
 ghost use Rattle.client_call.specs.declared.errors.CallError.TheVariants as errors;
 
 use crate::CallError;
+use crate::call::error_of;
 use crate::session_core::SessionCore;
-use crate::waiting::error_of;
 use nop_types::{Accept, Actor, Op};
 use outside::{Clock, Link, WriteMem};
 use std::alloc::Global;

@@ -1,11 +1,11 @@
-//! A call of a client over devices in memory, answered, unanswered, and with each fault; and a
-//! session of several ops.
+//! Sessions over devices in memory: of one op, answered, unanswered, and with each fault; and of
+//! several ops.
 
 ghost use Rattle.std.specs.Prelude.{All, true};
 ghost use Rattle.outside.specs.Memory.{MayAnswer};
 
 use crate::outcomes::{answer, ports_of};
-use client_call::{CallError, Service, Session, close_session, open_session, submit_and_wait};
+use client_call::{CallError, Service, Session, close_session, open_session};
 use nop_types::{Config, Op};
 use outside::{ClockMem, Failing, LinkMem, PollAnswer, PortsMem};
 use std::alloc::Global;
@@ -19,7 +19,7 @@ fn service(rt: &impl Abort) -> Service {
     }
 }
 
-/// What the devices do, how a call is answered in three turns, by the id and the slot, and how many
+/// What the devices do, how an op is answered in three turns, by the id and the slot, and how many
 /// links came back.
 static CALLS: [(&str, Result<(u64, u32), CallError>, usize); 4] = [
     ("polls reply follower", Ok((1, 1)), 1),
@@ -32,7 +32,7 @@ static CALLS: [(&str, Result<(u64, u32), CallError>, usize); 4] = [
     ),
 ];
 
-/// How a call is answered; its result is none.
+/// How an op is answered in a session of its own; its result is none.
 fn called(
     rt: &impl Abort,
     alloc: Global,
@@ -40,7 +40,10 @@ fn called(
 ) -> Result<(u64, u32), CallError> {
     let op = Op::new(alloc, b"put").expect(rt, "an op");
     let mut clock = ClockMem::new(alloc);
-    match submit_and_wait(alloc, &service(rt), 0, op, 3, ports, &mut clock) {
+    let mut session = open_session(alloc, &service(rt), 0, ports)?;
+    let answer = session.submit(&op, 3, &mut clock);
+    close_session(session, ports);
+    match answer {
         Ok(accept) => {
             assert!(rt; accept.result.as_slice() == b"none".as_slice());
             Ok((accept.id, accept.slot))

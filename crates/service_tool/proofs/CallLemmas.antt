@@ -23,7 +23,7 @@ pub goes_on : (s t : SessionState) (op : List ℕ) (was ended : Option CallError
 goes_on s t op was ended (Ok accept) later ends none =
     record { submits = later none; has_not_ended = ends ∙ none_after was (Ok accept) none }
 goes_on s t op was ended (Err errors.Unanswered) later ends none =
-    record { submits = later none; has_not_ended = ends ∙ none_after was (Err errors.Unanswered) none }
+    record { submits = (later none).0; has_not_ended = ends ∙ none_after was (Err errors.Unanswered) none }
 goes_on s t op was ended (Err errors.PortFault) later ends none = tt
 goes_on s t op was ended (Err errors.LinkFault) later ends none = tt
 goes_on s t op was ended (Err errors.NoMemory) later ends none = tt
