@@ -723,12 +723,7 @@ impl GateState {
     }
 
     /// A turn of the watch, and of the near observer, if there are these.
-    fn watch(
-        &mut self,
-        alloc: Global,
-        now: u64,
-        datagram: Option<&Bytes>,
-    ) -> Result<(), NoMemory>
+    fn watch(&mut self, alloc: Global, now: u64, datagram: Option<&Bytes>) -> Result<(), NoMemory>
         ensures { OnOk result (self.new ≡ with_turn self.old
             (record { now = now; datagram = option_map (λ d. d.now) datagram.entry })) }
     {
