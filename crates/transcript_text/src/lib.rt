@@ -18,6 +18,6 @@ mod lines;
 
 pub use field::{Field, put_number, write_line};
 pub use lines::{
-    accept_line, answer_line, busy_line, counts_line, dead_line, end_line, entry_line, error_line, history_line,
-    observer_line, read_line, replica_line, send_line, submit_line, transcript_line,
+    accept_line, answer_line, busy_line, counts_line, dead_line, end_line, entry_line, error_line,
+    history_line, observer_line, read_line, replica_line, send_line, submit_line, transcript_line,
 };

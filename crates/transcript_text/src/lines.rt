@@ -38,12 +38,7 @@ fn counted_line(word: &str, form: u8, config: Config, to: &mut Vec<u8>) -> Resul
 /// A word, a form and the counts of a configuration. With their words it is the first line of
 /// schedules, traces and transcripts.
 #[tactic(auto, using(crate::proofs::LineLemmas::first_form))]
-pub fn counts_line(
-    word: &str,
-    form: u8,
-    config: Config,
-    to: &mut Vec<u8>,
-) -> Result<(), NoMemory>
+pub fn counts_line(word: &str, form: u8, config: Config, to: &mut Vec<u8>) -> Result<(), NoMemory>
     ensures ok { OnOk result (to.new.items
         ≡ to.old.items ++ texts.counts_line word.now form config) }
     ensures err { OnErr result (to.new.items ≡ to.old.items) }
