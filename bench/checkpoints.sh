@@ -17,8 +17,8 @@
 
 program=${PROGRAM:-}
 if [ -z "$program" ]; then
-    copies nop_types lemmas execution_laws gap_agree client_table kv_host log_merge oum_codec fragments oum_receiver replica_log \
-        peer_codec executor slot_lookup sync_points view_change replica_state replica_rows replica_core
+    copies nop_types lemmas execution_laws slot_votes client_table kv_host log_merge oum_codec fragments oum_receiver replica_log \
+        peer_codec executor view_change replica_state replica_rows replica_core
     mkdir -p "$folder/crates/checkpoints_bench/src"
     cp "$here/checkpoints/main.rt.txt" "$folder/crates/checkpoints_bench/src/main.rt"
     for crate in "$folder"/crates/*; do grep "^${crate##*/}:" "$here/../crates.txt" || true; done > "$folder/crates.txt"

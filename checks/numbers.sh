@@ -114,9 +114,9 @@ service_words MAX_TEXT_LINES 4_294_967_294
 picture BEND_WIDTH 24
 audit MAX_TRACE_LINES 4_000_000
 audit MAX_STEPS 999_999
-datagram_sources FIRST_PLACE 4
-datagram_sources SECOND_PLACE 5
-datagram_sources CLIENT_PLACE 7
+admission FIRST_PLACE 4
+admission SECOND_PLACE 5
+admission CLIENT_PLACE 7
 desk MAX_WAITING 10_000
 users MAX_EVENT_BYTES 16_384
 gate_core MAX_USERS 10_000
@@ -124,7 +124,7 @@ gate_core MAX_WAITING_BYTES 1_048_576
 gate_core MANY_READ 4096
 tcp_users MAX_CONNECTIONS 10_240
 tcp_users MAX_UNSENT_BYTES 1_048_576
-gate_words MAX_NUMBERS 16
+site_words MAX_NUMBERS 16
 gate QUIET_TURNS 2
 gate PATIENCE_MILLIS 1
 gate MOST_DATAGRAMS 64

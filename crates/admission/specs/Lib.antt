@@ -4,3 +4,4 @@ pub mod Greetings
 pub mod Questions
 pub mod Registries
 pub mod Rounds
+pub mod Sources

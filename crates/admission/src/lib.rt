@@ -1,4 +1,5 @@
-//! Who may run under an actor's number: what processes ask the links of others before they serve, and what links answer.
+//! Who may run under an actor's number: what processes ask the links of others before they serve, and what links answer; and
+//! which actor may send which datagram.
 //!
 //! A process that starts greets the nodes of its cluster: first it asks whether its number was claimed by another process, then it
 //! claims it. Each link keeps who claimed which number, as long as it lives. So a number that a process had, and perhaps lost what
@@ -13,10 +14,14 @@
 //! nothing before as many answered that its number is free (`admitted_by_most`, `claims_come_after_asks`). So two processes that
 //! were admitted under one number are one, where the links that noted them kept their memory (`admitted_processes_are_one`).
 //!
-//! Calls: `Greeting::read` and `to_bytes`; `Registry::new` and `answer`; `Admission::new`, `turn`, `hear`, `standing` and `others`.
+//! A datagram may come from an actor's address where its kind, and the sender that it names, fit that actor: `comes_from` is the
+//! definition of its name, over plain bytes (`specs/Sources`). Bytes that spell no datagram may pass: no core heeds those.
 //!
-//! To read in this order: `greeting`, `actors`, `claim`, `registry`, `own`, `others`, `asking`, `laws`; then `specs/Greetings`,
-//! `Actors`, `Registries`, `Rounds`, `Questions`, `Asked`.
+//! Calls: `Greeting::read` and `to_bytes`; `Registry::new` and `answer`; `Admission::new`, `turn`, `hear`, `standing` and `others`;
+//! `comes_from`.
+//!
+//! To read in this order: `greeting`, `actors`, `claim`, `registry`, `own`, `others`, `asking`, `laws`, `sources`; then
+//! `specs/Greetings`, `Actors`, `Registries`, `Rounds`, `Questions`, `Asked`, `Sources`.
 #![tactic(auto)]
 
 mod actors;
@@ -27,6 +32,7 @@ mod laws;
 mod others;
 mod own;
 mod registry;
+mod sources;
 
 pub use asking::Admission;
 pub use claim::Claim;
@@ -37,3 +43,4 @@ pub use laws::{
 };
 pub use own::{Other, Own, Standing};
 pub use registry::{MAX_CLIENT_CLAIMS, Registry};
+pub use sources::comes_from;

@@ -1,5 +1,11 @@
-//! Nodes on several machines: a list of hosts says where each actor is, and `run_hosted` runs one of them, over any service. A
-//! program of a service is a call of it.
+//! The programs of a service, over the devices of the system: standard input and output, sockets, files, clock. A program is one
+//! call, with the service's `Host` and the program's name; its status is the number with which the process ends.
+//!
+//! `run_service` carries out the command that the words ask for, on this machine: `commands::run`. A word that is no text is answered
+//! as no words are, by the usage line. It has no clauses, since no contract says what these devices hold; those of `run` hold of it.
+//! That the status becomes the exit status, and that nothing is written to standard error, is seen by `checks/processes.sh`.
+//!
+//! `run_hosted` runs one node of several machines, where a list of hosts says where each actor is:
 //!
 //!     PROGRAM LIST [--marks FOLDER] ACTOR [OPTION..] [OP..]
 //!
@@ -16,7 +22,7 @@
 //! `commands::run` as it is, so its clauses hold of it. No contract says what a file holds: that status 3 means that the list could
 //! not be read, and 5 that a mark was there, is only tested.
 //!
-//! Calls: `run_hosted`. Files: `actors` (which actor), `arguments` (what is asked for), `unfit`, `plans` (who is to run), `texts`
+//! Calls: `run_service` (`service`), `run_hosted`. Files of that: `actors` (which actor), `arguments` (what is asked for), `unfit`, `plans` (who is to run), `texts`
 //! (lines for the user), `running`.
 #![tactic(auto)]
 
@@ -24,7 +30,9 @@ mod actors;
 mod arguments;
 mod plans;
 mod running;
+mod service;
 mod texts;
 mod unfit;
 
 pub use running::run_hosted;
+pub use service::run_service;

@@ -1,17 +1,17 @@
 //! A gateway at the places that a list of hosts has for its clients.
 
-ghost use Rattle.gate_words.specs.Tasks.{AreBelow};
+ghost use Rattle.site_words.specs.Tasks.{AreBelow};
 
 use crate::running::serve_over;
 use crate::status::Status;
 use crate::texts::{write_refusal, write_usage};
 use client_call::Service;
-use gate_words::Numbers;
 use host_list::HostList;
 use host_places::{address_in, has_clients, homes_of, is_marked, own_of, places_of};
 use host_watch::{listening_home, roll_of};
 use nop_types::{Actor, NoMemory};
 use roll_call::Roll;
+use site_words::Numbers;
 use std::alloc::Global;
 use std::fs;
 use std::io::ErrorKind;

@@ -12,7 +12,7 @@
 //! LISTEN is the address for users. The gateway submits their ops as the clients FIRST to FIRST + COUNT - 1, whose numbers were never used
 //! before. It runs until it is killed, or a device fails. docs/GATEWAY.md says what it answers.
 //!
-//! Proved: which words ask for what (`gate_words`), and what the gateway replies to its users over any devices (`gate`); of `main` that it is
+//! Proved: which words ask for what (`site_words`), and what the gateway replies to its users over any devices (`gate`); of `main` that it is
 //! safe and ends. Over sockets it is seen on running clusters by `checks/gate.sh`.
 //!
 //! Files: `running` (what the words ask for), `hosts` (with a list), `waking` (ports at which a wait for users ends), `texts`, `status`.

@@ -1,6 +1,6 @@
 //! What the words ask for.
 
-ghost use Rattle.gate_words.specs.Tasks.{AreBelow};
+ghost use Rattle.site_words.specs.Tasks.{AreBelow};
 
 use crate::hosts::run_at_hosts;
 use crate::status::Status;
@@ -8,8 +8,8 @@ use crate::texts::write_usage;
 use crate::waking::WakingPorts;
 use client_call::Service;
 use gate::{GateError, Seats, serve};
-use gate_words::{Numbers, Site, Task, task_of};
 use roll_call::Roll;
+use site_words::{Numbers, Site, Task, task_of};
 use std::net::SocketAddr;
 use tcp_users::TcpUsers;
 use udp_ports::{SystemClock, UdpPorts};

@@ -9,8 +9,8 @@
 //! it by token 2, and ann's release, sent again, is refused.
 #![tactic(auto)]
 
+use hosted::run_service;
 use lock_host::LockHost;
-use service_program::run_service;
 use std::process::ExitCode;
 
 fn main(rt: HostRuntime) -> ExitCode {

@@ -29,8 +29,8 @@ use Rattle.nop_types.specs.Ranges.{ViewFits, RequestFits, EntryFits, LogIsIn, Ne
 use Rattle.nop_types.specs.Ranges.{ChangeIsIn}
 use Rattle.nop_types.specs.Views.{join_of}
 use Rattle.lemmas.proofs.Limits.{is_configuration-few_replicas}
-use Rattle.gap_agree.specs.Agreement.{Agreement, gap_vote_counted}
-use Rattle.gap_agree.specs.Votes.{vote_of}
+use Rattle.slot_votes.specs.Agreement.{Agreement, gap_vote_counted}
+use Rattle.slot_votes.specs.Votes.{vote_of}
 use Rattle.log_merge.specs.Merging.{kept_changes, merged}
 use Rattle.log_merge.specs.Starting as starting
 use Rattle.oum_receiver.specs.Front.{Front, Nothing, Message, Dropped}
@@ -38,9 +38,9 @@ use Rattle.oum_receiver.specs.Receiving.{Receiving, IsSound, opened, verdict_of,
 use Rattle.oum_receiver.specs.Receiving.{advanced}
 use Rattle.oum_receiver.proofs.Sound.{opened_sound, offered_sound, taken_sound, advanced_sound}
 use Rattle.replica_log.proofs.InRanges.{first_fits}
-use Rattle.slot_lookup.specs.Answer.{Answer, Below, Found, Begin, answer_by, may_begin, answer_above, answer_of}
-use Rattle.sync_points.specs.Synchronisation as synchronisation
-use Rattle.sync_points.specs.Synchronisation.{Synchronisation}
+use Rattle.replica_log.specs.Answer.{Answer, Below, Found, Begin, answer_by, may_begin, answer_above, answer_of}
+use Rattle.slot_votes.specs.Synchronisation as synchronisation
+use Rattle.slot_votes.specs.Synchronisation.{Synchronisation}
 use Rattle.view_change.specs.Gathering.{Gathering, change_sender}
 use Rattle.view_change.specs.Gathering as gathering
 use Rattle.replica_state.specs.declared.sending.Sending.{Sending}

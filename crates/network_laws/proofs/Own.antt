@@ -22,7 +22,7 @@ use Rattle.log_merge.specs.Merging.{kept_changes, merged}
 use Rattle.log_merge.specs.Starting.{start_of}
 use Rattle.oum_receiver.specs.Front.{Front, Nothing, Message, Dropped}
 use Rattle.oum_receiver.specs.Receiving.{front_of}
-use Rattle.sync_points.specs.Synchronisation.{vote_for}
+use Rattle.slot_votes.specs.Synchronisation.{vote_for}
 use Rattle.replica_state.specs.declared.sending.Sending.{Sending}
 use Rattle.replica_state.specs.declared.state.ReplicaState.{ReplicaState}
 use Rattle.replica_state.specs.State.{max_faults, leader, leads, is_normal, drains, waits}

@@ -3,8 +3,7 @@
 use crate::checking::{check, check_row};
 use crate::requests::request;
 use nop_types::{Bytes, Checkpoint, Entry, Log, LogRef, MAX_SLOTS, Request};
-use replica_log::ReplicaLog;
-use slot_lookup::{Answer, answer};
+use replica_log::{Answer, ReplicaLog, answer};
 use std::alloc::Global;
 use std::process::Abort;
 

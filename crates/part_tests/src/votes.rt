@@ -1,9 +1,8 @@
 //! Votes for gaps, and points up to which logs are synchronised.
 use crate::checking::{check, check_row};
-use gap_agree::{Gap, Votes};
 use nop_types::{MAX_REPLICAS, Vote};
+use slot_votes::{Gap, SyncPoints, Votes};
 use std::process::Abort;
-use sync_points::SyncPoints;
 
 /// Who votes for a gap, where three are needed, and what then holds.
 static VOTES: [(u8, Vote); 6] = [

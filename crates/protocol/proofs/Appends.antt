@@ -15,7 +15,7 @@ use Rattle.nop_types.specs.Lists.{Has, slot_of}
 use Rattle.nop_types.specs.Meaning.{Meaning}
 use Rattle.nop_types.specs.Stamps.{WasStamped}
 use Rattle.nop_types.specs.Views.{leader_of}
-use Rattle.gap_agree.specs.Agreement.{Agreement}
+use Rattle.slot_votes.specs.Agreement.{Agreement}
 use Rattle.lemmas.proofs.Members.{Has-append_cases, Has-one}
 use Rattle.log_merge.specs.Starting.{Start}
 use Rattle.oum_receiver.specs.Receiving.{Receiving}

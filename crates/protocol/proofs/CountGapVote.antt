@@ -4,8 +4,8 @@ use Rattle.std.specs.Prelude.{nat_le}
 use Rattle.nop_types.specs.declared.replica_state.Vote.{Vote}
 use Rattle.nop_types.specs.declared.replica_state.Vote.TheVariants.{Settled, Waiting}
 use Rattle.nop_types.specs.Meaning.{Meaning}
-use Rattle.gap_agree.specs.Agreement.{Agreement, gap_vote_counted}
-use Rattle.gap_agree.specs.Votes.{vote_of, with_vote}
+use Rattle.slot_votes.specs.Agreement.{Agreement, gap_vote_counted}
+use Rattle.slot_votes.specs.Votes.{vote_of, with_vote}
 use Rattle.lemmas.proofs.Members.{Has-none}
 use Rattle.protocol.specs.Conf.{Conf, DidSay, after}
 use Rattle.protocol.specs.Evolves.{Evolves}

@@ -10,8 +10,8 @@ use Rattle.nop_types.specs.declared.request.Entry.TheVariants.{NoOp}
 use Rattle.nop_types.specs.Lists.{Has}
 use Rattle.nop_types.specs.Meaning.{Meaning}
 use Rattle.nop_types.specs.Views.{leader_of}
-use Rattle.gap_agree.specs.Agreement.{Agreement, begun}
-use Rattle.gap_agree.specs.Votes.{vote_of}
+use Rattle.slot_votes.specs.Agreement.{Agreement, begun}
+use Rattle.slot_votes.specs.Votes.{vote_of}
 use Rattle.oum_receiver.specs.Receiving.{advanced}
 use Rattle.oum_receiver.proofs.Stamps.{advanced_stamped}
 use Rattle.lemmas.proofs.Members.{Has-first, Has-none}

@@ -11,7 +11,7 @@ use Rattle.oum_receiver.proofs.Stamps.{advanced_stamped}
 use Rattle.started_views.specs.Past.{LeaderHad}
 use Rattle.started_views.proofs.Logs.{toward_laid}
 use Rattle.lemmas.proofs.Slots.{slot_of-prefix, length-laid, slot_of-laid_cases}
-use Rattle.sync_points.specs.Synchronisation.{raised, taken}
+use Rattle.slot_votes.specs.Synchronisation.{raised, taken}
 use Rattle.protocol.specs.Conf.{Conf, after}
 use Rattle.protocol.specs.Invariant.{Own, Inv}
 use Rattle.protocol.specs.LocalState.{LocalState, leader}

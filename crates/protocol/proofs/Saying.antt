@@ -8,7 +8,7 @@ use Rattle.nop_types.specs.Meaning.{Meaning}
 use Rattle.started_views.specs.Past.{HadLog}
 use Rattle.lemmas.proofs.Members.{Has-none, Has-one}
 use Rattle.lemmas.proofs.Slots.{slot_of-prefix}
-use Rattle.sync_points.specs.Synchronisation.{Synchronisation}
+use Rattle.slot_votes.specs.Synchronisation.{Synchronisation}
 use Rattle.protocol.specs.Conf.{Conf, after}
 use Rattle.protocol.specs.Evolves.{Evolves}
 use Rattle.protocol.specs.Invariant.{Own, Inv, GoodLog}

@@ -4,9 +4,9 @@ use Rattle.std.specs.Prelude.{nat_le, if◌then◌else◌}
 use Rattle.std.proofs.lemmas.Bool.Decides.{nat_tests}
 use Rattle.nop_types.specs.declared.replica_state.Vote.{Vote}
 use Rattle.nop_types.specs.declared.replica_state.Vote.TheVariants.{Settled, Waiting}
-use Rattle.gap_agree.specs.Agreement.{Agreement}
-use Rattle.gap_agree.specs.Votes.{with_vote}
-use Rattle.gap_agree.proofs.Members.{members_of_with_vote, with_vote_apart}
+use Rattle.slot_votes.specs.Agreement.{Agreement}
+use Rattle.slot_votes.specs.Votes.{with_vote}
+use Rattle.slot_votes.proofs.Members.{members_of_with_vote, with_vote_apart}
 use Rattle.started_views.specs.Quorums.{counts}
 use Rattle.protocol.specs.Moves.{unless_settled}
 use Rattle.protocol.proofs.Facts.{counts_has, has_counts, counts_once}

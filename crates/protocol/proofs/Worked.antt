@@ -5,7 +5,7 @@ use Rattle.nop_types.specs.declared.view.View.{View}
 use Rattle.nop_types.specs.declared.request.Entry.TheVariants.{Req}
 use Rattle.nop_types.specs.Meaning.{Meaning}
 use Rattle.nop_types.specs.Views.{AtMost, Below, first_view, outranks}
-use Rattle.gap_agree.specs.Votes.{with_vote}
+use Rattle.slot_votes.specs.Votes.{with_vote}
 use Rattle.client_quorum.specs.OpenRequests.{has_room, open_requests, is_open, kept_for}
 use Rattle.execution_laws.proofs.Accounts.{kept_for-insert}
 use Rattle.protocol.specs.Conf.{opening, last_normals}

@@ -22,7 +22,7 @@ use Rattle.nop_types.specs.Views.{AtMost, Below, Comparable, first_view, leader_
 use Rattle.execution_laws.specs.Legality.{SubmittedOnce}
 use Rattle.client_quorum.specs.OpenRequests.{IsOpen, kept_for}
 use Rattle.client_quorum.specs.declared.state.ClientState.{ClientState}
-use Rattle.gap_agree.specs.Agreement.{Agreement}
+use Rattle.slot_votes.specs.Agreement.{Agreement}
 use Rattle.log_merge.specs.Starting.{Start, start_of}
 use Rattle.oum_receiver.specs.Receiving.{Receiving}
 use Rattle.oum_receiver.specs.Runs.{IsStampedBy}

@@ -5,12 +5,12 @@ use Rattle.nop_types.specs.declared.replica_state.Phase.{Phase}
 use Rattle.nop_types.specs.declared.replica_state.Phase.TheVariants.{Normal}
 use Rattle.nop_types.specs.declared.request.Entry.{Entry}
 use Rattle.nop_types.specs.Views.{first_view, leader_of}
-use Rattle.gap_agree.specs.Agreement.{Agreement}
+use Rattle.slot_votes.specs.Agreement.{Agreement}
 use Rattle.oum_receiver.specs.Receiving as receiving
 use Rattle.oum_receiver.specs.Receiving.{Receiving}
 use Rattle.started_views.specs.Past.{Standing}
-use Rattle.sync_points.specs.Synchronisation as synchronisation
-use Rattle.sync_points.specs.Synchronisation.{Synchronisation}
+use Rattle.slot_votes.specs.Synchronisation as synchronisation
+use Rattle.slot_votes.specs.Synchronisation.{Synchronisation}
 use Rattle.nop_types.specs.PlainChanges as plain
 use Rattle.view_change.specs.Gathering.{Gathering}
 

@@ -21,16 +21,16 @@ use Rattle.execution_laws.specs.Legality.{IsOtherLine}
 use Rattle.client_quorum.specs.ClientSteps.{request_of, submitted, is_expected, kept, accepts}
 use Rattle.client_quorum.specs.KeptReplies.{quorum_of}
 use Rattle.client_quorum.specs.OpenRequests.{has_room, kept_for}
-use Rattle.gap_agree.specs.Agreement.{Agreement, begun, gap_vote_counted}
-use Rattle.gap_agree.specs.Votes.{vote_of}
+use Rattle.slot_votes.specs.Agreement.{Agreement, begun, gap_vote_counted}
+use Rattle.slot_votes.specs.Votes.{vote_of}
 use Rattle.log_merge.specs.Starting.{start_of, start_point}
 use Rattle.oum_receiver.specs.Front.{Message}
 use Rattle.oum_receiver.specs.Receiving as receiving
 use Rattle.oum_receiver.specs.Receiving.{Receiving, offered, front_of, front_taken, advanced}
 use Rattle.sequencer.specs.declared.state.SequencerState.{SequencerState}
 use Rattle.sequencer.specs.SequencerSteps.{stamped}
-use Rattle.sync_points.specs.Synchronisation.{cleared, raised, with_round, taken, committed, vote_for}
-use Rattle.sync_points.specs.Synchronisation as synchronisation
+use Rattle.slot_votes.specs.Synchronisation.{cleared, raised, with_round, taken, committed, vote_for}
+use Rattle.slot_votes.specs.Synchronisation as synchronisation
 use Rattle.view_change.specs.Gathering as gathering
 use Rattle.protocol.specs.Conf.{Conf, Effect, DidSay, HasOwner}
 use Rattle.lemmas.specs.Functions.{put}

@@ -9,7 +9,7 @@ use Rattle.nop_types.specs.PlainChanges as plain
 use Rattle.nop_types.specs.Lines.{Line}
 use Rattle.nop_types.specs.Lists.{Has}
 use Rattle.nop_types.specs.Meaning.{Meaning}
-use Rattle.gap_agree.specs.Agreement.{Agreement}
+use Rattle.slot_votes.specs.Agreement.{Agreement}
 use Rattle.protocol.specs.Conf.{Conf, Effect, after}
 use Rattle.protocol.specs.Said.{Word}
 use Rattle.protocol.specs.LocalState.{LocalState, PlainGathering}

@@ -15,11 +15,11 @@ use Rattle.lemmas.proofs.Functions.{put-all}
 use Rattle.lemmas.proofs.Options.{same_Some-at}
 use Rattle.lemmas.proofs.Prefixes.{IsPrefixOf-take}
 use Rattle.lemmas.proofs.Slots.{slot_of-from_take}
-use Rattle.gap_agree.specs.Agreement.{Agreement, begun}
-use Rattle.gap_agree.specs.Votes.{vote_of, with_vote}
+use Rattle.slot_votes.specs.Agreement.{Agreement, begun}
+use Rattle.slot_votes.specs.Votes.{vote_of, with_vote}
 use Rattle.log_merge.specs.Starting.{Start}
 use Rattle.started_views.specs.Past.{HadLog, IsStart}
-use Rattle.sync_points.specs.Synchronisation.{Round, Synchronisation, closed, counted_in}
+use Rattle.slot_votes.specs.Synchronisation.{Round, Synchronisation, closed, counted_in}
 use Rattle.protocol.specs.Conf as conf
 use Rattle.protocol.specs.Conf.{Conf}
 use Rattle.protocol.specs.Invariant.{Inv, GoodLog, Own}

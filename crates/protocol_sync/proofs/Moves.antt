@@ -10,14 +10,14 @@ use Rattle.nop_types.specs.Meaning.{Meaning}
 use Rattle.nop_types.specs.Slots.{laid}
 use Rattle.nop_types.specs.Views.{AtMost, Below, leader_of}
 use Rattle.lemmas.proofs.Views.{AtMost-refl}
-use Rattle.gap_agree.specs.Agreement.{Agreement}
+use Rattle.slot_votes.specs.Agreement.{Agreement}
 use Rattle.lemmas.proofs.Members.{Has-append_left, Has-one, Has-first, Has-none}
 use Rattle.oum_receiver.specs.Receiving.{Receiving}
 use Rattle.started_views.specs.Past.{HadLog}
 use Rattle.started_views.proofs.Logs.{same_less, same_from_prefix}
 use Rattle.lemmas.proofs.Slots.{IsPrefixOf-laid}
 use Rattle.lemmas.proofs.Prefixes.{IsPrefixOf-trans}
-use Rattle.sync_points.specs.Synchronisation.{Synchronisation}
+use Rattle.slot_votes.specs.Synchronisation.{Synchronisation}
 use Rattle.protocol.specs.Conf.{Conf, Effect, DidSay, after}
 use Rattle.protocol.specs.Invariant.{Own, Inv}
 use Rattle.protocol.specs.LocalState.{LocalState, PlainGathering, leader, max_faults}

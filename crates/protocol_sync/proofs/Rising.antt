@@ -17,7 +17,7 @@ use Rattle.started_views.proofs.Keeping.{start_synchronised}
 use Rattle.started_views.proofs.Logs.{same_from_prefix, same_grown, toward_keeps_same}
 use Rattle.lemmas.proofs.Prefixes.{IsPrefixOf-trans, IsPrefixOf-take}
 use Rattle.lemmas.proofs.Views.{cases_View, AtMost-refl}
-use Rattle.sync_points.specs.Synchronisation.{Round, Synchronisation, closed, counted_in, with_vote_for, round_vote}
+use Rattle.slot_votes.specs.Synchronisation.{Round, Synchronisation, closed, counted_in, with_vote_for, round_vote}
 use Rattle.protocol.specs.Conf.{Conf, last_normals}
 use Rattle.protocol.specs.Evolves.{Evolves}
 use Rattle.protocol.specs.Invariant.{Inv}

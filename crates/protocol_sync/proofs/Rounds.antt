@@ -8,12 +8,12 @@ use Rattle.nop_types.specs.declared.replica_state.Vote.{Vote}
 use Rattle.nop_types.specs.declared.replica_state.Vote.TheVariants.{Settled, Waiting}
 use Rattle.nop_types.specs.Meaning.{Meaning}
 use Rattle.nop_types.specs.Views.{leader_of}
-use Rattle.gap_agree.specs.Votes.{vote_of, with_vote}
+use Rattle.slot_votes.specs.Votes.{vote_of, with_vote}
 use Rattle.started_views.specs.Past.{HadLog, LeaderHad}
 use Rattle.started_views.proofs.Logs.{same_refl}
 use Rattle.std.proofs.lemmas.Bool.{eqb-true}
 use Rattle.lemmas.proofs.Views.{AtMost-refl}
-use Rattle.sync_points.specs.Synchronisation.{Round, Synchronisation, closed, counted_in, vote_in}
+use Rattle.slot_votes.specs.Synchronisation.{Round, Synchronisation, closed, counted_in, vote_in}
 use Rattle.protocol.specs.Conf.{Conf, Effect, DidSay, after}
 use Rattle.protocol.specs.Invariant.{Own, Inv}
 use Rattle.protocol.specs.LocalState.{LocalState, max_faults}

@@ -11,7 +11,7 @@ use Rattle.lemmas.proofs.Prefixes.{IsPrefixOf-refl, IsPrefixOf-trans}
 use Rattle.lemmas.proofs.Views.{AtMost-refl}
 use Rattle.log_merge.specs.Starting.{start_of, start_point}
 use Rattle.oum_receiver.specs.Receiving.{offered, front_taken, advanced}
-use Rattle.gap_agree.specs.Agreement.{begun, gap_vote_counted}
+use Rattle.slot_votes.specs.Agreement.{begun, gap_vote_counted}
 use Rattle.started_views.specs.Past.{Past, HadLog}
 use Rattle.started_views.proofs.Logs.{same_from_prefix}
 use Rattle.protocol.specs.Conf.{Conf, after}

@@ -2,8 +2,8 @@
 use Rattle.std.specs.Prelude.{◌≡◌, ◌<◌, ◌+◌, ◌*◌, ℕ, List, Some, take}
 use Rattle.nop_types.specs.Configuration.{Configuration}
 use Rattle.nop_types.specs.Meaning.{Meaning}
-use Rattle.gap_agree.specs.Agreement.{Agreement}
-use Rattle.sync_points.specs.Synchronisation.{Round}
+use Rattle.slot_votes.specs.Agreement.{Agreement}
+use Rattle.slot_votes.specs.Synchronisation.{Round}
 use Rattle.protocol.specs.Conf.{Conf, opening}
 use Rattle.protocol.specs.Invariant.{Inv}
 use Rattle.protocol.specs.LocalState.{LocalState}

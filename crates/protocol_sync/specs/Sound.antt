@@ -18,13 +18,13 @@ use Rattle.nop_types.specs.Sessions.{home}
 use Rattle.nop_types.specs.Stamps.{WasStamped}
 use Rattle.nop_types.specs.Views.{AtMost, Below, Comparable, first_view, leader_of}
 use Rattle.client_quorum.specs.OpenRequests.{IsOpen, kept_for}
-use Rattle.gap_agree.specs.Agreement.{Agreement}
+use Rattle.slot_votes.specs.Agreement.{Agreement}
 use Rattle.log_merge.specs.Starting.{Start, start_of}
 use Rattle.started_views.specs.Logs.{SameTo}
 use Rattle.started_views.specs.Past.{Entered, HadLog, LeaderHad, IsStart, IsStarted}
 use Rattle.started_views.specs.Quorums.{Quorum, Others}
 use Rattle.started_views.specs.Settled.{Certificate}
-use Rattle.sync_points.specs.Synchronisation.{Round}
+use Rattle.slot_votes.specs.Synchronisation.{Round}
 use Rattle.view_change.specs.Gathering.{IsOfSender}
 use Rattle.protocol.specs.Conf.{Conf, DidSay, Settled, WasSubmitted, Owns}
 use Rattle.protocol.specs.Invariant.{Replied}

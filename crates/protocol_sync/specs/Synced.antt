@@ -8,7 +8,7 @@ use Rattle.nop_types.specs.Views.{AtMost, leader_of}
 use Rattle.started_views.specs.Logs.{SameTo}
 use Rattle.started_views.specs.Past.{Entered, HadLog, LeaderHad, IsStarted}
 use Rattle.started_views.specs.Quorums.{counts, Others}
-use Rattle.sync_points.specs.Synchronisation.{Round}
+use Rattle.slot_votes.specs.Synchronisation.{Round}
 use Rattle.protocol.specs.Conf.{Conf, DidSay}
 use Rattle.protocol.specs.LocalState.{LocalState}
 use Rattle.protocol.specs.Said.{StartView, SyncPrepare, SyncRep, SyncCommit}

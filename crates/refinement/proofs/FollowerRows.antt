@@ -16,7 +16,7 @@ use Rattle.replica_state.specs.Sends.{then_do, when}
 use Rattle.replica_state.specs.Moves.{hear, gap_written, write_gap, add_gap, fill, overlay, obey, sync_commit, drain}
 use Rattle.replica_rows.specs.Rows.{gap_commit_if, gap_commit, found, sync_prepare, trim_and_drain}
 use Rattle.replica_rows.specs.Rows as rows
-use Rattle.sync_points.specs.Synchronisation.{committed}
+use Rattle.slot_votes.specs.Synchronisation.{committed}
 use Rattle.protocol.specs.Conf.{Conf}
 use Rattle.protocol.specs.LocalState.{standing}
 use Rattle.protocol.specs.Moves.{MayFollow, MayWriteGap}

@@ -9,14 +9,14 @@ use Rattle.nop_types.specs.declared.request.Entry.TheVariants.{NoOp, Req}
 use Rattle.nop_types.specs.Lists.{slot_of}
 use Rattle.nop_types.specs.Logs.{Whole, has_room}
 use Rattle.nop_types.specs.Meaning.{Meaning}
-use Rattle.gap_agree.specs.Agreement.{Agreement}
-use Rattle.slot_lookup.specs.Answer.{Below, answer_by, answer_above, may_begin}
+use Rattle.slot_votes.specs.Agreement.{Agreement}
+use Rattle.replica_log.specs.Answer.{Below, answer_by, answer_above, may_begin}
 use Rattle.replica_state.specs.declared.state.ReplicaState.{ReplicaState}
 use Rattle.replica_state.specs.State.{waits}
 use Rattle.replica_state.specs.Sends.{to_replica}
 use Rattle.replica_state.specs.Moves.{open_gap, count_gap_vote, count_sync_vote, send_synced, drain}
 use Rattle.replica_rows.specs.Rows.{begin_gap, slot_lookup_by, slot_lookup, gap_reply_at, gap_reply, sync_reply}
-use Rattle.sync_points.specs.Synchronisation.{sync_vote_counted}
+use Rattle.slot_votes.specs.Synchronisation.{sync_vote_counted}
 use Rattle.protocol.specs.Conf.{Conf}
 use Rattle.protocol.specs.LocalState.{standing}
 use Rattle.protocol.specs.Moves.{MayLead, DidAnother}

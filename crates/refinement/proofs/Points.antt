@@ -4,7 +4,7 @@ use Rattle.std.specs.Prelude.{cond, ◌==◌, max, nat_le, nat_lt}
 use Rattle.std.proofs.lemmas.Bool.Decides.{nat_tests}
 use Rattle.nop_types.specs.declared.replica_state.Vote.{Vote}
 use Rattle.nop_types.specs.declared.replica_state.Vote.TheVariants.{Settled, Waiting}
-use Rattle.sync_points.specs.Synchronisation.{Round, Synchronisation, begun, closed, sync_vote_counted, counted_in, with_round, with_vote_for, round_vote, committed}
+use Rattle.slot_votes.specs.Synchronisation.{Round, Synchronisation, begun, closed, sync_vote_counted, counted_in, with_round, with_vote_for, round_vote, committed}
 
 begun_rises : (b : Bool) (s : Synchronisation) (len : ℕ) → s.sync_point ≤ len → s.sync_point ≤ (begun b s len).sync_point
 begun_rises true s len low = low

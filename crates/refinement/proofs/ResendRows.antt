@@ -9,7 +9,7 @@ use Rattle.nop_types.specs.declared.replica_state.Phase.TheVariants.{Normal, Cha
 use Rattle.nop_types.specs.declared.request.Entry.TheVariants.{NoOp}
 use Rattle.nop_types.specs.Logs.{Whole}
 use Rattle.nop_types.specs.Meaning.{Meaning}
-use Rattle.gap_agree.specs.Agreement.{Agreement}
+use Rattle.slot_votes.specs.Agreement.{Agreement}
 use Rattle.oum_receiver.specs.Front.{Front, Nothing, Message, Dropped}
 use Rattle.oum_receiver.specs.Receiving.{front_of}
 use Rattle.replica_state.specs.declared.state.ReplicaState.{ReplicaState}
@@ -18,7 +18,7 @@ use Rattle.replica_state.specs.Sends.{then_do, when, to_all_if, to_all, to_leade
 use Rattle.replica_state.specs.Moves.{change_sent, open_sync, repeat_commit}
 use Rattle.replica_state.specs.Repeating.{gap_again, lookup_again, change_again, resend_by, resend, sync_if, sync}
 use Rattle.replica_rows.specs.Rows as rows
-use Rattle.sync_points.specs.Synchronisation.{with_round}
+use Rattle.slot_votes.specs.Synchronisation.{with_round}
 use Rattle.protocol.specs.Conf.{Conf}
 use Rattle.protocol.specs.LocalState.{standing}
 use Rattle.protocol.specs.Moves.{MaySay, MayLead}

@@ -16,7 +16,7 @@ use Rattle.nop_types.specs.declared.view.View.{View}
 use Rattle.nop_types.specs.Logs as logs
 use Rattle.nop_types.specs.PlainChanges.{Change}
 use Rattle.nop_types.specs.Slots.{laid}
-use Rattle.sync_points.specs.Synchronisation.{vote_for}
+use Rattle.slot_votes.specs.Synchronisation.{vote_for}
 use Rattle.view_change.specs.Gathering as gathering
 use Rattle.view_change.specs.Gathering.{Gathering}
 use Rattle.replica_state.specs.declared.sending.Sending.{Sending}

@@ -13,14 +13,25 @@
 //! `overlaid_is_as_long` say the sync point and the last slot, and `log_stays_in_ranges` that it
 //! stays in its ranges.
 //!
-//! Files: `log`, `laws`. Definitions are those of `nop_types`: `Logs`, `Slots`, `Lists`, `Ranges`.
+//! What a leader answers to a replica that asks for a slot is `answer` (`answer_of`): `Below`
+//! exactly where the slot is at most the log's sync point, so that its entry is no longer kept;
+//! above, the request in the slot; where a NO-OP is there, the gap agreement again; in the slot
+//! after the last, the beginning of one, where none waits and the log has room; otherwise nothing.
+//! It takes no memory.
+//!
+//! Files: `log`, `laws`; `answers`, `lookup`. Definitions are those of `nop_types`: `Logs`, `Slots`,
+//! `Lists`, `Ranges`; and `specs/Answer`.
 #![tactic(auto)]
 
+mod answers;
 mod laws;
 mod log;
+mod lookup;
 
+pub use answers::Answer;
 pub use laws::{
     adopted_by_slot, adopted_is_as_long, laid_by_slot, log_stays_in_ranges, overlaid_by_slot,
     overlaid_is_as_long, set_slot_by_slot,
 };
 pub use log::ReplicaLog;
+pub use lookup::answer;

@@ -11,12 +11,12 @@ use Rattle.nop_types.specs.declared.view.View.{View}
 use Rattle.nop_types.specs.Logs.{Log, Keeping, length_of}
 use Rattle.nop_types.specs.Meaning.{Meaning}
 use Rattle.nop_types.specs.Views.{is_view}
-use Rattle.gap_agree.specs.Agreement.{Agreement}
+use Rattle.slot_votes.specs.Agreement.{Agreement}
 use Rattle.replica_state.specs.declared.state.ReplicaState.{ReplicaState}
 use Rattle.replica_state.specs.Moves.{hear, count_gap_vote, open_gap, write_gap, add_gap, fill, overlay, drain}
 use Rattle.replica_state.specs.Sends.{still, then_do, when}
 use Rattle.replica_state.specs.State.{may_append, leads, waits}
-use Rattle.slot_lookup.specs.Answer.{Answer, answer_of}
+use Rattle.replica_log.specs.Answer.{Answer, answer_of}
 use Rattle.replica_rows.specs.Rows.{gap_reply_at, gap_reply, gather_by, take_change, gap_commit_if, gap_commit, found, sync_prepare, begin_gap, slot_lookup_by, slot_lookup}
 
 is_next : (k : Keeping) (s : ReplicaState) (n : ℕ) → n ≡ length_of k s.log + 1 → may_append k s ≡ true

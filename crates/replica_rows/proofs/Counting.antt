@@ -21,14 +21,14 @@ use Rattle.nop_types.specs.declared.datagram.Stamped.{Stamped}
 use Rattle.nop_types.specs.declared.peer.Change as peer
 use Rattle.nop_types.specs.declared.peer.Body.{Body}
 use Rattle.nop_types.specs.declared.peer.Body.TheVariants as bodies
-use Rattle.gap_agree.specs.Agreement.{Agreement}
+use Rattle.slot_votes.specs.Agreement.{Agreement}
 use Rattle.log_merge.specs.Merging.{kept_changes, merged}
 use Rattle.log_merge.specs.Starting.{start_of}
 use Rattle.oum_receiver.specs.Front.{Front, Nothing, Message, Dropped}
 use Rattle.oum_receiver.specs.Receiving.{front_of}
-use Rattle.slot_lookup.specs.Answer.{Answer, Below, Found, GapAgain, Begin, answer_of}
-use Rattle.slot_lookup.specs.Answer as answers
-use Rattle.sync_points.specs.Synchronisation.{vote_for}
+use Rattle.replica_log.specs.Answer.{Answer, Below, Found, GapAgain, Begin, answer_of}
+use Rattle.replica_log.specs.Answer as answers
+use Rattle.slot_votes.specs.Synchronisation.{vote_for}
 use Rattle.view_change.specs.Gathering.{Gathering}
 use Rattle.replica_state.specs.declared.sending.Sending.{Sending}
 use Rattle.replica_state.specs.declared.sending.Sending.TheVariants.{ToClient, ToReplicas, Trims}

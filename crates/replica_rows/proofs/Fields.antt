@@ -12,10 +12,10 @@ use Rattle.nop_types.specs.Logs as logs
 use Rattle.nop_types.specs.Logs.{Log, Keeping, Whole, Trimmed, length_of}
 use Rattle.nop_types.specs.Meaning.{Meaning}
 use Rattle.nop_types.specs.Ranges.{LogIsIn, SlotFits}
-use Rattle.gap_agree.specs.Agreement.{Agreement}
+use Rattle.slot_votes.specs.Agreement.{Agreement}
 use Rattle.oum_receiver.specs.Receiving.{Receiving}
-use Rattle.sync_points.specs.Synchronisation.{Synchronisation, Round}
-use Rattle.sync_points.specs.Synchronisation as synchronisation
+use Rattle.slot_votes.specs.Synchronisation.{Synchronisation, Round}
+use Rattle.slot_votes.specs.Synchronisation as synchronisation
 use Rattle.replica_state.specs.declared.state.ReplicaState.{ReplicaState}
 use Rattle.replica_state.specs.Moves.{log_trimmed}
 use Rattle.replica_state.specs.Within.{IsIn}
@@ -169,7 +169,7 @@ committed_fits n s len fits = at (nat_le len s.prepared) refl
 round_fits : (n : ℕ) (x : Round) (q len : ℕ) → x.len ≤ n → (synchronisation.with_vote_for x q len).len ≤ n
 round_fits n x q len le = at (x.len == len)
   where
-    at : (b : Bool) → (cond b (record x { votes = Rattle.gap_agree.specs.Votes.with_vote x.votes q }) x).len ≤ n
+    at : (b : Bool) → (cond b (record x { votes = Rattle.slot_votes.specs.Votes.with_vote x.votes q }) x).len ≤ n
     at true = le
     at false = le
 

@@ -12,7 +12,7 @@ use Rattle.nop_types.specs.CheckpointedLogs.{slot_result}
 use Rattle.nop_types.specs.Lists.{slot_of}
 use Rattle.nop_types.specs.Logs.{Log, Trimmed, length_of, entry_at, has_room}
 use Rattle.nop_types.specs.Ranges.{EntryFits, RequestFits, LogFits}
-use Rattle.slot_lookup.specs.Answer.{Below, Found, Begin, answer_by, answer_of, may_begin}
+use Rattle.replica_log.specs.Answer.{Below, Found, Begin, answer_by, answer_of, may_begin}
 use Rattle.nop_types.specs.Meaning.{Meaning}
 use Rattle.lemmas.proofs.Places.{Splits-at}
 use Rattle.replica_state.specs.declared.sending.Sending.{Sending}

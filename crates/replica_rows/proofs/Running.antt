@@ -15,8 +15,8 @@ use Rattle.nop_types.specs.Logs as logs
 use Rattle.nop_types.specs.Logs.{Log, Keeping, Whole, Trimmed, length_of, unsynced, with_noop}
 use Rattle.nop_types.specs.CheckpointedLogs.{loads}
 use Rattle.nop_types.specs.Ranges.{EntryFits, RequestFits, LogIsIn, LogFits, SlotFits, ViewFits, NextFits, ChangeIsIn, ChangeFits}
-use Rattle.gap_agree.specs.Agreement.{Agreement, begun}
-use Rattle.gap_agree.specs.Votes.{vote_of}
+use Rattle.slot_votes.specs.Agreement.{Agreement, begun}
+use Rattle.slot_votes.specs.Votes.{vote_of}
 use Rattle.nop_types.specs.declared.replica_state.Phase.{Phase}
 use Rattle.nop_types.specs.declared.replica_state.Phase.TheVariants.{Normal, Change}
 use Rattle.nop_types.specs.declared.replica_state.Vote.{Vote}
@@ -28,8 +28,8 @@ use Rattle.lemmas.proofs.Slots.{length-set_slot}
 use Rattle.oum_receiver.specs.declared.verdict.Verdict.{Verdict}
 use Rattle.oum_receiver.specs.declared.verdict.Verdict.TheVariants as verdicts
 use Rattle.oum_receiver.specs.Receiving.{Receiving, judged, offered, verdict_of}
-use Rattle.sync_points.specs.Synchronisation.{Synchronisation, with_round, committed}
-use Rattle.sync_points.specs.Synchronisation as synchronisation
+use Rattle.slot_votes.specs.Synchronisation.{Synchronisation, with_round, committed}
+use Rattle.slot_votes.specs.Synchronisation as synchronisation
 use Rattle.view_change.specs.Gathering as gathering
 use Rattle.view_change.specs.Gathering.{Gathering, change_added, change_sender}
 use Rattle.executor.specs.Running.{Running, reached}

@@ -11,9 +11,9 @@ use Rattle.nop_types.specs.Logs.{Log, Keeping, length_of}
 use Rattle.nop_types.specs.declared.datagram.Stamped.{Stamped}
 use Rattle.nop_types.specs.declared.peer.Change.{Change}
 use Rattle.nop_types.specs.declared.peer.Body.TheVariants as bodies
-use Rattle.gap_agree.specs.Agreement.{Agreement}
-use Rattle.slot_lookup.specs.Answer.{Answer, Below, Found, GapAgain, Begin, answer_of}
-use Rattle.slot_lookup.specs.Answer as answers
+use Rattle.slot_votes.specs.Agreement.{Agreement}
+use Rattle.replica_log.specs.Answer.{Answer, Below, Found, GapAgain, Begin, answer_of}
+use Rattle.replica_log.specs.Answer as answers
 use Rattle.view_change.specs.Gathering.{Gathering}
 use Rattle.replica_state.specs.declared.state.ReplicaState.{ReplicaState}
 use Rattle.replica_state.specs.State.{leads, is_normal, waits, may_trim, may_append, may_adopt}

@@ -10,7 +10,7 @@ ghost use Rattle.replica_rows.specs.Within.{IsRunning, Does};
 use crate::member::Member;
 use crate::trimming::TrimmedEntries;
 use nop_types::{Body, Host, NUMBER_END, NoMemory, Vote};
-use slot_lookup::{Answer, answer};
+use replica_log::{Answer, answer};
 
 impl<H: Host> Member<H> {
     /// Begins a gap agreement in the next slot, where there is a number after it.

@@ -18,14 +18,14 @@ use Rattle.nop_types.specs.declared.request.Entry.TheVariants.{NoOp, Req}
 use Rattle.nop_types.specs.declared.datagram.Stamped.{Stamped}
 use Rattle.nop_types.specs.declared.peer.Change.{Change}
 use Rattle.nop_types.specs.declared.peer.Body.TheVariants as bodies
-use Rattle.gap_agree.specs.Agreement.{Agreement, gap_vote_counted}
+use Rattle.slot_votes.specs.Agreement.{Agreement, gap_vote_counted}
 use Rattle.log_merge.specs.Merging.{kept_changes, merged}
 use Rattle.log_merge.specs.Starting.{start_of}
 use Rattle.oum_receiver.specs.Front.{Front, Nothing, Message, Dropped}
 use Rattle.oum_receiver.specs.Receiving as receiving
 use Rattle.oum_receiver.specs.Receiving.{Receiving, offered, front_of, front_taken, advanced}
-use Rattle.sync_points.specs.Synchronisation as synchronisation
-use Rattle.sync_points.specs.Synchronisation.{cleared, raised, with_round, committed, vote_for}
+use Rattle.slot_votes.specs.Synchronisation as synchronisation
+use Rattle.slot_votes.specs.Synchronisation.{cleared, raised, with_round, committed, vote_for}
 use Rattle.view_change.specs.Gathering as gathering
 use Rattle.view_change.specs.Gathering.{Gathering, change_sender}
 use Rattle.replica_state.specs.declared.sending.Sending.{Sending}

@@ -4,7 +4,7 @@ use Rattle.nop_types.specs.declared.replica_state.Phase.{Phase}
 use Rattle.nop_types.specs.declared.replica_state.Phase.TheVariants.{Normal, Change}
 use Rattle.nop_types.specs.declared.peer.Body.TheVariants as bodies
 use Rattle.nop_types.specs.Logs.{Keeping, length_of}
-use Rattle.gap_agree.specs.Agreement.{Agreement}
+use Rattle.slot_votes.specs.Agreement.{Agreement}
 use Rattle.oum_receiver.specs.Front.{Front, Nothing, Message, Dropped}
 use Rattle.oum_receiver.specs.Receiving.{front_of}
 use Rattle.replica_state.specs.declared.state.ReplicaState.{ReplicaState}

@@ -11,10 +11,10 @@ use Rattle.nop_types.specs.Views.{leader_of, first_view, is_view}
 use Rattle.nop_types.specs.declared.view.View.{View}
 use Rattle.nop_types.specs.Logs.{Log, Keeping, empty, length_of}
 use Rattle.nop_types.specs.Logs as logs
-use Rattle.gap_agree.specs.Agreement.{Agreement, begun}
-use Rattle.gap_agree.specs.Votes.{vote_of}
+use Rattle.slot_votes.specs.Agreement.{Agreement, begun}
+use Rattle.slot_votes.specs.Votes.{vote_of}
 use Rattle.oum_receiver.specs.Receiving as receiving
-use Rattle.sync_points.specs.Synchronisation as synchronisation
+use Rattle.slot_votes.specs.Synchronisation as synchronisation
 use Rattle.replica_state.specs.declared.state.ReplicaState.{ReplicaState}
 
 abbrev pub opening : Configuration → ℕ → ReplicaState

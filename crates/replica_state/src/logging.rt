@@ -11,9 +11,9 @@ ghost use Rattle.replica_state.specs.Moves.{trimmed_entries};
 ghost use Rattle.replica_state.specs.Within.{IsWithin};
 
 use crate::{ReplicaState, Sends};
-use gap_agree::Gap;
 use nop_types::{Body, Checkpoint, Entry, Log, NUMBER_END, NoMemory, Vote};
 use oum_receiver::Upcall;
+use slot_votes::Gap;
 
 /// The gap that waits for votes in a slot, unless nobody has to vote.
 fn gap_in(slot: u32, f: u8) -> Option<Gap>

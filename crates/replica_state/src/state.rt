@@ -7,11 +7,10 @@ ghost use Rattle.replica_state.specs.Moves.{start_len};
 ghost use Rattle.replica_state.specs.Within.{IsWithin};
 
 use crate::NextNumber;
-use gap_agree::Gap;
 use nop_types::{Config, Log, NUMBER_END, Phase, View, leader_of};
 use oum_receiver::Receiver;
 use replica_log::ReplicaLog;
-use sync_points::SyncPoints;
+use slot_votes::{Gap, SyncPoints};
 use view_change::Changes;
 
 /// What a replica knows, apart from how its messages travel. `next` is the number of the request that it logs next, `base` how

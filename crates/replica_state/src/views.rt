@@ -10,8 +10,8 @@ use crate::{NextNumber, ReplicaState};
 use nop_types::{Change, Config, Log, NoMemory, Phase, Stamped, View};
 use oum_receiver::Receiver;
 use replica_log::ReplicaLog;
+use slot_votes::SyncPoints;
 use std::alloc::Global;
-use sync_points::SyncPoints;
 use view_change::Changes;
 
 impl ReplicaState {

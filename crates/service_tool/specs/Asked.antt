@@ -3,7 +3,7 @@ use Rattle.std.specs.Prelude.{ℕ, ◌+◌, List, [], ◌∷◌, length, drop, B
 use Rattle.std.specs.Prelude.{if◌then◌else◌}
 use Rattle.nop_types.specs.declared.limits.TheConstants.{MAX_CLIENTS}
 use Rattle.line_fields.specs.Fields.{is_text}
-use Rattle.call_words.specs.Services.{number_in}
+use Rattle.site_words.specs.Services.{number_in}
 use Rattle.service_words.specs.Directions.{direction_of}
 use Rattle.service_words.specs.declared.direction.Direction.{Direction}
 use Rattle.service_tool.specs.Options.{◌>>=◌, opening, options_in}

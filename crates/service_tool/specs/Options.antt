@@ -3,7 +3,7 @@ use Rattle.std.specs.Prelude.{ℕ, ◌+◌, ◌-◌, List, [], ◌∷◌, Bool, 
 use Rattle.std.specs.Prelude.{if◌then◌else◌}
 use Rattle.nop_types.specs.declared.limits.TheConstants.{MAX_OBSERVERS, MAX_SEQUENCERS}
 use Rattle.line_fields.specs.Fields.{is_text}
-use Rattle.call_words.specs.Services.{number_in}
+use Rattle.site_words.specs.Services.{number_in}
 use Rattle.service_tool.specs.declared.options.Options.{Options}
 use Rattle.service_tool.specs.declared.reason.Fault.{Fault}
 use Rattle.service_tool.specs.declared.reason.Reason.{Reason}

@@ -6,11 +6,11 @@ ghost use Rattle.service_tool.specs.Asked.{ends_in_help, lines_command, load_com
 
 use crate::options::{Options, options_in};
 use crate::reason::{Fault, Reason};
-use call_words::number_in;
 use line_fields::is_word;
 use nop_types::{Bytes, MAX_CLIENTS, NoMemory, Op};
 use op_text::OpText;
 use service_words::{Direction, direction_of};
+use site_words::number_in;
 use std::alloc::Global;
 
 /// What a tool does.

@@ -6,9 +6,9 @@ ghost use Rattle.service_tool.specs.Options.{has_replicas, with_flag};
 ghost use Rattle.service_tool.specs.Options.{with_number, with_site, with_value};
 
 use crate::reason::{Fault, Reason};
-use call_words::number_in;
 use line_fields::is_word;
 use nop_types::{Bytes, MAX_OBSERVERS, MAX_SEQUENCERS};
+use site_words::number_in;
 
 /// What the options say.
 #[derive(Clone, Copy, PartialEq, Eq)]

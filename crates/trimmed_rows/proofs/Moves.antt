@@ -21,13 +21,13 @@ use Rattle.nop_types.specs.Logs as logs
 use Rattle.nop_types.specs.Logs.{Log, Whole, Trimmed, whole, IsWithin, length_of, above, unsynced, first}
 use Rattle.nop_types.specs.Meaning.{Meaning}
 use Rattle.nop_types.specs.PlainChanges.{plain}
-use Rattle.gap_agree.specs.Votes.{with_vote}
+use Rattle.slot_votes.specs.Votes.{with_vote}
 use Rattle.log_merge.specs.Merging.{kept_changes, merged}
 use Rattle.log_merge.specs.Starting.{start_of}
 use Rattle.oum_receiver.specs.Front.{Front, Nothing, Message, Dropped}
 use Rattle.oum_receiver.specs.Receiving.{advanced, front_taken, front_of}
-use Rattle.sync_points.specs.Synchronisation as synchronisation
-use Rattle.sync_points.specs.Synchronisation.{Synchronisation, Round, cleared, raised, with_round, committed, vote_for, vote_in}
+use Rattle.slot_votes.specs.Synchronisation as synchronisation
+use Rattle.slot_votes.specs.Synchronisation.{Synchronisation, Round, cleared, raised, with_round, committed, vote_for, vote_in}
 use Rattle.trimming.specs.Merging.{trim_change}
 use Rattle.trimming.specs.Trimming.{trim}
 use Rattle.trimming.proofs.Executions.{result_trims}

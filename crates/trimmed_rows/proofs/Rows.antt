@@ -24,11 +24,11 @@ use Rattle.nop_types.specs.Logs.{Log, Whole, Trimmed, IsWithin, length_of, entry
 use Rattle.nop_types.specs.Meaning.{Meaning}
 use Rattle.nop_types.specs.Views.{join_of, is_view, leader_of}
 use Rattle.lemmas.proofs.Views.{is_view-true}
-use Rattle.gap_agree.specs.Agreement.{Agreement}
+use Rattle.slot_votes.specs.Agreement.{Agreement}
 use Rattle.oum_receiver.specs.Front.{Front, Nothing, Message, Dropped}
 use Rattle.oum_receiver.specs.Receiving.{front_of}
-use Rattle.slot_lookup.specs.Answer as answers
-use Rattle.slot_lookup.specs.Answer.{Answer, answer_by, answer_above, answer_of}
+use Rattle.replica_log.specs.Answer as answers
+use Rattle.replica_log.specs.Answer.{Answer, answer_by, answer_above, answer_of}
 use Rattle.trimming.specs.Merging.{trim_change}
 use Rattle.trimming.specs.Trimming.{trim}
 use Rattle.trimming.proofs.Executions.{checkpoint_loads}

@@ -9,7 +9,7 @@ use Rattle.nop_types.specs.declared.output.Actor.TheVariants.{Replica}
 use Rattle.nop_types.specs.declared.output.Dest.TheVariants.{Replicas, One}
 use Rattle.nop_types.specs.declared.peer.Body.TheVariants as bodies
 use Rattle.nop_types.specs.declared.request.Entry.TheVariants.{Req}
-use Rattle.gap_agree.specs.Votes.{with_vote}
+use Rattle.slot_votes.specs.Votes.{with_vote}
 use Rattle.oum_receiver.specs.Receiving.{Receiving, opened}
 use Rattle.trimming.proofs.Worked.{entries-empty, entries-insert}
 use Rattle.replica_state.specs.declared.sending.Sending.{Sending}

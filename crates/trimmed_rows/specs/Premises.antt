@@ -7,7 +7,7 @@ use Rattle.nop_types.specs.declared.peer.Body.TheVariants as bodies
 use Rattle.nop_types.specs.declared.peer.Change.{Change}
 use Rattle.nop_types.specs.declared.peer.Peer.{Peer}
 use Rattle.log_merge.specs.Merging.{kept_changes, merged}
-use Rattle.sync_points.specs.Synchronisation.{Round}
+use Rattle.slot_votes.specs.Synchronisation.{Round}
 use Rattle.trimming.specs.Merging.{Agree}
 use Rattle.view_change.specs.Gathering.{Gathering, change_added, change_sender}
 use Rattle.replica_state.specs.declared.state.ReplicaState.{ReplicaState}

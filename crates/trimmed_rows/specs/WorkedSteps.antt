@@ -21,7 +21,7 @@ use Rattle.nop_types.specs.declared.request.Entry.TheVariants.{Req}
 use Rattle.nop_types.specs.declared.request.Request.{Request}
 use Rattle.oum_receiver.specs.Receiving as receiving
 use Rattle.oum_receiver.specs.Receiving.{Receiving}
-use Rattle.sync_points.specs.Synchronisation.{Synchronisation, Round}
+use Rattle.slot_votes.specs.Synchronisation.{Synchronisation, Round}
 use Rattle.replica_state.specs.declared.sending.Sending.{Sending}
 use Rattle.replica_state.specs.declared.sending.Sending.TheVariants.{ToClient, ToReplicas, Trims}
 use Rattle.replica_state.specs.declared.state.ReplicaState.{ReplicaState}

@@ -5,7 +5,7 @@ use Rattle.std.specs.Cmp.Lexicographic.{pointwise}
 use Rattle.std.specs.declared.net.socket_addr.SocketAddr.{SocketAddr}
 use Rattle.std.specs.declared.net.socket_addr.SocketAddr.TheVariants.{V4, V6}
 use Rattle.admission.specs.Greetings.{reading}
-use Rattle.datagram_sources.specs.Sources.{comes_from}
+use Rattle.admission.specs.Sources.{comes_from}
 use Rattle.udp_ports.specs.declared.places.Place.{Place}
 use Rattle.udp_ports.specs.declared.places.Source.{Source}
 use Rattle.udp_ports.specs.declared.places.Source.TheVariants as sources

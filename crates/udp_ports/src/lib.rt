@@ -8,7 +8,7 @@
 //!
 //! With a table of places (`UdpPorts::at_hosts`) actors are on several machines: a port is then only the name of an actor. A link is
 //! bound to the address of its own one, and sends to that of a port's. What comes from an address that is in no place is dropped, and
-//! so is what the actor there may not send (`datagram_sources`). Before it is attached, a process asks the others whether it may have
+//! so is what the actor there may not send (`comes_from`). Before it is attached, a process asks the others whether it may have
 //! its number, and links answer such greetings (`admission`). A link may also only listen at a place (`Home`, without `claims`): such a
 //! one asks nobody and answers no greeting, but hears those that come, so who polls it may ask others whether they are there.
 //!

@@ -5,8 +5,7 @@ ghost use Rattle.std.specs.Option.{option_copied};
 ghost use Rattle.udp_ports.specs.Places.{address_of, at_address, at_port, loopback, same_address};
 ghost use Rattle.udp_ports.specs.Places.{greets, is_heard, may_send, sender, source_of};
 
-use admission::Greeting;
-use datagram_sources::comes_from;
+use admission::{Greeting, comes_from};
 use nop_types::Actor;
 use std::net::{Ipv4Addr, SocketAddr, SocketAddrV4};
 

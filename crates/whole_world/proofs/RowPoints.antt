@@ -25,15 +25,15 @@ use Rattle.nop_types.specs.declared.request.Entry.TheVariants.{NoOp, Req}
 use Rattle.nop_types.specs.declared.request.Request.{Request}
 use Rattle.nop_types.specs.declared.view.View.{View}
 use Rattle.lemmas.proofs.Members.{Has-one, Has-push_cases, Has-from_filter}
-use Rattle.gap_agree.specs.Votes.{with_vote}
+use Rattle.slot_votes.specs.Votes.{with_vote}
 use Rattle.log_merge.specs.Merging.{kept_changes, best, merged, merged_from}
 use Rattle.log_merge.specs.Starting.{greatest, start_of}
 use Rattle.log_merge.proofs.Best.{best_is_best}
 use Rattle.oum_receiver.specs.Front.{Front, Nothing, Message, Dropped}
 use Rattle.oum_receiver.specs.Receiving.{front_of}
 use Rattle.replica_log.proofs.Adopted.{adopted_point, overlaid_point}
-use Rattle.sync_points.specs.Synchronisation.{Round, Synchronisation, begun, with_round, with_vote_for, round_vote, closed, counted_in}
-use Rattle.sync_points.specs.Synchronisation.{vote_for, committed}
+use Rattle.slot_votes.specs.Synchronisation.{Round, Synchronisation, begun, with_round, with_vote_for, round_vote, closed, counted_in}
+use Rattle.slot_votes.specs.Synchronisation.{vote_for, committed}
 use Rattle.view_change.specs.Gathering as gathering
 use Rattle.view_change.specs.Gathering.{Gathering, change_added, has_sender, change_sender}
 use Rattle.replica_state.specs.declared.sending.Sending.{Sending}

@@ -2,7 +2,7 @@ use Rattle.std.proofs.Common.{ap, sym, subst, ◌∙◌}
 use Rattle.nop_types.specs.declared.peer.Body.TheVariants as bodies
 use Rattle.nop_types.specs.Logs.{Trimmed}
 use Rattle.nop_types.specs.Ranges.{RequestFits}
-use Rattle.slot_lookup.specs.Answer.{Below, Found, GapAgain, Begin, given}
+use Rattle.replica_log.specs.Answer.{Below, Found, GapAgain, Begin, given}
 use Rattle.replica_state.specs.Moves.{send_synced}
 use Rattle.replica_state.specs.Sends.{to_replica}
 use Rattle.replica_rows.specs.Rows.{begin_gap, slot_lookup}

@@ -1,3 +1,0 @@
-pub mod Agreement
-pub mod Mask
-pub mod Votes

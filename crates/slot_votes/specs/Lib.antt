@@ -1,0 +1,5 @@
+pub mod Agreement
+pub mod Mask
+pub mod Rounds
+pub mod Synchronisation
+pub mod Votes

@@ -1,6 +1,0 @@
--- A round as the code keeps it.
-use Rattle.sync_points.specs.declared.synchronisation.Round as code
-use Rattle.sync_points.specs.Synchronisation.{Round}
-
-abbrev pub round_given : code.Round → Round
-round_given x = record { len = x.len; votes = x.votes }
