@@ -3,7 +3,7 @@ use Rattle.std.proofs.Common.{◌≡◌, ℕ, zero, ◌+◌, ◌*◌, ◌≤◌,
 use Rattle.std.proofs.Common.{sym, ap, ◌∙◌, subst, arith, inl, inr, append_assoc, append-nil, Option, Some, None, map, le-leb, leb-true}
 use Rattle.std.specs.Prelude.{◌&&◌, ◌||◌, ◌⊎◌, count_by, option_to_list}
 use Rattle.std.specs.List.{list_all}
-use Rattle.std.proofs.lemmas.Bool.{and_parts, lt-ltb, ltb-true}
+use Rattle.std.proofs.lemmas.Bool.{and_parts, lt-ltb, ltb-true, and_from}
 use Rattle.nop_types.specs.Lists.{Has}
 use Rattle.nop_types.specs.declared.output.Actor.{Actor}
 use Rattle.lemmas.proofs.Members.{Has-first, Has-rest, Has-none, Has-cases, Has-one, Has-append_left, Has-append_right, Has-append_cases}
@@ -244,13 +244,9 @@ pub actor_stays : (b : Bool) (o : Other) → (cond b (record o { has_answered = 
 actor_stays true o = refl
 actor_stays false o = refl
 
-and_true : (a b : Bool) → a ≡ true → b ≡ true → (a && b) ≡ true
-and_true true b e f = f
-and_true false b e f = absurd cc
-
 answer_stays : (b : Bool) (own : Actor) (o : Other) → (counts own o.actor && o.has_answered) ≡ true
     → (counts own (cond b (record o { has_answered = true }) o).actor && (cond b (record o { has_answered = true }) o).has_answered) ≡ true
-answer_stays true own o e = and_true (counts own o.actor) true (and_parts (counts own o.actor) o.has_answered e).0 refl
+answer_stays true own o e = and_from (counts own o.actor) true (and_parts (counts own o.actor) o.has_answered e).0 refl
 answer_stays false own o e = e
 
 how_many-marked : (own from : Actor) (others : List Other) → how_many own (map (marked from) others) ≡ how_many own others

@@ -2,6 +2,5 @@ pub mod Admitted
 pub mod Counted
 pub mod Guard
 pub mod Halves
-pub mod Mapped
 pub mod Noting
 pub mod Spelled

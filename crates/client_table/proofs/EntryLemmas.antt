@@ -18,9 +18,10 @@ use Rattle.std.proofs.lemmas.List.Sorted.{IsNonDecreasingBy-from_default}
 use Rattle.std.proofs.lemmas.Map.Keys.{sorted_from_strictly_increasing}
 use Rattle.nop_types.specs.Tables.{Account, kept_for}
 use Rattle.nop_types.specs.Checkpoints.{are_saved, is_account}
+use Rattle.execution_laws.proofs.Accounts.{kept_for-insert}
 use Rattle.client_table.specs.Answers.{Entries, table_of, client_at, Ascend, IsAt, IsGapFor}
 use Rattle.client_table.specs.Table.{MayReturn, Removed}
-use Rattle.client_table.specs.Laws.{tie, kept_of_insert, kept_of_remove, same_table}
+use Rattle.client_table.specs.Laws.{tie, kept_of_remove, same_table}
 
 abbrev none_there : ℕ × Account
 none_there = (0, record { greatest = 0; kept = [] })
@@ -126,7 +127,7 @@ module _ (es : Entries) (up : Ascend es) (k i : ℕ) (at : IsAt es k i) where
   pub table_set : (e : ℕ × Account) → e.0 ≡ k → table_of (set es i e) ≡ finite.insert (table_of es) k e.1
   table_set e is =
       same_table _ _ (λ q. kept_is (set es i e) q ∙ get_set es k i e is at none_before q
-      ∙ ap (cond (eqb k q) (Some e.1)) (sym (kept_is es q)) ∙ sym (kept_of_insert (table_of es) k e.1 q))
+      ∙ ap (cond (eqb k q) (Some e.1)) (sym (kept_is es q)) ∙ sym (kept_for-insert (table_of es) k e.1 q))
 
   pub ascend_set : (e : ℕ × Account) → e.0 ≡ k → Ascend (set es i e)
   ascend_set e is j l lt within = grind (arith, common_steps, up j l, up j i, up i l, at.in_range, at.is_client, is)
@@ -158,7 +159,7 @@ module _ (es : Entries) (k i : ℕ) (gap : IsGapFor es k i) where
   table_insert a =
       same_table _ _ (λ q. kept_is (insert es i (k, a)) q
       ∙ get_insert es k i a (λ j lt same. let low = gap.smaller_before j lt in omega (arith, low, same)) q
-      ∙ ap (cond (eqb k q) (Some a)) (sym (kept_is es q)) ∙ sym (kept_of_insert (table_of es) k a q))
+      ∙ ap (cond (eqb k q) (Some a)) (sym (kept_is es q)) ∙ sym (kept_for-insert (table_of es) k a q))
 
   pub ascend_insert : (a : Account) → Ascend es → Ascend (insert es i (k, a))
   ascend_insert a up j l lt within =

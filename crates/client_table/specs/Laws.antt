@@ -11,6 +11,7 @@ use Rattle.nop_types.specs.Lists.{is_in}
 use Rattle.nop_types.specs.declared.checkpoint.Answered.{Answered}
 use Rattle.nop_types.specs.Tables.{Account, Table, kept_for, kept_ids, result_in, result_kept, is_new_to, account_with, with_result}
 use Rattle.nop_types.specs.Checkpoints.{are_saved, are_answers, is_account, is_kept}
+use Rattle.execution_laws.proofs.Accounts.{kept_for-insert}
 use Rattle.lemmas.proofs.Kept.{first_is_kept, kept_back, more_is_kept}
 use Rattle.client_table.specs.Table.{Fresh, is_fresh, result_of, verdict_by_result, verdict_on, former_of, put_back, put_on, unkept}
 use Rattle.client_table.specs.Table.{AllKept, MayReturn, account_before, removed_for, removed_from}
@@ -20,15 +21,10 @@ use Rattle.client_table.specs.Table.{AllKept, MayReturn, account_before, removed
 pub tie : (client q : ℕ) → eq_by_cmp nat_cmp q client ≡ eqb client q
 tie client q = (eq_by_cmp_equiv nat_cmp_total).symm q client ∙ unsigned_tied client q
 
-pub kept_of_insert : (table : Table) (client : ℕ) (account : Account) (q : ℕ)
-    → kept_for (finite.insert table client account) q ≡ cond (eqb client q) (Some account) (kept_for table q)
-kept_of_insert table client account q =
-    finite.get-insert nat_cmp_total table client account q ∙ ap (λ (b : Bool). cond b (Some account) (kept_for table q)) (tie client q)
-
 pub kept_of_with_result : (table : Table) (client : ℕ) (a : Answered) (q : ℕ)
     → kept_for (with_result WINDOW table client a) q
     ≡ cond (eqb client q) (Some (account_with WINDOW (kept_for table client) a)) (kept_for table q)
-kept_of_with_result table client a q = kept_of_insert table client (account_with WINDOW (kept_for table client) a) q
+kept_of_with_result table client a q = kept_for-insert table client (account_with WINDOW (kept_for table client) a) q
 
 pub kept_of_remove : (table : Table) (client : ℕ) (q : ℕ)
     → kept_for (finite.remove table client) q ≡ cond (eqb client q) None (kept_for table q)
@@ -88,7 +84,7 @@ unkept_is_before table client a all new = on (kept_for table client) refl new
         ap (put_on (with_result WINDOW table client a) client a.id (removed_from old a.id)) here
         ∙ ap (finite.insert (with_result WINDOW table client a) client) back
         ∙ same_table _ table (λ q.
-        kept_of_insert (with_result WINDOW table client a) client old q
+        kept_for-insert (with_result WINDOW table client a) client old q
         ∙ ap (cond (eqb client q) (Some old)) (written (Some old) e q)
         ∙ twice (eqb client q) (Some old) (Some (account_with WINDOW (Some old) a)) (kept_for table q)
         (λ s. sym e ∙ ap (kept_for table) (eqb-true client q s)))
@@ -151,7 +147,7 @@ saved_kept es h c a e = found_kept 0 es h c a (sym (finite.get-from_entries nat_
 -- the client of an account that was written has one
 pub has_inserted : (table : Table) (client : ℕ) (account : Account) → IsSome (kept_for (finite.insert table client account) client)
 has_inserted table client account =
-    ap is_some (kept_of_insert table client account client ∙ at_itself client (Some account) (kept_for table client))
+    ap is_some (kept_for-insert table client account client ∙ at_itself client (Some account) (kept_for table client))
 
 pub has_account : (table : Table) (client : ℕ) (a : Answered) → IsSome (kept_for (with_result WINDOW table client a) client)
 has_account table client a = has_inserted table client (account_with WINDOW (kept_for table client) a)
@@ -195,7 +191,3 @@ result_by_verdict kept id = here (is_new_to WINDOW kept id) (result_kept kept id
     here false (Some result) h = refl
 
 -- ---- what is saved
-
-pub saved_loads : (table : Table) → finite.from_entries (finite.entries table) ≡ table
-saved_loads table =
-    same_table _ table (λ q. finite.get-from_entries nat_cmp_total (finite.entries table) q ∙ sym (finite.get-entries table q))

@@ -57,7 +57,7 @@ pub fn verdict_is_by_ids()
 {}
 
 /// What is saved of a table loads to the same table.
-#[tactic(auto, using(crate::specs::Laws::saved_loads))]
+#[tactic(auto, using(execution_laws::proofs::Saving::saved_loads))]
 pub fn saved_loads()
     ensures { (table : Table) → finite.from_entries (finite.entries table) ≡ table }
 {}

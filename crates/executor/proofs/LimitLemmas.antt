@@ -25,6 +25,7 @@ use Rattle.nop_types.specs.Checkpoints.{Checkpoint, CheckpointFits, checkpoint_o
 use Rattle.nop_types.specs.Checkpoints.{are_saved, KeepsTo}
 use Rattle.nop_types.specs.CheckpointedLogs.{beginning}
 use Rattle.nop_types.specs.Ranges.{EntryFits}
+use Rattle.execution_laws.proofs.Saving.{len-from_entries}
 use Rattle.lemmas.proofs.Kept.{answer_is, account_is, result_is_short}
 
 -- ---- what may be saved of each client
@@ -110,18 +111,6 @@ saved_each least (e ∷ es) h =
     let rest = and_parts (is_account e.1) (are_saved (e.0 + 1) es) (and_parts (nat_le least e.0) _ h).1 in
     (rest.0, saved_each (e.0 + 1) es rest.1)
 
-loaded_len : (es : List (ℕ × Account)) → finite.len (finite.from_entries {R = nat_cmp} es) ≤ length es
-loaded_len [] = let none = empty_len in omega arith
-loaded_len (e ∷ es) =
-    on (is_some (kept_for (finite.from_entries es) e.0)) (finite.len-insert nat_cmp_total (finite.from_entries es) e.0 e.1) (loaded_len es)
-  where
-    on : (there : Bool) → finite.len (finite.insert (finite.from_entries {R = nat_cmp} es) e.0 e.1)
-        ≡ cond there (finite.len (finite.from_entries {R = nat_cmp} es)) (finite.len (finite.from_entries {R = nat_cmp} es) + 1)
-        → finite.len (finite.from_entries {R = nat_cmp} es) ≤ length es
-        → finite.len (finite.insert (finite.from_entries {R = nat_cmp} es) e.0 e.1) ≤ length (e ∷ es)
-    on true len less = omega arith
-    on false len less = omega arith
-
 loaded_each : (es : List (ℕ × Account)) → EachMayBeSaved es → EachMayBeSaved (finite.entries (finite.from_entries {R = nat_cmp} es))
 loaded_each [] all = empty_fits.each
 loaded_each (e ∷ es) all = saved_insert (finite.from_entries es) e.0 e.1 all.0 (loaded_each es all.1)
@@ -133,7 +122,7 @@ loaded_fits c h =
     record {
       served =
           let most = leb-true (length c.clients) MAX_SERVED rest.0 in
-          let less = loaded_len c.clients in
+          let less = len-from_entries c.clients in
           omega arith;
       each = loaded_each c.clients (saved_each 0 c.clients rest.1);
     }

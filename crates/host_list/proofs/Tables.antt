@@ -3,31 +3,18 @@ use Rattle.std.proofs.Common.{◌≡◌, ◌≢◌, ℕ, zero, suc, ◌<◌, ◌
 use Rattle.std.proofs.Common.{subst, arith, eqb-true, eq-eqb, inl, inr}
 use Rattle.std.specs.Prelude.{◌==◌, ◌&&◌, ◌||◌, ◌⊎◌, nat_eq, replicate, slice_set}
 use Rattle.std.specs.Cmp.Lexicographic.{pointwise}
-use Rattle.std.proofs.lemmas.Bool.{and_parts}
+use Rattle.std.proofs.lemmas.Bool.{and_parts, and_from, or_parts, or_from}
 use Rattle.std.specs.declared.net.socket_addr.SocketAddr.{SocketAddr}
 use Rattle.std.specs.declared.net.socket_addr.SocketAddr.TheVariants.{V4, V6}
+use Rattle.lemmas.proofs.Bytes.{pointwise-true}
 use Rattle.host_list.specs.Addresses.{same_address}
 use Rattle.host_list.specs.Places.{Addresses, address_at, has_address, is_address}
 
 -- ---- addresses that are the same
 
-and_true : (a b : Bool) → a ≡ true → b ≡ true → (a && b) ≡ true
-and_true true b e f = f
-and_true false b e f = absurd cc
-
-pointwise-true : (xs ys : List ℕ) → pointwise nat_eq xs ys ≡ true → xs ≡ ys
-pointwise-true [] [] e = refl
-pointwise-true [] (y ∷ ys) e = absurd cc
-pointwise-true (x ∷ xs) [] e = absurd cc
-pointwise-true (x ∷ xs) (y ∷ ys) e =
-    let p = and_parts (nat_eq x y) (pointwise nat_eq xs ys) e in
-    let first = eqb-true x y p.0 in
-    let rest = pointwise-true xs ys p.1 in
-    cc
-
 pointwise-refl : (xs : List ℕ) → pointwise nat_eq xs xs ≡ true
 pointwise-refl [] = refl
-pointwise-refl (x ∷ xs) = and_true (nat_eq x x) (pointwise nat_eq xs xs) (eq-eqb x x refl) (pointwise-refl xs)
+pointwise-refl (x ∷ xs) = and_from (nat_eq x x) (pointwise nat_eq xs xs) (eq-eqb x x refl) (pointwise-refl xs)
 
 pub same_address-true : (a b : SocketAddr) → same_address a b ≡ true → a ≡ b
 same_address-true (V4 a) (V4 b) e =
@@ -51,13 +38,13 @@ same_address-true (V6 a) (V6 b) e =
 
 pub same_address-refl : (a : SocketAddr) → same_address a a ≡ true
 same_address-refl (V4 a) =
-    and_true (pointwise nat_eq a.ip.octets a.ip.octets) (a.port == a.port) (pointwise-refl a.ip.octets) (eq-eqb a.port a.port refl)
+    and_from (pointwise nat_eq a.ip.octets a.ip.octets) (a.port == a.port) (pointwise-refl a.ip.octets) (eq-eqb a.port a.port refl)
 same_address-refl (V6 a) =
-    and_true (pointwise nat_eq a.ip.segments a.ip.segments)
+    and_from (pointwise nat_eq a.ip.segments a.ip.segments)
     ((a.port == a.port) && ((a.flowinfo == a.flowinfo) && (a.scope_id == a.scope_id)))
     (pointwise-refl a.ip.segments)
-    (and_true (a.port == a.port) ((a.flowinfo == a.flowinfo) && (a.scope_id == a.scope_id)) (eq-eqb a.port a.port refl)
-    (and_true (a.flowinfo == a.flowinfo) (a.scope_id == a.scope_id) (eq-eqb a.flowinfo a.flowinfo refl) (eq-eqb a.scope_id a.scope_id refl)))
+    (and_from (a.port == a.port) ((a.flowinfo == a.flowinfo) && (a.scope_id == a.scope_id)) (eq-eqb a.port a.port refl)
+    (and_from (a.flowinfo == a.flowinfo) (a.scope_id == a.scope_id) (eq-eqb a.flowinfo a.flowinfo refl) (eq-eqb a.scope_id a.scope_id refl)))
 
 back_from : (x : Bool) (a b : SocketAddr) → same_address a b ≡ x → same_address b a ≡ false → same_address a b ≡ false
 back_from false a b e f = e
@@ -115,14 +102,6 @@ same_or_not p q = by_test (p == q) refl
 
 -- ---- whether an address is there
 
-or_parts : (a b : Bool) → (a || b) ≡ false → (a ≡ false) × (b ≡ false)
-or_parts true b e = absurd cc
-or_parts false b e = (refl, e)
-
-or_false : (a b : Bool) → a ≡ false → b ≡ false → (a || b) ≡ false
-or_false true b e f = absurd cc
-or_false false b e f = f
-
 -- where no place has it
 pub other_at : (xs : Addresses) (a b : SocketAddr) (p : ℕ) → has_address xs a ≡ false → address_at xs p ≡ Some b → same_address b a ≡ false
 other_at [] a b p h e = absurd cc
@@ -136,10 +115,10 @@ pub none_written : (xs : Addresses) (p : ℕ) (a b : SocketAddr) → has_address
     → has_address (slice_set xs p (Some a)) b ≡ false
 none_written [] p a b h e = h
 none_written (x ∷ xs) zero a b h e =
-    or_false (same_address a b) (has_address xs b) e (or_parts (is_address b x) (has_address xs b) h).1
+    or_from (same_address a b) (has_address xs b) e (or_parts (is_address b x) (has_address xs b) h).1
 none_written (x ∷ xs) (suc p) a b h e =
     let k = or_parts (is_address b x) (has_address xs b) h in
-    or_false (is_address b x) (has_address (slice_set xs p (Some a)) b) k.0 (none_written xs p a b k.1 e)
+    or_from (is_address b x) (has_address (slice_set xs p (Some a)) b) k.0 (none_written xs p a b k.1 e)
 
 -- what was not there after one was written was not there before
 pub none_before : (xs : Addresses) (p : ℕ) (a b : SocketAddr) → p < length xs → address_at xs p ≡ None
@@ -151,4 +130,4 @@ none_before (x ∷ xs) zero a b l free h =
 none_before (x ∷ xs) (suc p) a b l free h =
     let k = or_parts (is_address b x) (has_address (slice_set xs p (Some a)) b) h in
     let r = none_before xs p a b (omega (arith, l)) free k.1 in
-    (or_false (is_address b x) (has_address xs b) k.0 r.0, r.1)
+    (or_from (is_address b x) (has_address xs b) k.0 r.0, r.1)

@@ -8,7 +8,7 @@ use Rattle.hex.proofs.HexLemmas.{decode_of-ok}
 use Rattle.line_fields.specs.Fields.{is_text, as_option, bytes_of, key_in, key_of}
 use Rattle.nop_types.specs.declared.limits.TheConstants.{MAX_KEY_BYTES}
 
-decoded : (r : Result (List ℕ) FromHexError) (bytes : List ℕ) → as_option r ≡ Some bytes → r ≡ Ok bytes
+pub decoded : (r : Result (List ℕ) FromHexError) (bytes : List ℕ) → as_option r ≡ Some bytes → r ≡ Ok bytes
 decoded (Ok xs) bytes e = let same : xs ≡ bytes = cc in ap Ok same
 decoded (Err x) bytes e = absurd cc
 

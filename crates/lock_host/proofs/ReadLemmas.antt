@@ -9,7 +9,8 @@ use Rattle.lock_host.specs.declared.op.TheConstants.{ACQUIRE, RELEASE, INSPECT}
 use Rattle.lock_host.specs.declared.op.LockOp.{LockOp}
 use Rattle.lock_host.specs.declared.op.LockOp.TheVariants.{Acquire, Release, Inspect, Bad}
 use Rattle.saved_fields.specs.Numbers.{BeginsNumber, number_bytes, number_at}
-use Rattle.saved_fields.specs.Reading.{number_at-begins, number_at-number}
+use Rattle.saved_fields.specs.Reading.{number_at-begins}
+use Rattle.saved_fields.proofs.FieldLemmas.{last_number}
 use Rattle.lock_host.specs.Fields.{NameFits, name_bytes, name_at}
 use Rattle.lock_host.specs.Op.{at_end, read_acquire, read_release, read_inspect, read_fields, read_op}
 use Rattle.lock_host.specs.Reading.{Field, BeginsName, name_at-begins, name_at-name}
@@ -19,9 +20,6 @@ use Rattle.lock_host.specs.Spelling.{Spells, ReadsSpelled, ReadsOnlySpelled}
 
 last_name : (name : List ℕ) → NameFits name → name_at (name_bytes name) ≡ Some (name, [])
 last_name name fits = ap name_at (sym (append-nil (name_bytes name))) ∙ name_at-name name [] fits
-
-last_number : (n : ℕ) → n < 2 ^ 64 → number_at (number_bytes n) ≡ Some (n, [])
-last_number n fits = ap number_at (sym (append-nil (number_bytes n))) ∙ number_at-number n [] fits
 
 spelled_acquire : (name owner : List ℕ) → NameFits name → NameFits owner
     → read_op (ACQUIRE ∷ (name_bytes name ++ name_bytes owner)) ≡ Acquire name owner

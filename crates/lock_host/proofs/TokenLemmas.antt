@@ -1,11 +1,12 @@
 -- Tokens rise, a lock has one holder, and nobody else releases it.
 use Rattle.std.proofs.Common.{◌≡◌, ℕ, zero, suc, ◌+◌, ◌≤◌, Bool, true, false, cond, List, [], ◌∷◌, ◌++◌, length, slice_get, slice_set}
 use Rattle.std.proofs.Common.{Option, Some, None, refl, sym, ap, subst, ◌∙◌, true≢false, arith, inl, inr, ◌⊎◌, eqb-true}
-use Rattle.std.specs.Prelude.{nat_lt, codes, position, ◌||◌, ◌&&◌, ◌==◌}
+use Rattle.std.specs.Prelude.{nat_lt, codes, position, ◌||◌, ◌==◌}
 use Rattle.std.specs.List.{list_any}
 use Rattle.std.proofs.lemmas.Bool.Decides.{nat_tests}
 use Rattle.std.proofs.lemmas.Option.{none-some, same_Some}
 use Rattle.std.specs.Cmp.Lexicographic.{bytes_decides}
+use Rattle.std.proofs.lemmas.Bool.{and_parts, or_parts}
 use Rattle.lock_host.specs.declared.locks.TheConstants.{MAX_LOCKS, LAST_TOKEN}
 use Rattle.lock_host.specs.declared.lock.Lock.{Lock}
 use Rattle.lock_host.specs.declared.op.LockOp.{LockOp}
@@ -17,7 +18,7 @@ use Rattle.lock_host.specs.Locks.{holds, release, step}
 use Rattle.lock_host.specs.Finding.{IsFound, found_is, IsFree, free_is}
 use Rattle.lock_host.specs.Saved.{clashes}
 use Rattle.lock_host.specs.Service.{lock_meaning, IsApart, AreApart, IsSound}
-use Rattle.lock_host.specs.Places.{or_false, fits_get}
+use Rattle.lock_host.specs.Places.{fits_get}
 use Rattle.lock_host.specs.Laws.{opens_sound, stays_sound}
 use Rattle.lock_host.specs.Tokens.{after_all, reached, Holds, TokensRise, OneHolder, OneLock, ReleasesOwn, HeldUntilReleased, AnswersGrants}
 use Rattle.lock_host.specs.Tokens.{AnswersAgain}
@@ -175,8 +176,8 @@ tokens_rise ops later op name owner other whose old new h g =
 
 any_in : {X : Type 0} (t : X → Bool) (xs : List X) (k : ℕ) (x : X) → list_any t xs ≡ false → slice_get xs k ≡ Some x → t x ≡ false
 any_in t [] k x h e = absurd (none-some x e)
-any_in t (y ∷ ys) zero x h e = subst (λ (z : _). t z ≡ false) (same_Some y x e) ((or_false (t y) (list_any t ys) h).0)
-any_in t (y ∷ ys) (suc k) x h e = any_in t ys k x ((or_false (t y) (list_any t ys) h).1) e
+any_in t (y ∷ ys) zero x h e = subst (λ (z : _). t z ≡ false) (same_Some y x e) ((or_parts (t y) (list_any t ys) h).0)
+any_in t (y ∷ ys) (suc k) x h e = any_in t ys k x ((or_parts (t y) (list_any t ys) h).1) e
 
 abbrev Shares : Lock → Lock → Type 0
 Shares a b = (b.name ≡ a.name) ⊎ (b.token ≡ a.token)
@@ -222,10 +223,6 @@ one_lock ops name other owner whose token h k =
 
 -- ---- a release of another's lock
 
-both : (a b : Bool) → (a && b) ≡ true → (a ≡ true) × (b ≡ true)
-both true b e = (refl, e)
-both false b e = absurd (true≢false (sym e))
-
 is_lock : (lock : Lock) (name owner : List ℕ) (token : ℕ) → lock.name ≡ name → lock.owner ≡ owner → lock.token ≡ token
     → lock ≡ record { name = name; owner = owner; token = token }
 is_lock lock name owner token n o t =
@@ -246,7 +243,7 @@ module _ (locks : Locks) (name owner : List ℕ) where
   kept_by : (token : ℕ) (p : ℕ × Lock) (b : Bool) → IsFound locks.places name (Some p) → (Holds locks name owner token → ⊥)
       → holds p.1 owner token ≡ b → (s : Step) → (cond b s (says locks (codes "refused"))).locks ≡ locks
   kept_by token p true at not_held e s =
-      let o = both (is_same p.1.owner owner) (p.1.token == token) e in
+      let o = and_parts (is_same p.1.owner owner) (p.1.token == token) e in
       absurd (not_held (holds_found token p at o.0 (eqb-true p.1.token token o.1)))
   kept_by token p false at not_held e s = refl
 
@@ -285,7 +282,7 @@ module _ (locks : Locks) (name owner : List ℕ) (token : ℕ) (h : Holds locks 
   is_release : (n o : List ℕ) (t : ℕ) (p : ℕ × Lock) → is_same p.1.name n ≡ true → holds p.1 o t ≡ true
       → p.1 ≡ record { name = name; owner = owner; token = token } → Release n o t ≡ Release name owner token
   is_release n o t p named e same =
-      let parts = both (is_same p.1.owner o) (p.1.token == t) e in
+      let parts = and_parts (is_same p.1.owner o) (p.1.token == t) e in
       let a : n ≡ name = sym ((bytes_decides p.1.name n).0 named) ∙ ap (λ (lock : Lock). lock.name) same in
       let b : o ≡ owner = sym ((bytes_decides p.1.owner o).0 parts.0) ∙ ap (λ (lock : Lock). lock.owner) same in
       let c : t ≡ token = sym (eqb-true p.1.token t parts.1) ∙ ap (λ (lock : Lock). lock.token) same in

@@ -8,6 +8,7 @@ use Rattle.std.specs.List.{list_any}
 use Rattle.std.proofs.lemmas.List.{length-append}
 use Rattle.std.proofs.Math.Seq.{take-append_seam}
 use Rattle.lemmas.proofs.Options.{then_holds}
+use Rattle.lemmas.proofs.Places.{length-slice_set}
 use Rattle.nop_types.specs.declared.limits.TheConstants.{MAX_RESULT_BYTES}
 use Rattle.lock_host.specs.declared.locks.TheConstants.{MAX_LOCKS, LAST_TOKEN}
 use Rattle.lock_host.specs.declared.op.TheConstants.{ACQUIRE, RELEASE, INSPECT}
@@ -24,7 +25,7 @@ use Rattle.lock_host.specs.Locks.{holds, release, step, undone}
 use Rattle.lock_host.specs.Finding.{IsFound, found_is, IsFree, free_is}
 use Rattle.lock_host.specs.Saved.{clashes}
 use Rattle.lock_host.specs.Service.{lock_meaning, undo_of, LockFits, PlacesFit, IsSound}
-use Rattle.lock_host.specs.Places.{set_back, length-set, fits_get, fits_set, fits_add, all_later, new_lock, apart_set, apart_add}
+use Rattle.lock_host.specs.Places.{set_back, fits_get, fits_set, fits_add, all_later, new_lock, apart_set, apart_add}
 
 -- ---- an op that is read has its names within their limits
 
@@ -121,7 +122,7 @@ module _ (locks : Locks) (name owner : List ℕ) (sound : IsSound locks) (n : Na
   granted_sound : (place : Option ℕ) → IsSound (granted_at locks new place).locks
   granted_sound None = at_new_place _ refl
   granted_sound (Some i) =
-      let l = length-set locks.places i (Some new) in
+      let l = length-slice_set locks.places i (Some new) in
       let few = sound.few in
       record {
         few = omega (arith, l, few);
@@ -150,7 +151,7 @@ acquire_sound locks name owner (Some p) sound n o at = either_sound (is_same p.1
 
 freed_sound : (locks : Locks) (i : ℕ) → IsSound locks → IsSound (record { last = locks.last; places = slice_set locks.places i None })
 freed_sound locks i sound =
-    let l = length-set locks.places i None in
+    let l = length-slice_set locks.places i None in
     let few = sound.few in
     record {
       few = omega (arith, l, few);

@@ -1,12 +1,13 @@
 -- Proofs: nothing here has to be believed.
 -- What a write to a place keeps.
-use Rattle.std.proofs.Common.{◌≡◌, ℕ, zero, suc, ◌<◌, ◌≤◌, Bool, true, false, List, [], ◌∷◌, ◌++◌, length, slice_get, slice_set}
-use Rattle.std.proofs.Common.{Option, Some, None, refl, sym, ap, subst, ◌∙◌, true≢false, arith}
-use Rattle.std.specs.Prelude.{◌||◌, ◌==◌}
+use Rattle.std.proofs.Common.{◌≡◌, ℕ, zero, suc, ◌<◌, ◌≤◌, Bool, false, List, [], ◌∷◌, ◌++◌, slice_get, slice_set}
+use Rattle.std.proofs.Common.{Option, Some, None, refl, sym, ap, subst, ◌∙◌, arith}
+use Rattle.std.specs.Prelude.{◌==◌}
 use Rattle.std.specs.List.{list_any}
 use Rattle.std.proofs.lemmas.Bool.Decides.{nat_tests}
 use Rattle.std.proofs.lemmas.Cmp.{nat_list_eq_equiv, nat_eq_equiv}
 use Rattle.std.proofs.lemmas.Option.{none-some, same_Some}
+use Rattle.std.proofs.lemmas.Bool.{or_parts}
 use Rattle.lock_host.specs.declared.lock.Lock.{Lock}
 use Rattle.lock_host.specs.Locks.{Places, is_same, is_named}
 use Rattle.lock_host.specs.Saved.{clashes}
@@ -19,27 +20,18 @@ set_back [] i x y e = absurd (none-some x e)
 set_back (z ∷ zs) zero x y e = ap (λ (k : _). k ∷ zs) (sym (same_Some z x e))
 set_back (z ∷ zs) (suc i) x y e = ap (λ (k : _). z ∷ k) (set_back zs i x y e)
 
-pub length-set : {X : Type 0} (xs : List X) (i : ℕ) (x : X) → length (slice_set xs i x) ≡ length xs
-length-set [] i x = refl
-length-set (y ∷ ys) zero x = refl
-length-set (y ∷ ys) (suc i) x = ap suc (length-set ys i x)
-
-pub or_false : (a b : Bool) → (a || b) ≡ false → (a ≡ false) × (b ≡ false)
-or_false true b e = absurd (true≢false e)
-or_false false b e = (refl, e)
-
 set_none : {X : Type 0} (t : X → Bool) (xs : List X) (i : ℕ) (x : X) → list_any t xs ≡ false → t x ≡ false
     → list_any t (slice_set xs i x) ≡ false
 set_none t [] i x h k = refl
-set_none t (y ∷ ys) zero x h k = rw k ((or_false (t y) (list_any t ys) h).1)
+set_none t (y ∷ ys) zero x h k = rw k ((or_parts (t y) (list_any t ys) h).1)
 set_none t (y ∷ ys) (suc i) x h k =
-    let both = or_false (t y) (list_any t ys) h in
+    let both = or_parts (t y) (list_any t ys) h in
     rw both.0 (set_none t ys i x both.1 k)
 
 add_none : {X : Type 0} (t : X → Bool) (xs : List X) (x : X) → list_any t xs ≡ false → t x ≡ false → list_any t (xs ++ x ∷ []) ≡ false
 add_none t [] x h k = rw k refl
 add_none t (y ∷ ys) x h k =
-    let both = or_false (t y) (list_any t ys) h in
+    let both = or_parts (t y) (list_any t ys) h in
     rw both.0 (add_none t ys x both.1 k)
 
 -- ---- what fits
@@ -84,19 +76,19 @@ pub new_lock : (last : ℕ) (places : Places) (name owner : List ℕ) (token : �
 new_lock last [] name owner token h k lt = refl
 new_lock last (None ∷ places) name owner token h k lt = new_lock last places name owner token h.1 k lt
 new_lock last (Some lock ∷ places) name owner token h k lt =
-    let both = or_false (is_same lock.name name) (list_any (is_named name) places) k in
+    let both = or_parts (is_same lock.name name) (list_any (is_named name) places) k in
     let most = h.0.most in
     let other : lock.token == token ≡ false = grind (arith, nat_tests, most, lt) in
     rw (both.0, other) (new_lock last places name owner token h.1 both.1 lt)
 
 apart_tail : (p q : Option Lock) (places : Places) → IsApart p (q ∷ places) → IsApart p places
 apart_tail None q places h = tt
-apart_tail (Some lock) q places h = (or_false (clashes lock q) (list_any (clashes lock) places) h).1
+apart_tail (Some lock) q places h = (or_parts (clashes lock q) (list_any (clashes lock) places) h).1
 
 apart_head : (p q : Option Lock) (places : Places) (other : Lock) → IsApart p (Some other ∷ places) → clashes other p ≡ false
 apart_head None q places other h = refl
 apart_head (Some lock) q places other h =
-    clashes_back other lock ∙ (or_false (clashes lock (Some other)) (list_any (clashes lock) places) h).0
+    clashes_back other lock ∙ (or_parts (clashes lock (Some other)) (list_any (clashes lock) places) h).0
 
 stays_apart : (p q : Option Lock) (places : Places) (i : ℕ) → IsApart p (q ∷ places) → IsApart q places → IsApart q (slice_set places i p)
 stays_apart p None places i h k = tt

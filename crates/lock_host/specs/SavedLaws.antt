@@ -2,10 +2,11 @@
 -- A saved state is short, it loads again, and nothing loads but what was saved of a sound state.
 use Rattle.std.proofs.Common.{◌≡◌, ℕ, zero, suc, ◌*◌, ◌<◌, ◌≤◌, ◌^◌, Bool, true, false, cond, List, [], ◌∷◌, ◌++◌, length}
 use Rattle.std.proofs.Common.{Option, Some, None, refl, sym, ap, subst, ◌∙◌, append_assoc, true≢false, arith, eqb-true, leb-true}
-use Rattle.std.specs.Prelude.{IfSome, ◌&&◌, ◌==◌, not, nat_le}
+use Rattle.std.specs.Prelude.{IfSome, ◌==◌, not, nat_le}
 use Rattle.std.specs.List.{flat_map, list_any}
 use Rattle.std.proofs.lemmas.Bool.Decides.{nat_tests}
 use Rattle.std.proofs.lemmas.List.{length-append, append-nil}
+use Rattle.std.proofs.lemmas.Bool.{and_parts, or_parts}
 use Rattle.lemmas.proofs.Options.{then_holds}
 use Rattle.nop_types.specs.declared.limits.TheConstants.{MAX_HOST_BYTES}
 use Rattle.saved_fields.specs.Numbers.{BeginsNumber, number_bytes, number_at}
@@ -17,7 +18,7 @@ use Rattle.lock_host.specs.Reading.{BeginsName, name_at-begins, name_at-name}
 use Rattle.lock_host.specs.Locks.{Places, Locks}
 use Rattle.lock_host.specs.Saved.{place_bytes, saved, clashes, is_allowed, lock_at, place_at, nothing_after, with_places, loaded}
 use Rattle.lock_host.specs.Service.{LockFits, PlaceFits, PlacesFit, IsApart, AreApart, IsSound}
-use Rattle.lock_host.specs.Places.{or_false, clashes_back, apart_add}
+use Rattle.lock_host.specs.Places.{clashes_back, apart_add}
 
 -- ---- a saved state is short
 
@@ -98,8 +99,8 @@ first_place last prefix (Some lock) more fits small none =
     (allowed last prefix lock fits none)
 
 any_at : {X : Type 0} (t : X → Bool) (prefix : List X) (x : X) (rest : List X) → list_any t (prefix ++ x ∷ rest) ≡ false → t x ≡ false
-any_at t [] x rest h = (or_false (t x) (list_any t rest) h).0
-any_at t (y ∷ prefix) x rest h = any_at t prefix x rest ((or_false (t y) (list_any t (prefix ++ x ∷ rest)) h).1)
+any_at t [] x rest h = (or_parts (t x) (list_any t rest) h).0
+any_at t (y ∷ prefix) x rest h = any_at t prefix x rest ((or_parts (t y) (list_any t (prefix ++ x ∷ rest)) h).1)
 
 no_clash : (lock : Lock) (q : Option Lock) (prefix rest : Places) → IsApart q (prefix ++ Some lock ∷ rest) → clashes lock q ≡ false
 no_clash lock None prefix rest h = refl
@@ -133,10 +134,6 @@ loads_saved locks sound =
     ) (read_again locks.last [] places sound.fits (omega (arith, last)) sound.apart)
 
 -- ---- nothing else loads
-
-both : (a b : Bool) → (a && b) ≡ true → (a ≡ true) × (b ≡ true)
-both true b e = (refl, e)
-both false b e = absurd (true≢false (sym e))
 
 not_so : (b : Bool) → not b ≡ true → b ≡ false
 not_so true e = absurd (true≢false (sym e))
@@ -172,8 +169,8 @@ record BeginsPlace (last : ℕ) (prefix : Places) (bytes : List ℕ) (found : Op
 allowed_by : (last : ℕ) (prefix : Places) (bytes : List ℕ) (lock : Lock × List ℕ) (test : Bool) → is_allowed last prefix lock.0 ≡ test
     → BeginsLock bytes lock → IfSome (cond test (Some (Some lock.0, lock.1)) None) (BeginsPlace last prefix bytes)
 allowed_by last prefix bytes lock true e l =
-    let one = both (nat_le 1 lock.0.token) _ e in
-    let two = both (nat_le lock.0.token last) _ one.1 in
+    let one = and_parts (nat_le 1 lock.0.token) _ e in
+    let two = and_parts (nat_le lock.0.token last) _ one.1 in
     record {
       fits = record { name = l.name; owner = l.owner; least = leb-true 1 lock.0.token one.0; most = leb-true lock.0.token last two.0 };
       apart = not_so (list_any (clashes lock.0) prefix) two.1;

@@ -8,8 +8,9 @@ use Rattle.std.proofs.lemmas.Bool.Decides.{nat_tests}
 use Rattle.lemmas.proofs.Options.{same_Some-at}
 use Rattle.line_fields.specs.Fields.{is_text, digit_on, number_on, number_of}
 use Rattle.op_text.specs.Words.{bytes_of, word_of}
-use Rattle.saved_fields.specs.Numbers.{number_bytes, number_at}
+use Rattle.saved_fields.specs.Numbers.{number_bytes}
 use Rattle.saved_fields.specs.Reading.{length-number, number_at-number, text_at-text}
+use Rattle.saved_fields.proofs.FieldLemmas.{last_number}
 use Rattle.op_table.specs.declared.table.FieldShape.TheVariants.{Number}
 use Rattle.op_table.specs.Laws.{op_is}
 use Rattle.op_table.specs.Shapes as table
@@ -209,9 +210,6 @@ name_word name rest fits =
 
 last_name : (name : List ℕ) → NameFits name → word_at a_name (name_bytes name) ≡ Some (word_of name, [])
 last_name name fits = ap (word_at a_name) (sym (append-nil (name_bytes name))) ∙ name_word name [] fits
-
-last_number : (n : ℕ) → n < 2 ^ 64 → number_at (number_bytes n) ≡ Some (n, [])
-last_number n fits = ap number_at (sym (append-nil (number_bytes n))) ∙ number_at-number n [] fits
 
 number_word : (n : ℕ) → n < 2 ^ 64 → word_at Number (number_bytes n) ≡ Some (decimal n, [])
 unfolding word_at

@@ -1,5 +1,5 @@
 -- The merge of logs whose entries are in their ranges.
-use Rattle.std.proofs.Common.{◌≡◌, ℕ, zero, suc, ◌+◌, ◌-◌, ◌≤◌, Bool, true, false, cond, List, [], ◌∷◌, map, length, drop}
+use Rattle.std.proofs.Common.{◌≡◌, ℕ, zero, suc, ◌+◌, ◌-◌, ◌≤◌, Bool, true, false, cond, List, [], ◌∷◌, map, length}
 use Rattle.std.proofs.Common.{Option, Some, None, refl, sym, ap, subst, arith, inl, inr, length-drop}
 use Rattle.std.specs.Prelude.{IfSome, slice_get, nat_le}
 use Rattle.std.specs.List.{AllByRecursion, range_with_len}
@@ -12,6 +12,7 @@ use Rattle.nop_types.specs.Lists.{Has, slot_of}
 use Rattle.nop_types.specs.Logs.{Log, Keeping, Whole, Trimmed, empty, before, place_of, above}
 use Rattle.nop_types.specs.Ranges.{EntryFits, CheckpointIsIn, LogIsIn, ChangeIsIn}
 use Rattle.lemmas.proofs.Members.{Has-none, Has-first, Has-rest, Has-cases}
+use Rattle.lemmas.proofs.Prefixes.{all-drop}
 use Rattle.log_merge.specs.Merge.{Choice, choice_of, of_both, of_two, chosen, entry_of, longest, merge}
 use Rattle.log_merge.specs.Merging.{best, merged_from, merged}
 use Rattle.log_merge.proofs.Best.{best_is_best}
@@ -62,15 +63,10 @@ merge_fits cs h =
 
 -- ---- logs that are sent, kept whole or trimmed
 
-all_drop : (n : ℕ) (l : List Entry) → AllByRecursion EntryFits l → AllByRecursion EntryFits (drop n l)
-all_drop zero l h = h
-all_drop (suc n) [] h = tt
-all_drop (suc n) (x ∷ l) h = all_drop n l h.1
-
 above_fits : (k : Keeping) (n : ℕ) (cs : List code.Change) → AllByRecursion (ChangeIsIn k) cs
     → AllByRecursion (λ c. AllByRecursion EntryFits c.log) (map (plain_above k n) cs)
 above_fits k n [] h = tt
-above_fits k n (c ∷ cs) h = (all_drop (place_of k c.log n) c.log.entries h.0.rest.log_fits.entries, above_fits k n cs h.1)
+above_fits k n (c ∷ cs) h = (all-drop EntryFits (place_of k c.log n) c.log.entries h.0.rest.log_fits.entries, above_fits k n cs h.1)
 
 -- a log with the sync point of another one and n entries is within the limits
 abbrev Bounded : Keeping → Log → ℕ → Type 0

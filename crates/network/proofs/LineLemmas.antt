@@ -1,23 +1,19 @@
 -- The lines and datagrams of outputs, one after the other.
-use Rattle.std.proofs.Common.{◌≡◌, ℕ, ◌+◌, ◌<◌, Bool, cond, List, [], ◌∷◌, ◌++◌, length, take, drop, get_or, refl, sym, ap, subst}
+use Rattle.std.proofs.Common.{◌≡◌, ℕ, ◌+◌, ◌<◌, List, [], ◌∷◌, ◌++◌, length, take, drop, get_or, refl, sym, ap, subst}
 use Rattle.std.proofs.Common.{◌∙◌, arith}
 use Rattle.std.proofs.Common.{append_assoc, length-append}
-use Rattle.std.specs.List.{count_by}
 use Rattle.std.proofs.lemmas.List.{append-nil, take_more, take-append-drop}
-use Rattle.std.proofs.lemmas.List.Sums.{sum_by-append}
 use Rattle.std.proofs.lemmas.List.Concat.{flat_map-append}
 use Rattle.nop_types.specs.Lines as lines
 use Rattle.nop_types.specs.Lines.{Line}
 use Rattle.nop_types.specs.declared.output.Actor.{Actor}
 use Rattle.nop_types.specs.declared.output.Out.{Out}
 use Rattle.nop_types.specs.declared.output.Out.TheVariants as outs
+use Rattle.lemmas.proofs.Counts.{count_by-append}
 use Rattle.transcript_text.specs.Transcript.{line_text, lines_text}
 use Rattle.network.specs.declared.lines.Tally.{Tally}
 use Rattle.network.specs.LineCounts.{is_send, is_accept, Grows}
 use Rattle.network.specs.Network.{Sent, SendsPrefix, sends_of, lines_from}
-
-count_by-append : (p : Line → Bool) (xs ys : List Line) → count_by p (xs ++ ys) ≡ count_by p xs + count_by p ys
-count_by-append p xs ys = sum_by-append (λ (x : Line). cond (p x) 1 0) xs ys
 
 pub sends_of-append : (from : Actor) (xs ys : List Out) → sends_of from (xs ++ ys) ≡ sends_of from xs ++ sends_of from ys
 sends_of-append from [] ys = refl

@@ -2,10 +2,11 @@
 -- The words of an op name it.
 use Rattle.std.proofs.Common.{◌≡◌, ℕ, Bool, true, false, cond, List, [], ◌∷◌, ◌++◌, length, Option, Some, None, refl, sym, ap, subst, eqb-true}
 use Rattle.std.proofs.Common.{◌∙◌, append-nil, arith}
-use Rattle.std.specs.Prelude.{IfSome, decimal, nat_le, not, option_map, ◌==◌, ◌&&◌, ◌||◌}
+use Rattle.std.specs.Prelude.{IfSome, decimal, nat_le, not, option_map, ◌==◌, ◌&&◌}
 use Rattle.std.specs.List.{list_any}
 use Rattle.std.proofs.lemmas.Bool.Decides.{nat_tests}
 use Rattle.std.proofs.lemmas.Cmp.{nat_list_eq_equiv}
+use Rattle.std.proofs.lemmas.Bool.{or_parts}
 use Rattle.line_fields.specs.Fields.{is_text}
 use Rattle.hex.specs.Hex.{IsBytes}
 use Rattle.lemmas.proofs.Bytes.{byte_first, bytes_back, bytes_behind, no_bytes}
@@ -89,10 +90,6 @@ record IsFound (shapes : List OpShape) (kind : ℕ) (s : OpShape) : Type 0 where
   named : by_name shapes s.name ≡ Some s
   no_other : (name : List ℕ) → list_any (λ t. is_text t.name name) shapes ≡ false → is_text s.name name ≡ false
 
-neither : (a b : Bool) → (a || b) ≡ false → (a ≡ false) × (b ≡ false)
-neither true b e = absurd cc
-neither false b e = (refl, e)
-
 both : (a b : Bool) → (not a && b) ≡ true → (a ≡ false) × (b ≡ true)
 both true b e = absurd cc
 both false b e = (refl, e)
@@ -101,7 +98,7 @@ found_here : (shapes : List OpShape) (s : OpShape) → IsFound (s ∷ shapes) s.
 found_here shapes s = record {
   kind_is = refl;
   named = rw (nat_list_eq_equiv.refl s.name) refl;
-  no_other = λ name e. (neither (is_text s.name name) (list_any (λ t. is_text t.name name) shapes) e).0;
+  no_other = λ name e. (or_parts (is_text s.name name) (list_any (λ t. is_text t.name name) shapes) e).0;
 }
 
 found_later : (shapes : List OpShape) (t : OpShape) (kind : ℕ) → list_any (λ s. is_text s.name t.name) shapes ≡ false
@@ -112,7 +109,7 @@ found_later shapes t kind apart (Some s) h =
     record {
       kind_is = h.kind_is;
       named = rw other h.named;
-      no_other = λ name e. h.no_other name ((neither (is_text t.name name) (list_any (λ s. is_text s.name name) shapes) e).1);
+      no_other = λ name e. h.no_other name ((or_parts (is_text t.name name) (list_any (λ s. is_text s.name name) shapes) e).1);
     }
 
 by_test : (shapes : List OpShape) (kind : ℕ) (s : OpShape) → IfSome (by_kind shapes kind) (IsFound (s ∷ shapes) kind)

@@ -5,13 +5,14 @@ use Rattle.std.specs.List.{AllByRecursion}
 use Rattle.std.specs.List.Sorted.{IsStrictlySortedBy}
 use Rattle.std.specs.Ordering.{nat_cmp, eq_by_cmp, is_gt}
 use Rattle.std.specs.declared.cmp.Ordering.TheVariants.{Less}
-use Rattle.std.specs.Cmp.{nat_cmp_total, eq_by_cmp_equiv, unsigned_tied}
+use Rattle.std.specs.Cmp.{nat_cmp_total, eq_by_cmp_equiv}
 use Rattle.std.specs.FinMap as finite
 use Rattle.std.specs.Map.{lookup, keys_of}
 use Rattle.std.specs.BTreeMap.{IsLowerBound, BTreeMap, is_at, Updates}
 use Rattle.std.proofs.lemmas.Bool.Decides.{nat_tests}
 use Rattle.std.proofs.lemmas.Map.Keys.{sorted_head, sorted_tail}
 use Rattle.nop_types.specs.declared.request.Request.{Request}
+use Rattle.lemmas.proofs.Numbers.{not_tied}
 use Rattle.oum_receiver.specs.Requests.{Requests, is_from}
 use Rattle.oum_receiver.specs.Table.{map_of, starts_below}
 
@@ -62,9 +63,6 @@ len_is (e ∷ es) sorted =
 pub get_kept : (m : Requests) (next q : ℕ)
     → finite.get (finite.retain_keys m (is_from next)) q ≡ cond (is_from next q) (finite.get m q) None
 get_kept m next q = finite.get-retain_keys m (is_from next) q (λ x t. ap (is_from next) (sym (finite.nat_cmp-IsAntisymmetric q x t)))
-
-pub not_tied : (q k : ℕ) → (q ≡ k → ⊥) → eq_by_cmp nat_cmp q k ≡ false
-not_tied q k apart = unsigned_tied q k ∙ grind (arith, nat_tests)
 
 -- an entry below the number is dropped
 drop_first : (next : ℕ) (e : ℕ × Request) (es : List (ℕ × Request)) → e.0 < next

@@ -50,6 +50,10 @@ front_found true o request is = cc
 front_found false None request is = cc
 front_found false (Some x) request is = cc
 
+pub judged_next : (v : Verdict) (r : Receiving) (p : Stamped) → (judged v r p).next ≡ r.next
+judged_next Queued r p = refl
+judged_next _ r p = refl
+
 pub front_stamped : (packets : List Stamped) (r : Receiving) (request : Request) → IsStampedBy packets r → front_of r ≡ Message request
     → WasStamped packets r.session r.next request
 front_stamped packets r request stamped is =

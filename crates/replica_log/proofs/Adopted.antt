@@ -3,7 +3,7 @@ use Rattle.std.proofs.Common.{◌≡◌, ℕ, zero, suc, ◌+◌, ◌<◌, ◌�
 use Rattle.std.proofs.Common.{length-append}
 use Rattle.std.specs.Prelude.{◌-◌, nat_lt, slice_get}
 use Rattle.std.proofs.lemmas.Bool.{ltb-true, ltb-false, lt-ltb, le-ltb}
-use Rattle.std.proofs.lemmas.List.{length-take-le, length-drop, take-append-drop}
+use Rattle.std.proofs.lemmas.List.{length-take-le, length-drop, take-append-drop, drop_all}
 use Rattle.nop_types.specs.declared.request.Entry.{Entry}
 use Rattle.nop_types.specs.Lists.{slot_of}
 use Rattle.nop_types.specs.Logs.{Log, Whole, Trimmed, length_of, above, further, adopted, overlaid, IsWithin}
@@ -30,12 +30,6 @@ overlaid_point new own = further_point new own (nat_lt own.sync_point new.sync_p
 
 -- ---- the front of one list, and what another one has above
 
-none-above : (n : ℕ) (l : List Entry) → length l ≤ n → drop n l ≡ []
-none-above zero [] h = refl
-none-above zero (x ∷ l) h = absurd (omega (arith, h))
-none-above (suc n) [] h = refl
-none-above (suc n) (x ∷ l) h = none-above n l (omega (arith, h))
-
 pub length-spliced : (n : ℕ) (own l : List Entry) → n ≤ length own → length (take n own ++ drop n l) ≡ n + (length l - n)
 length-spliced n own l h =
     let both = length-append (take n own) (drop n l) in
@@ -54,7 +48,7 @@ place_above zero i own l high low = refl
 place_above (suc n) i [] l high low = absurd (omega (arith, low))
 place_above (suc n) zero (y ∷ own) l high low = absurd (omega (arith, high))
 place_above (suc n) (suc i) (y ∷ own) [] high low =
-    ap (λ (t : List Entry). slice_get (take n own ++ t) i) (sym (none-above n [] (omega arith)))
+    ap (λ (t : List Entry). slice_get (take n own ++ t) i) (sym (drop_all n [] (omega arith)))
     ∙ place_above n i own [] (omega (arith, high)) (omega (arith, low))
 place_above (suc n) (suc i) (y ∷ own) (x ∷ l) high low = place_above n i own l (omega (arith, high)) (omega (arith, low))
 

@@ -4,7 +4,7 @@ use Rattle.std.proofs.Common.{◌∙◌, arith, length, List, [], ◌∷◌, ◌
 use Rattle.std.proofs.Common.{decimal, codes, nat_le}
 use Rattle.std.specs.Prelude.{Ok}
 use Rattle.std.specs.List.{flat_map, list_all}
-use Rattle.std.proofs.lemmas.Bool.{ne_eqb, le-leb, le-ltb, lt-leb, leb-true, and_parts}
+use Rattle.std.proofs.lemmas.Bool.{ne_eqb, le-leb, le-ltb, lt-leb, leb-true, and_parts, and_from}
 use Rattle.std.proofs.lemmas.List.Folds.{list_all-append}
 use Rattle.hex.specs.Hex.{IsBytes}
 use Rattle.nop_types.specs.Configuration.{Configuration}
@@ -18,7 +18,7 @@ use Rattle.schedule_text.specs.declared.event.Event.TheVariants as events
 use Rattle.schedule_text.specs.EventText.{HasWord, HasLine, tick_text, event_text, IsEventOf, Means}
 use Rattle.line_fields.specs.Fields.{IsActorOf}
 use Rattle.schedule_text.specs.EventText.{IsTyped, IsTypedKey, named_controller, event_word, event_fields}
-use Rattle.line_fields.proofs.FieldTexts.{is_mark, and_true, decimal_marked, number_again, Small, actor_again, small_counts}
+use Rattle.line_fields.proofs.FieldTexts.{is_mark, decimal_marked, number_again, Small, actor_again, small_counts}
 use Rattle.line_fields.proofs.FieldTexts.{bytes_again, key_again, no_dash, hex_marked, hex_within, AllMarked, line_fields, decimal_short}
 use Rattle.line_fields.proofs.FieldTexts.{actor_marked, actor_short}
 use Rattle.transcript_text.specs.LineText.{after_space, line_of}
@@ -40,16 +40,16 @@ tick_again _ h = refl
 mark_is_plain : (b : ℕ) → is_mark b ≡ true → is_plain b ≡ true
 mark_is_plain b e =
     let parts = and_parts (nat_le 33 b) (nat_le b 126) e in
-    and_true (nat_le 32 b) (nat_le b 126) (le-leb 32 b (let low = leb-true 33 b parts.0 in omega arith)) parts.1
+    and_from (nat_le 32 b) (nat_le b 126) (le-leb 32 b (let low = leb-true 33 b parts.0 in omega arith)) parts.1
 
 marked_is_plain : (xs : List ℕ) → list_all is_mark xs ≡ true → list_all is_plain xs ≡ true
 marked_is_plain [] e = refl
 marked_is_plain (b ∷ bs) e =
     let parts = and_parts (is_mark b) (list_all is_mark bs) e in
-    and_true (is_plain b) (list_all is_plain bs) (mark_is_plain b parts.0) (marked_is_plain bs parts.1)
+    and_from (is_plain b) (list_all is_plain bs) (mark_is_plain b parts.0) (marked_is_plain bs parts.1)
 
 both_plain : (xs ys : List ℕ) → list_all is_plain xs ≡ true → list_all is_plain ys ≡ true → list_all is_plain (xs ++ ys) ≡ true
-both_plain xs ys e f = list_all-append is_plain xs ys ∙ and_true (list_all is_plain xs) (list_all is_plain ys) e f
+both_plain xs ys e f = list_all-append is_plain xs ys ∙ and_from (list_all is_plain xs) (list_all is_plain ys) e f
 
 spaced_plain : (xs : List (List ℕ)) → AllMarked xs → list_all is_plain (flat_map after_space xs) ≡ true
 spaced_plain [] h = refl

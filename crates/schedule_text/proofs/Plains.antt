@@ -5,7 +5,7 @@ use Rattle.std.specs.Prelude.{codes, nat_le, nat_lt, nat_eq, ◌==◌, ◌&&◌,
 use Rattle.std.specs.Prelude.{IfSome, not, ⊤}
 use Rattle.std.specs.Cmp.Lexicographic.{pointwise}
 use Rattle.std.specs.List.{list_all}
-use Rattle.std.proofs.lemmas.Bool.{leb-true, le-leb, eqb-true}
+use Rattle.std.proofs.lemmas.Bool.{leb-true, le-leb, eqb-true, and_parts}
 use Rattle.std.proofs.lemmas.List.{take-append-drop}
 use Rattle.std.proofs.lemmas.List.Folds.{list_all-append}
 use Rattle.std.proofs.lemmas.List.Sums.{list_all-from_AllPass}
@@ -17,6 +17,7 @@ use Rattle.nop_types.specs.declared.input.Tick.{Tick}
 use Rattle.nop_types.specs.declared.input.Tick.TheVariants.{Suspect, Watch, Resend, Sync, Retry, Probe}
 use Rattle.nop_types.specs.declared.output.Actor.{Actor}
 use Rattle.nop_types.specs.declared.output.Actor.TheVariants.{Replica, Sequencer, Client, Controller, Observer}
+use Rattle.lemmas.proofs.Bytes.{pointwise-true}
 use Rattle.line_fields.specs.Fields.{fields, fields_on, is_text, digit_on, number_on, number_of, below, number_below, numbered}
 use Rattle.line_fields.specs.Fields.{lettered, by_letter, from_one, by_number, actor_of, client_number, sequencer_number}
 use Rattle.line_fields.specs.Fields.{controller_number, observer_number, as_option, bytes_of, key_of}
@@ -49,14 +50,8 @@ same_first : (x y : ℕ) (xs ys : List ℕ) (b : Bool) → eqb x y ≡ b → (po
 same_first x y xs ys true is others e = rw (eqb-true x y is, others e) refl
 same_first x y xs ys false is others e = absurd cc
 
-text_is : (field text : List ℕ) → pointwise nat_eq field text ≡ true → field ≡ text
-text_is [] [] e = refl
-text_is [] (y ∷ ys) e = absurd cc
-text_is (x ∷ xs) [] e = absurd cc
-text_is (x ∷ xs) (y ∷ ys) e = same_first x y xs ys (eqb x y) refl (text_is xs ys) e
-
 word_plain : (text field : List ℕ) → IsPlain text → is_text text field ≡ true → IsPlain field
-word_plain text field p e = rw (text_is field text e) p
+word_plain text field p e = rw (pointwise-true field text e) p
 
 -- ---- numbers
 
@@ -154,17 +149,12 @@ actor_plain c field a h = by_word (is_text (codes "ctl") field) (is_text (codes 
 
 -- ---- bytes in hexadecimal
 
-both_hold : (a b : Bool) → (a && b) ≡ true → (a ≡ true) × (b ≡ true)
-both_hold true true e = (refl, refl)
-both_hold true false e = absurd cc
-both_hold false b e = absurd cc
-
 hex_plain : (d : ℕ) → is_hex_digit d ≡ true → is_plain d ≡ true
 hex_plain d h = by_tests (nat_le 65 d && nat_le d 70) (nat_le 97 d && nat_le d 102) (nat_le 48 d && nat_le d 57) refl refl refl h
   where
     within : (low high : ℕ) → 32 ≤ low → high ≤ 126 → (nat_le low d && nat_le d high) ≡ true → is_plain d ≡ true
     within low high from to e =
-        let p = both_hold (nat_le low d) (nat_le d high) e in
+        let p = and_parts (nat_le low d) (nat_le d high) e in
         between d low high from to (leb-true low d p.0) (leb-true d high p.1)
 
     by_tests : (a b e : Bool) → (nat_le 65 d && nat_le d 70) ≡ a → (nat_le 97 d && nat_le d 102) ≡ b

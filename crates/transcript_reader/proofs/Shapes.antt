@@ -1,10 +1,10 @@
 -- Rows that are each in their place are the body of a transcript so far.
 use Rattle.std.proofs.Common.{◌≡◌, ◌∙◌, ℕ, ◌+◌, Bool, true, false, List, [], ◌∷◌, ◌++◌, length, map, Option, Some, None, refl, sym, ap, subst}
 use Rattle.std.proofs.Common.{append_assoc, append-nil, arith, length-append}
-use Rattle.std.specs.Prelude.{◌&&◌, ◌==◌, if◌then◌else◌}
+use Rattle.std.specs.Prelude.{◌==◌, if◌then◌else◌}
 use Rattle.std.specs.List.{flat_map, list_all}
 use Rattle.std.proofs.lemmas.List.Folds.{list_all-append}
-use Rattle.std.proofs.lemmas.Bool.{eqb-true}
+use Rattle.std.proofs.lemmas.Bool.{eqb-true, and_from}
 use Rattle.nop_types.specs.Lines.{Line}
 use Rattle.nop_types.specs.declared.request.Request.{Request}
 use Rattle.transcript_reader.specs.Steps.{SoFar, nothing_yet, event_step, state_step, observer_step, member_step}
@@ -44,16 +44,11 @@ pub record Shape (rows : List Row) (s : SoFar) : Type 0 where
 
 -- ---- lists
 
-both_true : (a b : Bool) → a ≡ true → b ≡ true → (a && b) ≡ true
-both_true true true e f = refl
-both_true true false e f = f
-both_true false b e f = e
-
 all_with : (test : Row → Bool) (rows : List Row) (row : Row) → list_all test rows ≡ true → test row ≡ true
     → list_all test (rows ++ row ∷ []) ≡ true
 all_with test rows row e f =
     list_all-append test rows (row ∷ [])
-    ∙ both_true (list_all test rows) (list_all test (row ∷ [])) e (both_true (test row) true f refl)
+    ∙ and_from (list_all test rows) (list_all test (row ∷ [])) e (and_from (test row) true f refl)
 
 said_with : (rows : List Row) (row : Row) → flat_map said_by (rows ++ row ∷ []) ≡ flat_map said_by rows ++ said_by row
 said_with [] row = append-nil (said_by row)

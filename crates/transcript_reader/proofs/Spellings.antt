@@ -3,7 +3,7 @@ use Rattle.std.proofs.Common.{◌≡◌, ◌∙◌, ℕ, ◌+◌, ◌≤◌, Boo
 use Rattle.std.proofs.Common.{refl, sym, ap, subst, append_assoc, append-nil, arith, length-append, inl, inr}
 use Rattle.std.specs.List.{flat_map, list_all}
 use Rattle.std.proofs.lemmas.Bool.{leb-true}
-use Rattle.std.proofs.lemmas.List.{length-map}
+use Rattle.std.proofs.lemmas.List.{length-map, map-append}
 use Rattle.std.proofs.lemmas.List.Sums.{AllPass-from_list_all}
 use Rattle.line_reader.proofs.Cuts.{cut_end}
 use Rattle.line_reader.specs.Cutting.{Cut, with_end, lines_on, lines_of}
@@ -171,10 +171,6 @@ some_runs s n xs row ys ran all stuck =
     ∙ ap (λ (o : Option SoFar). run_on o (length xs + 2 + 1) ys) (sym stuck)
     ∙ sym (then_run xs (row ∷ ys) (Some nothing_yet) (Some s) 2 (length xs + 2) refl ran) ∙ all in cc)
 
-map_append : {A B : Type 0} (f : A → B) (xs ys : List A) → map f (xs ++ ys) ≡ map f xs ++ map f ys
-map_append {B = B} f [] ys = refl
-map_append {B = B} f (x ∷ xs) ys = ap (λ (zs : List B). f x ∷ zs) (map_append f xs ys)
-
 module _ (t : Transcript) (bytes : List ℕ) (spells : Spells t bytes) where
   -- a line that stands there is whole, and the row that comes next
   module _ (texts : List (List ℕ)) (text : List ℕ) (behind : List (List ℕ)) (are : texts_of t ≡ texts ++ text ∷ behind) where
@@ -185,7 +181,7 @@ module _ (t : Transcript) (bytes : List ℕ) (spells : Spells t bytes) where
         let short = (line_there texts text behind (subst AllLines are (all_are_lines t spells.fits))).short in omega (arith, long)
 
     lines_there : transcript_lines t ≡ map whole texts ++ whole text ∷ map whole behind
-    lines_there = whole_lines t spells.fits ∙ ap (map whole) are ∙ map_append whole texts (text ∷ behind)
+    lines_there = whole_lines t spells.fits ∙ ap (map whole) are ∙ map-append whole texts (text ∷ behind)
 
     misplaced_no_row : (s : SoFar) (header : Header) (xs : List Row) → Admits texts header xs s → NextRow (body t) xs text
         → IsMisplaced (length texts + 1) (After s) text → ⊥

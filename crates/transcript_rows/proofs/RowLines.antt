@@ -3,9 +3,9 @@ use Rattle.std.proofs.Common.{◌≡◌, ◌∙◌, ℕ, ◌+◌, ◌<◌, ◌�
 use Rattle.std.proofs.Common.{nat_lt, nat_le, ◌^◌}
 use Rattle.std.specs.Prelude.{◌==◌, if◌then◌else◌}
 use Rattle.std.specs.List.{flat_map, list_all}
-use Rattle.std.proofs.lemmas.Bool.{le-leb, leb-true, and_parts}
+use Rattle.std.proofs.lemmas.Bool.{le-leb, leb-true, and_parts, and_from}
 use Rattle.std.proofs.lemmas.List.Folds.{list_all-append}
-use Rattle.line_fields.proofs.FieldTexts.{is_mark, and_true, AllMarked, actor_short, decimal_short, hex_within, small_counts}
+use Rattle.line_fields.proofs.FieldTexts.{is_mark, AllMarked, actor_short, decimal_short, hex_within, small_counts}
 use Rattle.nop_types.specs.Headers.{is_header}
 use Rattle.nop_types.specs.declared.header.Header.{Header}
 use Rattle.nop_types.specs.declared.limits.TheConstants.{MAX_LINE_BYTES, MAX_CLIENTS, MAX_KEY_BYTES, MAX_OP_BYTES, MAX_RESULT_BYTES}
@@ -42,10 +42,10 @@ marks_inside : (xs : List ℕ) → list_all is_mark xs ≡ true → list_all is_
 marks_inside [] e = refl
 marks_inside (b ∷ bs) e =
     let p = and_parts (is_mark b) (list_all is_mark bs) e in
-    and_true (is_inside b) (list_all is_inside bs) (mark_inside b p.0) (marks_inside bs p.1)
+    and_from (is_inside b) (list_all is_inside bs) (mark_inside b p.0) (marks_inside bs p.1)
 
 both_inside : (xs ys : List ℕ) → list_all is_inside xs ≡ true → list_all is_inside ys ≡ true → list_all is_inside (xs ++ ys) ≡ true
-both_inside xs ys e f = list_all-append is_inside xs ys ∙ and_true (list_all is_inside xs) (list_all is_inside ys) e f
+both_inside xs ys e f = list_all-append is_inside xs ys ∙ and_from (list_all is_inside xs) (list_all is_inside ys) e f
 
 spaced_inside : (xs : List (List ℕ)) → AllMarked xs → list_all is_inside (flat_map after_space xs) ≡ true
 spaced_inside [] h = refl

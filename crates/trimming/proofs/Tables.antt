@@ -1,5 +1,5 @@
 -- A table of clients in their ranges, each with what may be saved of it, stays so.
-use Rattle.std.proofs.Common.{◌≡◌, ℕ, suc, ◌+◌, ◌^◌, ◌≤◌, ◌<◌, Bool, true, false, cond, List, [], ◌∷◌, length, Option}
+use Rattle.std.proofs.Common.{◌≡◌, ℕ, ◌+◌, ◌^◌, ◌≤◌, ◌<◌, Bool, true, false, cond, List, [], ◌∷◌, length, Option}
 use Rattle.std.proofs.Common.{Some, None, is_some, refl, sym, subst, ◌∙◌, arith}
 use Rattle.std.proofs.Math.Dec.{T}
 use Rattle.std.specs.Prelude.{◌&&◌, ◌||◌, nat_le, nat_lt, IfSome, IsTrue}
@@ -16,6 +16,7 @@ use Rattle.nop_types.specs.declared.checkpoint.Answered.{Answered}
 use Rattle.nop_types.specs.declared.limits.TheConstants.{MAX_RESULT_BYTES, MAX_SERVED, WINDOW}
 use Rattle.nop_types.specs.Checkpoints.{is_kept, are_answers, is_account, are_saved, IsSavedAccount}
 use Rattle.nop_types.specs.Tables.{Account, Table, kept_for, result_kept, is_new_to, serves, account_with, with_result}
+use Rattle.execution_laws.proofs.Saving.{len-from_entries}
 use Rattle.lemmas.proofs.Kept.{answer_is, account_is, result_is_short}
 use Rattle.trimming.proofs.Worked.{entries-empty, entries-insert}
 
@@ -65,18 +66,6 @@ empty_fits = record {
   each = rw entries-empty tt;
 }
 
-loaded_len : (es : List (ℕ × Account)) → finite.len (finite.from_entries {R = nat_cmp} es) ≤ length es
-loaded_len [] =
-    let none : finite.len (finite.empty {X = Account} {R = nat_cmp}) ≡ 0 = finite.len-empty nat_cmp Account in omega (arith, none)
-loaded_len (e ∷ es) =
-    let t : Table = finite.from_entries es in
-    one_more (is_some (finite.get t e.0)) (finite.len t) (finite.len (finite.insert t e.0 e.1)) (length es)
-    (finite.len-insert nat_cmp_total t e.0 e.1) (loaded_len es)
-  where
-    one_more : (b : Bool) (old new n : ℕ) → new ≡ cond b old (old + 1) → old ≤ n → new ≤ suc n
-    one_more true old new n e h = omega (arith, e, h)
-    one_more false old new n e h = omega (arith, e, h)
-
 loaded_each : (es : List (ℕ × Account)) → AllByRecursion IsKept es
     → AllByRecursion IsKept (finite.entries (finite.from_entries {R = nat_cmp} es))
 loaded_each [] h = rw entries-empty tt
@@ -95,7 +84,7 @@ saved_are_kept least (e ∷ es) h all =
 pub loaded_fits : (es : List (ℕ × Account)) → IsTrue (nat_le (length es) MAX_SERVED) → IsTrue (are_saved 0 es)
     → AllByRecursion IsSavedAccount es → TableFits (finite.from_entries es)
 loaded_fits es few saved all = record {
-  few = omega (arith, leb-true (length es) MAX_SERVED few, loaded_len es);
+  few = omega (arith, leb-true (length es) MAX_SERVED few, len-from_entries es);
   each = loaded_each es (saved_are_kept 0 es saved all);
 }
 

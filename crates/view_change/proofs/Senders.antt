@@ -8,6 +8,7 @@ use Rattle.nop_types.specs.declared.peer.Change.{Change}
 use Rattle.nop_types.specs.Lists.{Has}
 use Rattle.nop_types.specs.PlainChanges as plains
 use Rattle.nop_types.specs.PlainChanges.{plain, sender_of}
+use Rattle.lemmas.proofs.Members.{Has-push}
 use Rattle.log_merge.specs.Merged.{HasDistinctSenders}
 use Rattle.view_change.specs.Gathering.{IsOfSender, has_sender, with_change, change_sender}
 
@@ -28,10 +29,6 @@ within_push : {C : Type 0} (cs : List C) (c d : C) (i : ℕ) → slice_get cs i 
 within_push [] c d i e = absurd (none-some d e)
 within_push (x ∷ cs) c d zero e = e
 within_push (x ∷ cs) c d (suc i) e = within_push cs c d i e
-
-end_of_push : {C : Type 0} (cs : List C) (c : C) → Has (cs ++ c ∷ []) c
-end_of_push [] c = (zero, refl)
-end_of_push (x ∷ cs) c = let rest : Has (cs ++ c ∷ []) c = end_of_push cs c in (suc rest.0, rest.1)
 
 -- ---- by the sender of a change
 
@@ -91,7 +88,7 @@ module _ {C : Type 0} (sent_by : C → ℕ) where
 
       back : Has cs d ⊎ ((IsOfSender sent_by cs (sent_by c) → ⊥) × (d ≡ c)) → Has (cs ++ c ∷ []) d
       back (inl has) = (has.0, within_push cs c d has.0 has.1)
-      back (inr new) = subst (λ x. Has (cs ++ c ∷ []) x) (sym new.1) (end_of_push cs c)
+      back (inr new) = subst (λ x. Has (cs ++ c ∷ []) x) (sym new.1) (Has-push cs c)
 
   pub members : (cs : List C) (c d : C)
       → (Has (with_change sent_by cs c) d ↔ (Has cs d ⊎ ((IsOfSender sent_by cs (sent_by c) → ⊥) × (d ≡ c))))

@@ -1,6 +1,6 @@
 use Rattle.std.proofs.Common.{◌<◌, length, arith}
+use Rattle.lemmas.proofs.Mapped.{one_mapped}
 use Rattle.admission.specs.Rounds.{unanswered}
-use Rattle.admission.proofs.Mapped.{one_mapped}
 use Rattle.admission.proofs.others.forget.Goals as goal
 
 pub loop-other-preserved : goal.loop-other-preserved

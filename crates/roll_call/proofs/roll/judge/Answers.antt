@@ -1,6 +1,6 @@
 use Rattle.std.proofs.Common.{◌<◌, length, arith}
+use Rattle.lemmas.proofs.Mapped.{one_mapped}
 use Rattle.roll_call.specs.Nodes.{judged}
-use Rattle.roll_call.proofs.Mapped.{one_mapped}
 use Rattle.roll_call.proofs.roll.judge.Goals as goal
 
 pub loop-asked-preserved : goal.loop-asked-preserved
