@@ -25,9 +25,7 @@ mod send;
 mod write;
 
 pub use bad::Bad;
-pub use fields::{
-    split_bytes, split_u8, split_u16, split_u32, split_u64, split_view,
-};
+pub use fields::{split_bytes, split_u8, split_u16, split_u32, split_u64, split_view};
 pub use laws::{
     kinds_are_told, parts_are_told, read_is_spelled, spelled_is_read, spelling_is_injective,
 };

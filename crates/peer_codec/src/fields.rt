@@ -10,8 +10,8 @@ ghost use Rattle.peer_codec.specs.Fields.{request_at, host_at, served_at, client
 
 use crate::BadPeer;
 use nop_types::{
-    Bytes, MAX_HOST_BYTES, MAX_LENGTH, MAX_OP_BYTES, MAX_REPLICAS, MAX_SERVED,
-    MAX_SLOTS, NUMBER_END, Op, Request, View, WINDOW,
+    Bytes, MAX_HOST_BYTES, MAX_LENGTH, MAX_OP_BYTES, MAX_REPLICAS, MAX_SERVED, MAX_SLOTS,
+    NUMBER_END, Op, Request, View, WINDOW,
 };
 use oum_codec::{split_bytes, split_u8, split_u16, split_u32, split_u64, split_view};
 use std::alloc::Global;

@@ -1,7 +1,7 @@
 -- What a sequencer, a client or a controller sends is neither a fragment nor an answer, and its lines are those of which the whole
 -- world speaks.
 use Rattle.std.proofs.Common.{◌≡◌, ℕ, ◌+◌, Bool, true, false, cond, List, [], ◌∷◌, ◌++◌, Option, Some, None, map, refl, ap, subst}
-use Rattle.std.specs.Prelude.{Result, Ok, Err, not, filter, slice_get, ⊤, ◌==◌, ◌||◌}
+use Rattle.std.specs.Prelude.{Result, Ok, not, filter, slice_get, ⊤, ◌==◌, ◌||◌}
 use Rattle.nop_types.specs.Given.{Given, Packet, Ticked}
 use Rattle.nop_types.specs.Lines.{Line}
 use Rattle.nop_types.specs.Lines as lines
