@@ -1,9 +1,9 @@
 //! Datagrams: bytes and what they spell, which `peers` tries.
 ghost use Rattle.nop_types.specs.Ranges.{DatagramFits};
 
-use crate::rows::{check, text};
+use crate::rows::{bytes_of, check, check_text, text};
 use nop_types::Datagram;
-use oum_codec::{decode, encode};
+use oum_codec::{decode, encode, read_request, read_u16, read_u32, read_u64, read_view};
 use std::alloc::Global;
 use std::process::Abort;
 
@@ -119,4 +119,23 @@ pub fn shown(rt: &impl Abort, alloc: Global, bytes: &[u8]) -> String {
             text(rt, alloc, &datagram)
         }
     }
+}
+
+const REQUEST: &str = "4e4f0301 00000002 0000000000000001 0002 6b30";
+
+#[test]
+fn fields(rt: HostRuntime) {
+    let alloc = rt.alloc();
+    let bytes = bytes_of(&rt, alloc, REQUEST);
+    let are_numbers = read_u16(&bytes, 16) == Some(2)
+        && read_u32(&bytes, 0) == Some(0x4e4f_0301)
+        && read_u64(&bytes, 8) == Some(1)
+        && read_u64(&bytes, 13) == None;
+    check(&rt, are_numbers, "numbers");
+    let view = "Some(View { leader: 1313800961, session: 8589934592 })";
+    check_text(&rt, &text(&rt, alloc, &read_view(&bytes, 0)), view);
+    check_text(&rt, &text(&rt, alloc, &read_view(&bytes, 9)), "None");
+    let request = read_request(alloc, &bytes, 4).expect(&rt, "memory");
+    let expected = "Some(Request { client: 2, id: 1, op: Op { bytes: [107, 48] } })";
+    check_text(&rt, &text(&rt, alloc, &request), expected);
 }

@@ -43,7 +43,7 @@ use Rattle.oum_codec.proofs.Bodies.{body_ok, body_again}
 
 -- ---- a request
 
-request_whole : (f : RequestFields) (op : List ℕ) → f.op_len ≡ length op
+pub request_whole : (f : RequestFields) (op : List ℕ) → f.op_len ≡ length op
     → request_fields_bytes f ++ op ≡ request_bytes (record { client = f.client; id = f.id; op = op })
 request_whole f op len = append_assoc (be_bytes w32 f.client ++ be_bytes w64 f.id) (be_bytes w16 f.op_len) op
     ∙ ap (λ (n : ℕ). be_bytes w32 f.client ++ be_bytes w64 f.id ++ (be_bytes w16 n ++ op)) len

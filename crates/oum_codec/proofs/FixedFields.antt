@@ -10,11 +10,12 @@ use Rattle.oum_codec.specs.declared.fixed.FragmentFields.{FragmentFields}
 use Rattle.oum_codec.specs.declared.fixed.AnswerFields.{AnswerFields}
 use Rattle.oum_codec.specs.Numbers.{IsBytes, be_bytes, number_at, byte_at, view_at}
 use Rattle.oum_codec.specs.Spelling.{view_bytes, install_bytes, ping_bytes}
+use Rattle.oum_codec.specs.Places.{ViewWidths}
 use Rattle.oum_codec.specs.Fixed.{request_fields_at, stamped_fields_at, reply_fields_at, install_fields_at, ping_fields_at}
 use Rattle.oum_codec.specs.Fixed.{fragment_fields_at, answer_fields_at}
 use Rattle.oum_codec.proofs.Steps.{bind_some, some_is}
 use Rattle.oum_codec.proofs.Numbers.{Takes, Takes-then, u16_takes, u32_takes, u64_takes, u16_again, u32_again, u64_again, byte_takes}
-use Rattle.oum_codec.proofs.Numbers.{ViewWidths, view_takes, view_again}
+use Rattle.oum_codec.proofs.Numbers.{view_takes, view_again}
 
 -- ---- a request
 

@@ -5,4 +5,5 @@ pub mod FixedFields
 pub mod KindBytes
 pub mod Numbers
 pub mod PartBytes
+pub mod Places
 pub mod Steps

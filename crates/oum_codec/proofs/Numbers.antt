@@ -8,6 +8,7 @@ use Rattle.std.proofs.lemmas.Nat.{be_bytes_2, be_bytes_4, be_bytes_8, from_be_by
 use Rattle.std.proofs.lemmas.Nat.{from_be_bytes-to_be_bytes_8}
 use Rattle.nop_types.specs.declared.view.View.{View}
 use Rattle.oum_codec.specs.Numbers.{IsBytes, be_bytes, number_at, byte_at, bytes_at, view_at}
+use Rattle.oum_codec.specs.Places.{ViewWidths}
 use Rattle.oum_codec.specs.Spelling.{view_bytes}
 use Rattle.oum_codec.proofs.Steps.{bind_some, some_is, guard_some}
 
@@ -127,11 +128,6 @@ pub bytes_again : (n : ℕ) (prefix rest : List ℕ) → length prefix ≡ n →
 bytes_again n prefix rest len =
     let long : ltb (length (prefix ++ rest)) n ≡ false = le-ltb _ _ (omega (arith, length-append prefix rest)) in
     rw (long, take_at prefix rest n len, drop_at prefix rest n len) refl
-
--- a view's parts fit their widths; a view in range has a session from 1 besides
-pub record ViewWidths (v : View) : Type 0 where
-  pub leader : v.leader < 2 ^ 32
-  pub session : v.session < 2 ^ 64
 
 pub view_takes : (bytes : List ℕ) (x : View × List ℕ) → IsBytes bytes → view_at bytes ≡ Some x
     → Takes bytes (view_bytes x.0) x.1 × ViewWidths x.0

@@ -1,5 +1,6 @@
 pub mod Fixed
 pub mod Kinds
 pub mod Numbers
+pub mod Places
 pub mod Reading
 pub mod Spelling
