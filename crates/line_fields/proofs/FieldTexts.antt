@@ -5,7 +5,7 @@ use Rattle.std.proofs.Common.{decimal, codes, take, nat_lt, nat_le, inl, inr}
 use Rattle.std.specs.Prelude.{if◌then◌else◌, ◌&&◌, ◌==◌, Ok, nat_eq, IsTrue}
 use Rattle.std.specs.Cmp.Lexicographic.{pointwise}
 use Rattle.std.specs.List.{flat_map, list_all}
-use Rattle.std.proofs.lemmas.Bool.{le-leb, lt-ltb, leb-true, ne_eqb, and_parts, and_left, and_right, cases_lt, and_from}
+use Rattle.std.proofs.lemmas.Bool.{le-leb, lt-ltb, leb-true, ne_eqb, and_parts, and_left, and_right, cases_lt}
 use Rattle.std.proofs.lemmas.Fmt.{decimal_by_steps, decimal_digit, first_decimal, length-decimal-le, decimal_nonempty}
 use Rattle.std.proofs.lemmas.List.Folds.{list_all-append}
 use Rattle.std.proofs.lemmas.List.Sums.{AllPass-from_list_all}
@@ -27,14 +27,19 @@ use Rattle.transcript_text.specs.Transcript.{actor_text, hex_text}
 abbrev pub is_mark : ℕ → Bool
 is_mark b = nat_le 33 b && nat_le b 126
 
+pub and_true : (a b : Bool) → a ≡ true → b ≡ true → (a && b) ≡ true
+and_true true true e f = refl
+and_true true false e f = f
+and_true false b e f = e
+
 mark : (b : ℕ) → 33 ≤ b → b ≤ 126 → is_mark b ≡ true
-mark b low high = and_from (nat_le 33 b) (nat_le b 126) (le-leb 33 b low) (le-leb b 126 high)
+mark b low high = and_true (nat_le 33 b) (nat_le b 126) (le-leb 33 b low) (le-leb b 126 high)
 
 mark_low : (b : ℕ) → is_mark b ≡ true → 33 ≤ b
 mark_low b e = leb-true 33 b (and_parts (nat_le 33 b) (nat_le b 126) e).0
 
 both_marked : (xs ys : List ℕ) → list_all is_mark xs ≡ true → list_all is_mark ys ≡ true → list_all is_mark (xs ++ ys) ≡ true
-both_marked xs ys e f = list_all-append is_mark xs ys ∙ and_from (list_all is_mark xs) (list_all is_mark ys) e f
+both_marked xs ys e f = list_all-append is_mark xs ys ∙ and_true (list_all is_mark xs) (list_all is_mark ys) e f
 
 -- ---- decimal numbers
 
@@ -53,7 +58,7 @@ pub decimal_marked : (n : ℕ) → n < 2 ^ 64 → list_all is_mark (decimal n) �
 decimal_marked = decimal_by_steps (λ m ds. list_all is_mark ds ≡ true) one more
   where
     one : (n : ℕ) → n < 10 → list_all is_mark ((48 + n) ∷ []) ≡ true
-    one n small = and_from (is_mark (48 + n)) true (mark (48 + n) (omega arith) (omega arith)) refl
+    one n small = and_true (is_mark (48 + n)) true (mark (48 + n) (omega arith) (omega arith)) refl
 
     more : (n : ℕ) (ds : List ℕ) → 10 ≤ n → list_all is_mark ds ≡ true → list_all is_mark (ds ++ (48 + n % 10) ∷ []) ≡ true
     more n ds low e = both_marked ds ((48 + n % 10) ∷ []) e (one (n % 10) (omega arith))
@@ -224,8 +229,8 @@ unfolding encode_with
 encoded_marked [] h = refl
 encoded_marked (b ∷ bs) h =
     let fits : b < 256 = h 0 in
-    and_from (is_mark (slice_index lower_digits (b / 16))) _ (digit_marked (b / 16) (omega arith))
-    (and_from (is_mark (slice_index lower_digits (b % 16))) _ (digit_marked (b % 16) (omega arith)) (encoded_marked bs (λ k. h (suc k))))
+    and_true (is_mark (slice_index lower_digits (b / 16))) _ (digit_marked (b / 16) (omega arith))
+    (and_true (is_mark (slice_index lower_digits (b % 16))) _ (digit_marked (b % 16) (omega arith)) (encoded_marked bs (λ k. h (suc k))))
 
 pub hex_marked : (bytes : List ℕ) → IsBytes bytes → list_all is_mark (hex_text bytes) ≡ true
 hex_marked [] h = refl

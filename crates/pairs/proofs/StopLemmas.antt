@@ -1,6 +1,6 @@
 -- Lines that have no pair.
-use Rattle.std.proofs.Common.{◌≡◌, ℕ, ◌<◌, List, Option, Some, None, sym, ap, subst, ◌∙◌, arith, inl, inr}
-use Rattle.std.specs.Prelude.{slice_get}
+use Rattle.std.proofs.Common.{◌≡◌, ℕ, ◌<◌, List, Option, Some, None, refl, sym, ap, subst, ◌∙◌, arith, inl, inr}
+use Rattle.std.specs.Prelude.{slice_get, is_some, true, false}
 use Rattle.execution_laws.proofs.Ids.{IsOf-refl, IsOf-both}
 use Rattle.fronts.specs.Fronts.{HasOrder}
 use Rattle.lemmas.proofs.Options.{same_Some-at}
@@ -110,3 +110,11 @@ no_order m lines k b h = elim b.lacks [
 ]
 
 -- ---- what a look-up says
+
+pub some_of : {A : Type 0} (o : Option A) → is_some o ≡ true → (x : A) × (o ≡ Some x)
+some_of None h = absurd cc
+some_of (Some x) h = (x, refl)
+
+pub none_of : {A : Type 0} (o : Option A) → is_some o ≡ false → o ≡ None
+none_of None h = refl
+none_of (Some x) h = absurd cc

@@ -3,10 +3,10 @@ use Rattle.std.proofs.Common.{◌≡◌, ◌∙◌, ℕ, ◌≤◌, true, List, 
 use Rattle.std.proofs.Common.{Ok, Err, refl, sym, ap, arith, length-append, inl, inr, if◌then◌else◌}
 use Rattle.std.specs.Prelude.{Result, nat_le}
 use Rattle.std.specs.List.{flat_map, list_all}
-use Rattle.std.proofs.lemmas.Bool.{le-leb, le-ltb, leb-true, and_parts, and_from}
+use Rattle.std.proofs.lemmas.Bool.{le-leb, le-ltb, leb-true, and_parts}
 use Rattle.std.proofs.lemmas.Fmt.{decimal_digit}
 use Rattle.std.proofs.lemmas.List.Folds.{list_all-append}
-use Rattle.line_fields.proofs.FieldTexts.{is_mark, AllMarked, line_fields, small_again, small_counts}
+use Rattle.line_fields.proofs.FieldTexts.{is_mark, and_true, AllMarked, line_fields, small_again, small_counts}
 use Rattle.line_fields.specs.Fields.{fields}
 use Rattle.nop_types.specs.Configuration.{Configuration, is_configuration}
 use Rattle.nop_types.specs.Headers.{is_header}
@@ -42,11 +42,11 @@ marked_plain [] e = refl
 marked_plain (b ∷ bs) e =
     let parts = and_parts (is_mark b) (list_all is_mark bs) e in
     let mark = and_parts (nat_le 33 b) (nat_le b 126) parts.0 in
-    and_from (is_plain b) (list_all is_plain bs)
-    (and_from (nat_le 32 b) (nat_le b 126) (le-leb 32 b (let low = leb-true 33 b mark.0 in omega arith)) mark.1) (marked_plain bs parts.1)
+    and_true (is_plain b) (list_all is_plain bs)
+    (and_true (nat_le 32 b) (nat_le b 126) (le-leb 32 b (let low = leb-true 33 b mark.0 in omega arith)) mark.1) (marked_plain bs parts.1)
 
 both_plain : (xs ys : List ℕ) → IsPlain xs → IsPlain ys → IsPlain (xs ++ ys)
-both_plain xs ys e f = list_all-append is_plain xs ys ∙ and_from (list_all is_plain xs) (list_all is_plain ys) e f
+both_plain xs ys e f = list_all-append is_plain xs ys ∙ and_true (list_all is_plain xs) (list_all is_plain ys) e f
 
 spaced_plain : (xs : List (List ℕ)) → AllMarked xs → IsPlain (flat_map after_space xs)
 spaced_plain [] h = refl

@@ -4,11 +4,11 @@ use Rattle.std.proofs.Common.{arith, length, List, [], ◌∷◌, ◌++◌, get_
 use Rattle.std.specs.Prelude.{option_map, if◌then◌else◌, ◌==◌, nat_eq}
 use Rattle.std.specs.Cmp.Lexicographic.{pointwise}
 use Rattle.std.specs.List.{list_all}
-use Rattle.std.proofs.lemmas.Bool.{le-leb, ne_eqb, and_parts, and_left, cases_lt, and_from}
+use Rattle.std.proofs.lemmas.Bool.{le-leb, ne_eqb, and_parts, and_left, cases_lt}
 use Rattle.std.proofs.lemmas.Fmt.{decimal_by_steps, decimal_digit, first_decimal, decimal_nonempty}
 use Rattle.std.proofs.lemmas.List.Folds.{list_all-append}
 use Rattle.line_fields.specs.Fields.{from_one}
-use Rattle.line_fields.proofs.FieldTexts.{is_mark, decimal_marked, number_again, small_again, StartsWithDigit, starts_with_digit}
+use Rattle.line_fields.proofs.FieldTexts.{is_mark, and_true, decimal_marked, number_again, small_again, StartsWithDigit, starts_with_digit}
 use Rattle.line_fields.proofs.FieldTexts.{decimal_short}
 use Rattle.nop_types.specs.declared.limits.TheConstants.{MAX_CONTROLLERS}
 use Rattle.trace_rows.specs.Reading.{as_number, by_number, is_decimal, is_digit, name_of, number_in, to_of}
@@ -23,18 +23,18 @@ use Rattle.trace_rows.specs.declared.row.To.TheVariants.{Replicas, Sequencers, O
 -- ---- numbers
 
 digit : (b : ℕ) → 48 ≤ b → b ≤ 57 → is_digit b ≡ true
-digit b low high = and_from (nat_le 48 b) (nat_le b 57) (le-leb 48 b low) (le-leb b 57 high)
+digit b low high = and_true (nat_le 48 b) (nat_le b 57) (le-leb 48 b low) (le-leb b 57 high)
 
 decimal_digits : (n : ℕ) → n < 2 ^ 64 → list_all is_digit (decimal n) ≡ true
 decimal_digits = decimal_by_steps (λ m ds. list_all is_digit ds ≡ true) one more
   where
     one : (n : ℕ) → n < 10 → list_all is_digit ((48 + n) ∷ []) ≡ true
-    one n small = and_from (is_digit (48 + n)) true (digit (48 + n) (omega arith) (omega arith)) refl
+    one n small = and_true (is_digit (48 + n)) true (digit (48 + n) (omega arith) (omega arith)) refl
 
     more : (n : ℕ) (ds : List ℕ) → 10 ≤ n → list_all is_digit ds ≡ true → list_all is_digit (ds ++ (48 + n % 10) ∷ []) ≡ true
     more n ds low e =
         list_all-append is_digit ds ((48 + n % 10) ∷ [])
-        ∙ and_from (list_all is_digit ds) (list_all is_digit ((48 + n % 10) ∷ [])) e (one (n % 10) (omega arith))
+        ∙ and_true (list_all is_digit ds) (list_all is_digit ((48 + n % 10) ∷ [])) e (one (n % 10) (omega arith))
 
 -- digits without a leading zero
 decimal_from : (ds : List ℕ) → list_all is_digit ds ≡ true → 0 < length ds → (1 < length ds → get_or ds 0 0 ≡ 48 → ⊥) → is_decimal ds ≡ true

@@ -1,9 +1,8 @@
 use Rattle.std.proofs.Common.{sym, refl, ◌∙◌, add-one, arith}
 use Rattle.std.proofs.lemmas.Option.{slice_get_read}
-use Rattle.lemmas.proofs.Mapped.{slice_get-into_map}
 use Rattle.transcript_reader.specs.Claims.{line_of, lines_of}
 use Rattle.judge.specs.Places.{place_in}
-use Rattle.judge.proofs.LineLemmas.{length-mapped}
+use Rattle.judge.proofs.LineLemmas.{slice_get-map, length-mapped}
 use Rattle.judge.proofs.ReachedLemmas.{reaches_more, first_overtaking, next_in_order, all_in_order}
 use Rattle.judge.proofs.ordered.check_order.Goals as goal
 
@@ -14,7 +13,7 @@ returns-then-overtakes-clause-err c =
     let claim = c.index-claims-k.result in
     let here = slice_get_read claims _ k claim refl c.loop-k-test.true c.index-claims-k.is in
     first_overtaking (place_in c.args.places.now) (lines_of claims) c.args.history.now c.requires.index c.requires.apart k c.loop-k.last
-    c.loop-k.invariant.reaches (line_of claim) (slice_get-into_map line_of claims k claim here) (sym c.overtakes.ensures ∙ c.if-overtakes.true)
+    c.loop-k.invariant.reaches (line_of claim) (slice_get-map line_of claims k claim here) (sym c.overtakes.ensures ∙ c.if-overtakes.true)
     c.loop-k.invariant.ordered
 
 pub loop-k-preserved : goal.loop-k-preserved
@@ -24,7 +23,7 @@ loop-k-preserved c =
     let k = c.loop-k.k in
     let claim = c.index-claims-k.result in
     let here = slice_get_read claims _ k claim refl c.loop-k-test.true c.index-claims-k.is in
-    let line = slice_get-into_map line_of claims k claim here in
+    let line = slice_get-map line_of claims k claim here in
     rw (add-one k) (record {
       reaches = rw (c.reached_by-last.ensures) (reaches_more (place_in c.args.places.now) lines c.args.history.now c.requires.index
           c.requires.apart k c.loop-k.last c.loop-k.invariant.reaches (line_of claim) line);

@@ -2,8 +2,8 @@ use Rattle.std.proofs.Common.{◌≡◌, ℕ, Some, below_more, refl, subst, ari
 use Rattle.std.specs.Prelude.{slice_get}
 use Rattle.std.proofs.lemmas.List.{length-map}
 use Rattle.std.proofs.lemmas.Option.{slice_get_read, slice_get_within}
+use Rattle.judge.proofs.LineLemmas.{slice_get-map}
 use Rattle.lemmas.proofs.Options.{same_Some-at}
-use Rattle.lemmas.proofs.Mapped.{slice_get-into_map}
 use Rattle.linearize.proofs.answering.all_have_bytes.Goals as goal
 use Rattle.linearize.specs.Answering.{HasBytes}
 use Rattle.nop_types.specs.Lines.{Line}
@@ -15,7 +15,7 @@ loop-claim-preserved c =
     let claims = c.args.claims.now in
     let claim = c.claim-item.result in
     let here = slice_get_read claims _ k claim refl c.loop-claim-test.true c.claim-item.is in
-    let at = slice_get-into_map line_of claims k claim here in
+    let at = slice_get-map line_of claims k claim here in
     below_more (λ (i : ℕ). (line : Line) → slice_get (lines_of claims) i ≡ Some line → HasBytes line) k c.loop-claim.invariant
     (λ line e. subst HasBytes (same_Some-at (slice_get (lines_of claims) k) (line_of claim) line at e) c.has_bytes.ensures)
 

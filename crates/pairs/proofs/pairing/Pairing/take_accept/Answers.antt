@@ -1,11 +1,10 @@
 use Rattle.std.proofs.Common.{◌≡◌, ◌++◌, ◌∷◌, [], ℕ, ◌<◌, length, Option, Some, None, refl, ap, sym, ◌∙◌, add-one, arith, rules}
 use Rattle.std.specs.Prelude.{slice_set}
 use Rattle.std.proofs.lemmas.Option.{slice_get_read}
-use Rattle.lemmas.proofs.Options.{some_of, none_of}
 use Rattle.pairs.specs.Said.{said_by}
 use Rattle.pairs.specs.Submitted.{place_in}
 use Rattle.pairs.proofs.PairingLemmas.{pairing_accepts}
-use Rattle.pairs.proofs.StopLemmas.{all_good, lacks_submit, accepts_again}
+use Rattle.pairs.proofs.StopLemmas.{all_good, lacks_submit, accepts_again, some_of, none_of}
 use Rattle.pairs.proofs.pairing.Pairing.take_accept.Goals as goal
 
 pub returns-in_default-clause-err : goal.returns-in_default-clause-err

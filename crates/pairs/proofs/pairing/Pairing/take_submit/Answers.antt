@@ -1,9 +1,8 @@
 use Rattle.std.proofs.Common.{◌≡◌, ◌++◌, ◌∷◌, [], None, sym, ◌∙◌, add-one, rules}
-use Rattle.lemmas.proofs.Options.{some_of, none_of}
 use Rattle.pairs.specs.Said.{said_by}
 use Rattle.pairs.specs.Submitted.{place_in}
 use Rattle.pairs.proofs.PairingLemmas.{pairing_submits}
-use Rattle.pairs.proofs.StopLemmas.{all_good, repeats}
+use Rattle.pairs.proofs.StopLemmas.{all_good, repeats, some_of, none_of}
 use Rattle.pairs.proofs.pairing.Pairing.take_submit.Goals as goal
 
 pub returns-then-is_some-clause-err : goal.returns-then-is_some-clause-err
