@@ -21,7 +21,7 @@ use Rattle.world.specs.Seats.{Seated}
 use Rattle.world.specs.WorldSteps.{WorldState, opening}
 use Rattle.one_box.specs.declared.node.BoxActor as code
 use Rattle.one_box.specs.Actors.{numbered}
-use Rattle.one_box.specs.Attaching.{IsFresh, AttachesOne, AttachesAll, AttachingOn, place_for}
+use Rattle.one_box.specs.Attaching.{IsFresh, AttachesOne, AttachesAll, AttachingOn, Holds, HasRoom, place_for}
 use Rattle.one_box.specs.ClusterRun.{BoxActor, opening_node, opening_nodes}
 use Rattle.one_box.specs.Showing.{LinkView, Shows, AllShow, AllLostFit, place_of}
 
@@ -164,3 +164,41 @@ lost_push {L} v xs ys x added none all = subst (AllLostFit v) (sym added) (behin
     behind : (zs : List (code.BoxActor L)) → AllLostFit v zs → AllLostFit v (zs ++ x ∷ [])
     behind [] fits = (omega (arith, none), tt)
     behind (z ∷ zs) fits = (fits.0, behind zs fits.1)
+
+-- ---- how many links are held
+
+-- a link that was attached and given back
+pub given_back : {A : Type 0} (first mid last : ℕ) (det here there : List A) (x : A) → mid ≡ first + 1 → here ≡ det → last ≡ mid
+    → there ≡ here ++ x ∷ [] → last + length det ≡ first + length there
+given_back first mid last det here there x attached same held back =
+    let count : length there ≡ length here + 1 = ap length back ∙ length-append here (x ∷ []) in
+    omega (arith, count, attached, held, ap length same)
+
+module _ {A B : Type 0} (first mid last : ℕ) (det here there : List A) (xs ys : List B) where
+  pub holds_stays : ys ≡ xs → last + length here ≡ mid + length there → Holds first det mid here xs → Holds first det last there ys
+  holds_stays same balance holds = omega (arith, ap length same, balance, holds)
+
+  pub holds_more : (x : B) → ys ≡ xs ++ x ∷ [] → last ≡ mid + 1 → there ≡ here → Holds first det mid here xs → Holds first det last there ys
+  holds_more x added attached given holds =
+      let count : length ys ≡ length xs + 1 = ap length added ∙ length-append xs (x ∷ []) in
+      omega (arith, count, attached, ap length given, holds)
+
+module _ {A B : Type 0} (mid last : ℕ) (here there : List A) (xs ys : List B) where
+  pub room_stays : ys ≡ xs → last + length here ≡ mid + length there → HasRoom mid here xs → HasRoom last there ys
+  room_stays same balance room some =
+      let count : length ys ≡ length xs = ap length same in
+      let more : length here + length xs ≤ mid = room (omega (arith, some, count)) in
+      omega (arith, count, balance, more)
+
+  pub room_more : (x : B) → ys ≡ xs ++ x ∷ [] → last ≡ mid + 1 → there ≡ here → length there < last → HasRoom mid here xs
+      → HasRoom last there ys
+  room_more x added attached given one room some = by (length xs) refl
+    where
+      count : length ys ≡ length xs + 1
+      count = ap length added ∙ length-append xs (x ∷ [])
+
+      by : (n : ℕ) → length xs ≡ n → length there + length ys ≤ last
+      by zero is = omega (arith, count, is, one)
+      by (suc n) is =
+          let more : length here + length xs ≤ mid = room (omega (arith, is)) in
+          omega (arith, count, attached, ap length given, more)

@@ -10,7 +10,6 @@ use Rattle.std.specs.Prelude.{◌⊎◌, ◌==◌, sum, IsErrOf, IsTrue, OnOk}
 use Rattle.std.specs.List.{All}
 use Rattle.std.specs.Io.KnownBytes.{Appends}
 use Rattle.std.proofs.lemmas.Grind.{common_steps}
-use Rattle.attached_links.specs.Attaching.{HasRoom, Holds}
 use Rattle.nop_types.specs.Checkpoints.{KeepsTo}
 use Rattle.nop_types.specs.Configuration.{Configuration, is_configuration}
 use Rattle.nop_types.specs.Headers.{gives, is_header}
@@ -36,7 +35,7 @@ use Rattle.one_box.specs.declared.errors.ClusterError.TheVariants as errors
 use Rattle.one_box.specs.declared.node.BoxActor as code
 use Rattle.one_box.specs.declared.serving.Taken.{Taken}
 use Rattle.one_box.specs.Actors.{actors_of}
-use Rattle.one_box.specs.Attaching.{AttachesAll, place_for, lost_after, lost_by}
+use Rattle.one_box.specs.Attaching.{AttachesAll, Holds, HasRoom, place_for, lost_after, lost_by}
 use Rattle.one_box.specs.Boxing.{WritesRun, IsObservedRun, IsNoRun, RanTurns, BreaksOff, RunsOr, Reports, ReportsOf}
 use Rattle.one_box.specs.Boxing.{Ran, ReplaysWithin, EndsWith, PollFailed, error_of}
 use Rattle.one_box.specs.ClusterRun.{Course, BoxActor, ClusterRun, turns_from, opening_course, opening_nodes, cluster_run}

@@ -1,5 +1,5 @@
 -- The links of a cluster, as they are attached and given back.
-use Rattle.std.specs.Prelude.{◌≡◌, ◌<◌, ◌+◌, ◌-◌, ◌^◌, min, ℕ, List, [], ◌∷◌, ◌++◌, length, map, drop, ⊤, Option, Some, None}
+use Rattle.std.specs.Prelude.{◌≡◌, ◌≤◌, ◌<◌, ◌+◌, ◌-◌, ◌^◌, min, ℕ, List, [], ◌∷◌, ◌++◌, length, map, drop, ⊤, Option, Some, None}
 use Rattle.std.specs.Prelude.{Result, Ok, Err}
 use Rattle.nop_types.specs.Configuration.{Configuration}
 use Rattle.nop_types.specs.declared.output.Actor.{Actor}
@@ -81,6 +81,15 @@ module _ {L : Type 0} (v : LinkView L) where
   AttachingOn base c now actors None left xs = ⊤
   AttachingOn base c now actors (Some polls) left xs =
       (left ≡ Some (drop (length actors) polls)) × AllShow v (opening_nodes base c now actors polls) xs
+
+-- so many links of those that were attached are not given back
+abbrev pub Holds : {A B : Type 0} → ℕ → List A → ℕ → List A → List B → Type 0
+Holds attached given_back attached_now given_back_now nodes =
+    attached_now + length given_back ≡ attached + length given_back_now + length nodes
+
+-- there is room to give these back
+abbrev pub HasRoom : {A B : Type 0} → ℕ → List A → List B → Type 0
+HasRoom attached given_back nodes = 0 < length nodes → length given_back + length nodes ≤ attached
 
 -- how many sends failed over all links, up to the greatest number of 64 bits
 abbrev pub lost_after : {L : Type 0} → ℕ → List (code_node.BoxActor L) → ℕ

@@ -1,6 +1,5 @@
 ghost use Rattle.std.specs.Prelude.{◌≡◌, ◌≤◌, ◌<◌, ◌++◌, ◌∷◌, [], map, length, slice_get};
 ghost use Rattle.std.specs.Prelude.{Some, IfOk, OnOk};
-ghost use Rattle.attached_links.specs.Attaching.{HasRoom, Holds};
 ghost use Rattle.nop_types.specs.declared.output.Actor.TheVariants as kinds;
 ghost use Rattle.outside.specs.Causes.{CountsFor};
 ghost use Rattle.outside.specs.declared.errors.DeviceError.TheVariants as devices;
@@ -9,7 +8,14 @@ ghost use Rattle.udp_node.specs.Timing.{armed};
 ghost use Rattle.world.specs.Lookups.{timers_of};
 ghost use Rattle.world.specs.WorldSteps.{opening};
 ghost use Rattle.one_box.specs.Actors.{actors_of, first_op, numbered};
-ghost use Rattle.one_box.specs.Attaching.{AllAttached, Attaches, lost_by, ports_side};
+ghost use Rattle.one_box.specs.Attaching.{
+  AllAttached,
+  Attaches,
+  HasRoom,
+  Holds,
+  lost_by,
+  ports_side,
+};
 ghost use Rattle.one_box.specs.Counting.{part_in, part_of};
 ghost use Rattle.one_box.specs.Showing.{links_of};
 

@@ -1,7 +1,7 @@
 ghost use Rattle.std.specs.Prelude.{◌≡◌, ◌≤◌, ◌+◌, ◌*◌, ◌⊎◌, [], length, IsTrue, IsErrOf, OnOk};
 ghost use Rattle.nop_types.specs.Headers.{gives};
 ghost use Rattle.outside.specs.Causes.{CountsFor, Rose};
-ghost use Rattle.attached_links.specs.Attaching.{HasRoom, Holds};
+ghost use Rattle.one_box.specs.Attaching.{HasRoom, Holds};
 ghost use Rattle.one_box.specs.Boxing.{error_of, EndsWith, IsNoRun, PollFailed, RunsOr};
 ghost use Rattle.one_box.specs.ClusterRun.{opening_course};
 ghost use Rattle.one_box.specs.Counting.{turn_in};

@@ -4,7 +4,7 @@ use Rattle.outside.proofs.Counts.{counts_none}
 use Rattle.one_box.specs.Counting.{part_of}
 use Rattle.one_box.specs.Showing.{links_of, AllLostFit, place_of}
 use Rattle.one_box.proofs.AttachingLemmas.{attaching_first, attaching_more, attached_all, places_more, places_all, lost_push}
-use Rattle.attached_links.proofs.AttachingLemmas.{room_stays, room_more, holds_stays, holds_more}
+use Rattle.one_box.proofs.AttachingLemmas.{room_stays, room_more, holds_stays, holds_more}
 use Rattle.one_box.proofs.Counting.{parts_all, parts_more}
 use Rattle.one_box.proofs.attaching.attach_all.Goals as goal
 

@@ -1,6 +1,5 @@
 use Rattle.std.proofs.Common.{◌≡◌, take, map}
-use Rattle.attached_links.specs.Attaching.{HasRoom, Holds}
-use Rattle.one_box.specs.Attaching.{AttachingOn, place_for}
+use Rattle.one_box.specs.Attaching.{AttachingOn, HasRoom, Holds, place_for}
 use Rattle.one_box.specs.Counting.{part_in, part_of}
 use Rattle.one_box.specs.Showing.{links_of, AllLostFit, place_of}
 use Rattle.one_box.proofs.attaching.attach_all.Given as goal

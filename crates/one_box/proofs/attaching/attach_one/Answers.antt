@@ -1,6 +1,6 @@
 use Rattle.std.proofs.Common.{refl, ◌∙◌, ap, arith, length}
 use Rattle.outside.proofs.Counts.{counts_after, counts_none}
-use Rattle.attached_links.proofs.AttachingLemmas.{given_back}
+use Rattle.one_box.proofs.AttachingLemmas.{given_back}
 use Rattle.one_box.proofs.attaching.attach_one.Goals as goal
 
 pub returns-in-Ok-push-clause-attaches : goal.returns-in-Ok-push-clause-attaches

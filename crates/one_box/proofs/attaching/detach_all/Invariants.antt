@@ -1,6 +1,6 @@
 use Rattle.std.proofs.Common.{◌≡◌, ◌++◌, map}
 use Rattle.std.specs.Vec.Iter.{into_iter_items, into_iter_len}
-use Rattle.attached_links.specs.Attaching.{HasRoom}
+use Rattle.one_box.specs.Attaching.{HasRoom}
 use Rattle.one_box.proofs.attaching.detach_all.Given as goal
 
 abbrev pub invariant-loop-node : goal.invariant-loop-node
