@@ -1,3 +1,4 @@
+//! A process that starts: it asks for its number, claims it, and may serve where enough agree.
 ghost use Rattle.std.specs.Prelude.{◌≡◌, IfOk};
 ghost use Rattle.admission.specs.Rounds.{agree, asked_again, gone_on, heard, heard_word};
 ghost use Rattle.admission.specs.Rounds.{is_admitted, is_agreement, is_ask, is_claim, is_due};

@@ -1,3 +1,4 @@
+//! A note that the number of an actor belongs to a process.
 use nop_types::Actor;
 
 /// A process has the number of this actor.

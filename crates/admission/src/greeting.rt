@@ -1,3 +1,4 @@
+//! Greetings between processes and links: their words, their one spelling, and its reading.
 ghost use Rattle.std.specs.Prelude.{◌≡◌};
 ghost use Rattle.admission.specs.Greetings.{reading, spelling, word_named, word_number};
 

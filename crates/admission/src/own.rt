@@ -1,3 +1,4 @@
+//! A process that starts, a node that it asks, the times of its rounds, and how it stands.
 use nop_types::Actor;
 
 /// After how many microseconds a question is put again.

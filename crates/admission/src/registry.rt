@@ -1,3 +1,5 @@
+//! Which process each number belongs to, as far as a link was told,
+//! and what the link answers to greetings.
 ghost use Rattle.std.specs.Prelude.{◌≡◌, ◌≤◌, IsTrue, OnOk, OnErr, IfOk, find};
 ghost use Rattle.std.specs.Option.{option_copied};
 ghost use Rattle.admission.specs.Actors.{same_actor};

@@ -4,7 +4,9 @@ ghost use Rattle.std.specs.Prelude.{◌≡◌};
 ghost use Rattle.admission.specs.Sources.{comes_from, has_byte, is_kind, names_place};
 
 use nop_types::Actor;
-use nop_types::kinds::{ANSWER, FRAGMENT, INSTALL, INSTALLED, KIND_PLACE, PING, PONG, READ, REPLY, REQUEST, STAMPED};
+use nop_types::kinds::{
+    ANSWER, FRAGMENT, INSTALL, INSTALLED, KIND_PLACE, PING, PONG, READ, REPLY, REQUEST, STAMPED,
+};
 
 /// Where a datagram has the number of its replica, its observer or its controller.
 const FIRST_PLACE: usize = 4;

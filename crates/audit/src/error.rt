@@ -1,3 +1,4 @@
+//! Why an audit passed no trace: the first line with a fault, a device, or no memory.
 use nop_types::NoMemory as OutOfMemory;
 use std::alloc::{AllocError, AllocFailed};
 

@@ -1,3 +1,4 @@
+//! The faults for which a line of a trace is refused, and their numbers.
 ghost use Rattle.std.specs.Prelude.{◌≡◌};
 ghost use Rattle.audit_laws.specs.Audits.{fault_number};
 

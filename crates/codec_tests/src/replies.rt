@@ -1,3 +1,4 @@
+//! Replies of RESP, and the bytes that are written for them.
 use resp::{Reply, put_reply};
 use std::process::Abort;
 

@@ -1,3 +1,4 @@
+//! Why no whole picture was drawn: a bad line of the schedule, a device, or no memory.
 use nop_types::NoMemory as OutOfMemory;
 use outside::WriteError;
 use schedule_text::NextError;

@@ -1,3 +1,4 @@
+//! How a program that draws ends, with exit statuses as those of a replay.
 ghost use Rattle.std.specs.Prelude.{◌≡◌};
 ghost use Rattle.drawing.specs.Errors.{status_of};
 

@@ -1,3 +1,4 @@
+//! Why a gateway ended before its turns: a port, a link, the users as a whole, or no memory.
 ghost use Rattle.gate.specs.Faults.{link_fault, port_fault, users_fault};
 ghost use Rattle.std.specs.Prelude.{◌≡◌};
 

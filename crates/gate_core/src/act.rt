@@ -1,3 +1,4 @@
+//! What a gateway takes in a step, and what it does then.
 use nop_types::{Bytes, Dest};
 use users::UserEvent;
 

@@ -1,3 +1,4 @@
+//! The most users of a gateway, and the most bytes of one that wait to be read.
 /// The most users at a time.
 pub const MAX_USERS: usize = 10_000;
 

@@ -1,3 +1,5 @@
+//! A user's connection: its unread bytes, its request in flight,
+//! and the greatest slot or position of a result that it was replied.
 ghost use Rattle.std.specs.Prelude.{◌≡◌, None, Some};
 
 use crate::waiting::Waiting;

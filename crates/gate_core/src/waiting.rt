@@ -1,3 +1,4 @@
+//! The bytes of a user that are not read yet.
 ghost use Rattle.std.specs.Prelude.{◌≡◌, ◌≤◌, ◌<◌, ◌^◌, ◌++◌, [], drop, length, OnOk, OnErr};
 
 use nop_types::NoMemory;

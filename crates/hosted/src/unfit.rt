@@ -1,3 +1,4 @@
+//! Why a program of a list of hosts runs nothing: its words, the list, or no memory.
 ghost use Rattle.std.specs.Prelude.{◌≡◌};
 ghost use Rattle.hosted.specs.declared.unfit.Unfit.TheVariants as unfits;
 

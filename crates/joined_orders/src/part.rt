@@ -1,3 +1,4 @@
+//! The claims of one part of a service, by their places among all.
 /// The claims of a part.
 #[derive(Drop)]
 pub(crate) struct Part<'a> {

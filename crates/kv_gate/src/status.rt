@@ -1,3 +1,4 @@
+//! How the program of the gateway ends, with its exit statuses.
 /// How the program ends; the number is its exit status, as that of `nopaxos`.
 #[derive(Clone, Copy, PartialEq, Eq)]
 pub(crate) enum Status {

@@ -1,3 +1,4 @@
+//! The key-value store as a service of parts, one for each key.
 ghost use Rattle.std.specs.Prelude.{◌≡◌, true};
 ghost use Rattle.kv_host.specs.Kv.{state_after};
 ghost use Rattle.kv_host.specs.Values.{Kv};

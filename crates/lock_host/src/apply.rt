@@ -1,3 +1,4 @@
+//! What each op of the lock service answers and changes, and how it is undone.
 ghost use Rattle.std.specs.Prelude.{◌≡◌, ◌≤◌, length, Some, IfOk, OnErr};
 ghost use Rattle.lock_host.specs.Done.{IsStep};
 ghost use Rattle.lock_host.specs.Locks.{says, granted_at, grant, acquire, holds, release, step};

@@ -1,3 +1,4 @@
+//! The locks as a service: locks that are held, each with the fencing token of its grant.
 use crate::locks::LockTable;
 use crate::op::read;
 use crate::undo::LockUndo;

@@ -1,3 +1,4 @@
+//! A lock that is held, with its owner and its token.
 ghost use Rattle.std.specs.Prelude.{◌≡◌};
 
 use crate::name::Name;

@@ -1,3 +1,4 @@
+//! The places of the locks that are held, and the last token; both have their limits.
 ghost use Rattle.std.specs.Prelude.{◌≡◌, ◌+◌, ◌-◌, ◌∷◌, [], ◌++◌, length, take, slice_set};
 ghost use Rattle.std.specs.Prelude.{position, nat_lt, Some, None, IfOk, OnOk, OnErr};
 ghost use Rattle.std.specs.Prelude.{if◌then◌else◌};

@@ -1,3 +1,4 @@
+//! The name of a lock or of an owner, of a limited length, that takes no memory of its own.
 ghost use Rattle.std.specs.Prelude.{◌≡◌, ◌≤◌, length};
 ghost use Rattle.lock_host.specs.Locks.{is_same};
 

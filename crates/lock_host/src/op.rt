@@ -1,3 +1,4 @@
+//! The ops of the lock service, read from the bytes that spell them.
 ghost use Rattle.std.specs.Prelude.{◌≡◌};
 ghost use Rattle.lock_host.specs.Op.{at_end, read_acquire, read_release, read_inspect, read_op};
 

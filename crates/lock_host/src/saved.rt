@@ -1,3 +1,5 @@
+//! The locks as bytes, and the locks that such bytes load,
+//! no two of one name or token.
 ghost use Rattle.std.specs.Prelude.{◌≡◌, ◌++◌, [], option_map, IfOk, OnOk};
 ghost use Rattle.std.specs.List.{flat_map, list_any};
 ghost use Rattle.lock_host.specs.Saved.{place_bytes, saved, clashes, is_allowed, lock_at, place_at};

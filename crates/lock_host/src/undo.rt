@@ -1,3 +1,4 @@
+//! What undoes an op of the lock service: nothing, a new place, or what stood at a place.
 use crate::lock::Lock;
 
 /// What takes an op back.

@@ -1,3 +1,4 @@
+//! The lock service as one part of all its locks, with the ops that change nothing.
 ghost use Rattle.std.specs.Prelude.{◌≡◌, true};
 ghost use Rattle.lock_host.specs.Locks.{Locks, step};
 

@@ -1,3 +1,4 @@
+//! Requests, and a comparison of answers, that the tests share.
 ghost use Rattle.std.specs.Prelude.{◌≡◌};
 ghost use Rattle.nop_types.specs.Ranges.{RequestFits};
 

@@ -1,3 +1,4 @@
+//! The colours, lines and heads of arrows with which a picture is drawn.
 /// How the parts of a picture look.
 pub const STYLE: &str = "\
 <style type=\"text/css\">

@@ -1,3 +1,4 @@
+//! A kind of value that a service saves: its bytes, and how it is read back.
 ghost use Rattle.std.specs.Prelude.{◌≡◌, ◌++◌, ℕ, List, Option, option_map, IfOk, OnOk};
 ghost use Rattle.saved_fields.specs.Fields.{IsField};
 

@@ -1,3 +1,4 @@
+//! A saved value that was read, where no bytes follow it.
 ghost use Rattle.std.specs.Prelude.{◌≡◌, option_map};
 ghost use Rattle.saved_fields.specs.Fields.{whole};
 

@@ -1,3 +1,4 @@
+//! Why a load on a service ended: a port, a link, or no memory.
 ghost use Rattle.service_load.specs.declared.errors.LoadError.TheVariants as errors;
 ghost use Rattle.std.specs.Prelude.{◌≡◌};
 ghost use Rattle.service_load.specs.Errors.{link_fault, port_fault};

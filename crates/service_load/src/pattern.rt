@@ -1,3 +1,4 @@
+//! The ops of a load, submitted again and again in their order.
 ghost use Rattle.std.specs.Prelude.{◌≡◌, ◌≢◌, [], IfOk, IfSome, None};
 ghost use Rattle.service_load.specs.Loads.{op_at};
 

@@ -1,3 +1,4 @@
+//! What a load came to: ops submitted and answered, and the times that they took.
 ghost use Rattle.std.specs.Prelude.{◌≡◌};
 ghost use Rattle.service_load.specs.Ranks.{ranked};
 

@@ -1,3 +1,4 @@
+//! When each op of a load was submitted, and how long each answered one took.
 ghost use Rattle.std.specs.Prelude.{◌≡◌, ◌+◌, [], length, OnOk};
 ghost use Rattle.service_load.specs.Loads.{answer_count, answers};
 

@@ -1,3 +1,4 @@
+//! How a tool of a service ends, with its exit status, and the texts of what went wrong.
 ghost use Rattle.std.specs.Prelude.{◌≡◌};
 ghost use Rattle.service_tool.specs.Statuses.{call_text, read_status, read_text, status_of, words_status};
 

@@ -1,3 +1,4 @@
+//! Which way lines are turned: hexadecimal to words, or back.
 ghost use Rattle.std.specs.Prelude.{◌≡◌};
 ghost use Rattle.service_words.specs.Directions.{direction_of};
 

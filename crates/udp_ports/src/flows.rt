@@ -1,3 +1,4 @@
+//! The parts of long messages that go to all ports, sent and sent again over a socket.
 ghost use Rattle.std.specs.Prelude.{◌≡◌, ◌⊎◌, ◌≤◌, ℕ, length, slice_get, true, IfSome, IsTrue, Some, None};
 ghost use Rattle.std.specs.List.{All, list_any};
 ghost use Rattle.resending.specs.Sending.{acknowledged, at_time, has_room, is_at_rest, is_pressing, opening};

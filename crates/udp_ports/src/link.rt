@@ -1,3 +1,4 @@
+//! A link over a UDP socket: parts are acknowledged and sent again, greetings answered.
 ghost use Rattle.std.specs.Prelude.{◌≡◌, ◌≤◌, ℕ, length, Ok, None, IfOk, IfSome, IsFalse, IsTrue};
 ghost use Rattle.nop_types.specs.Parts.{IsPart};
 ghost use Rattle.nop_types.specs.declared.limits.TheConstants.{MAX_DATAGRAM_BYTES};

@@ -1,3 +1,4 @@
+//! Which datagrams are parts of a message that has several.
 ghost use Rattle.std.specs.Prelude.{◌↔◌, IsTrue};
 ghost use Rattle.nop_types.specs.Parts.{IsPart};
 

@@ -1,3 +1,4 @@
+//! UDP links at ports of the loopback address or at places of hosts, attached and given back.
 ghost use Rattle.std.specs.Prelude.{◌≡◌, ◌≤◌, [], true, false, Some, None, IfOk, vec_len, vec_capacity};
 ghost use Rattle.std.specs.Option.{option_copied};
 ghost use Rattle.udp_ports.specs.Guards.{MayAttach, home_at};

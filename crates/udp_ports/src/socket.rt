@@ -1,3 +1,4 @@
+//! A UDP socket at a port or a place: what is sent and received, and how long a receive waits.
 ghost use Rattle.std.specs.Prelude.{◌≡◌, ◌<◌, ◌≤◌, ◌/◌, ◌^◌, length, IfOk, IfSome, SomeIff};
 ghost use Rattle.std.specs.Duration.{as_nanos};
 ghost use Rattle.udp_ports.specs.Silence.{is_silence};

@@ -1,3 +1,4 @@
+//! The clock of the operating system, in milliseconds; it never falls.
 ghost use Rattle.std.specs.Prelude.{◌≡◌, ◌/◌, max, min, None, IfSome};
 ghost use Rattle.std.specs.Duration.{as_nanos};
 

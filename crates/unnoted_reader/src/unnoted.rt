@@ -1,3 +1,4 @@
+//! What was read of a transcript in which some accepted results were not noted.
 use transcript_reader::Taken;
 
 /// What was read of a transcript in which results may be unnoted.

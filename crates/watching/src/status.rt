@@ -1,3 +1,4 @@
+//! How a program that watches a cluster ends, with its exit status.
 ghost use Rattle.std.specs.Prelude.{◌≡◌};
 ghost use Rattle.watching.specs.Statuses.{status_of};
 

@@ -1,3 +1,4 @@
+//! A watch of a cluster: the view and length that leaders tell, and what is shown of them.
 ghost use Rattle.std.specs.Prelude.{◌≡◌, ◌≤◌, IfOk, OnErr, OnOk, Some};
 ghost use Rattle.std.specs.Option.{is_some};
 ghost use Rattle.watching.specs.Watching.{hear, opening, round, tick, told, warning_of};
