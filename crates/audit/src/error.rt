@@ -1,4 +1,3 @@
-//! Why an audit passed no trace: the first line with a fault, a device, or no memory.
 use nop_types::NoMemory as OutOfMemory;
 use std::alloc::{AllocError, AllocFailed};
 

@@ -1,4 +1,3 @@
-//! The most lines and the most steps that an audited trace may have.
 /// The most lines of a trace.
 pub const MAX_TRACE_LINES: u32 = 4_000_000;
 

@@ -1,4 +1,3 @@
-//! Why an audit does not take a row of a trace: its fault, or memory that ran out.
 use audit_laws::Fault;
 use nop_types::NoMemory as OutOfMemory;
 use std::alloc::{AllocError, AllocFailed};

@@ -1,4 +1,3 @@
-//! The faults for which a line of a trace is refused, and their numbers.
 ghost use Rattle.std.specs.Prelude.{◌≡◌};
 ghost use Rattle.audit_laws.specs.Audits.{fault_number};
 

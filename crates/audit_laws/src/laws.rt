@@ -1,5 +1,3 @@
-//! Rows of traces without a fault are those of a run, which is safe;
-//! and which orders of a run's steps are runs again.
 ghost use Rattle.std.specs.Prelude.{◌≡◌, List, true, Ok};
 ghost use Rattle.std.specs.List.{flat_map};
 ghost use Rattle.nop_types.specs.Configuration.{Configuration, is_configuration};

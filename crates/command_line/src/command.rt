@@ -1,5 +1,3 @@
-//! The commands that a program may be asked for, with their arguments,
-//! and where a node or a cluster is.
 use crate::ops::Ops;
 use nop_types::{Config, Key};
 use udp_node::BasePort;

@@ -1,4 +1,3 @@
-//! The command that the words of a command line ask for, if they are taken.
 ghost use Rattle.std.specs.Prelude.{◌≡◌, ◌<◌, ◌≤◌, IfOk, IfSome, IsTrue, MatchOption};
 ghost use Rattle.nop_types.specs.Headers.{gives};
 ghost use Rattle.nop_types.specs.declared.limits.TheConstants.{MAX_CONTROLLERS, MAX_OBSERVERS};

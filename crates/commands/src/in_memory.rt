@@ -1,4 +1,3 @@
-//! The command that words name, carried out over devices in memory that never fail.
 ghost use Rattle.std.specs.Prelude.{◌≡◌, false};
 ghost use Rattle.one_box.specs.Showing.{link_view};
 ghost use Rattle.outside.specs.Memory.{answers_of};

@@ -1,4 +1,3 @@
-//! The command that words name, carried out over any service and any devices.
 ghost use Rattle.std.specs.Prelude.{◌≡◌, ◌≤◌, false, IfOk};
 ghost use Rattle.outside.specs.Causes.{CountsWhere};
 ghost use Rattle.replay.specs.Safety.{RunsSafelyOf};

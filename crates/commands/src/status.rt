@@ -1,4 +1,3 @@
-//! How a command ends, with the exit statuses of a program.
 /// How the program ends; the number is its exit status.
 #[derive(Clone, Copy, Debug, PartialEq, Eq)]
 pub enum Status {

@@ -1,4 +1,3 @@
-//! The claim at a place, where its request is accepted, and whether it has a mark.
 ghost use Rattle.std.specs.Prelude.{◌≡◌, ◌<◌, Some, length, slice_get};
 ghost use Rattle.transcript_reader.specs.Claims.{line_of, lines_of};
 

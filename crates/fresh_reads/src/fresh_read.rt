@@ -1,5 +1,3 @@
-//! A client as a core that asks an observer for a key,
-//! and again until an answer is not behind a position.
 ghost use Rattle.std.specs.Prelude.{◌≡◌, [], false, IfOk, OnOk};
 ghost use Rattle.std.specs.List.{list_any};
 ghost use Rattle.nop_types.specs.Given.{given, Ticked};

@@ -1,4 +1,3 @@
-//! Claims of a transcript, borrowed: all of them, one, or those at some places.
 ghost use Rattle.std.specs.Prelude.{◌≡◌, ◌<◌, Some, length, slice_get, IfOk, All};
 ghost use Rattle.joined_orders.specs.Owning.{members_at};
 ghost use Rattle.pairs.specs.Said.{said_by};

@@ -1,5 +1,3 @@
-//! What is found of claims: an order of a legal history, a part that has none,
-//! or the first claim without a pair.
 /// What is found of claims.
 #[derive(Drop)]
 pub enum Linearized {

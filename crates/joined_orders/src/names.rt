@@ -1,4 +1,3 @@
-//! The names of the parts of a service, numbered as they came.
 ghost use Rattle.std.specs.Prelude.{◌≡◌, ◌++◌, ◌∷◌, [], List, ℕ, Some, slice_get, true, false, IfOk};
 ghost use Rattle.joined_orders.specs.Names.{names_of};
 ghost use Rattle.nop_types.specs.Lists.{Has};

@@ -1,4 +1,3 @@
-//! The claims of one part of a service, by their places among all.
 /// The claims of a part.
 #[derive(Drop)]
 pub(crate) struct Part<'a> {

@@ -1,4 +1,3 @@
-//! What is found of a transcript: an order of its claims, that there is none, or no decision.
 use transcript_reader::Claim;
 
 /// What is found of the claims of a transcript. Lines are counted from 1.

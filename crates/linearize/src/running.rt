@@ -1,4 +1,3 @@
-//! A transcript is read, and an order of its claims written, or why there is none.
 ghost use Rattle.std.specs.Prelude.{◌≡◌, ◌++◌, ◌∷◌, [], None, map, string_bytes, IfOk};
 ghost use Rattle.linearize.specs.Ending.{status_of, Ends, ReadsTo, RunEnds, UsageEnds};
 ghost use Rattle.linearize.specs.Words.{asked};

@@ -1,4 +1,3 @@
-//! How a program that looks for an order ends, with its exit statuses.
 /// How such a program ends; the number is its exit status, as that of `nopaxos`.
 #[derive(Clone, Copy, PartialEq, Eq)]
 pub enum Status {

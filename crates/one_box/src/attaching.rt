@@ -1,5 +1,3 @@
-//! The actors of a configuration, each with its timers and a link at its own port,
-//! and the links as they are given back.
 ghost use Rattle.std.specs.Prelude.{◌≡◌, ◌≤◌, ◌<◌, ◌++◌, ◌∷◌, [], map, length, slice_get};
 ghost use Rattle.std.specs.Prelude.{Some, IfOk, OnOk};
 ghost use Rattle.nop_types.specs.declared.output.Actor.TheVariants as kinds;

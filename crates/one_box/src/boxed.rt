@@ -1,4 +1,3 @@
-//! How a cluster in one process ended: turns, lost and stray datagrams, ops accepted.
 /// How a cluster ended: the turns taken, the sends that failed, the datagrams that came and that nobody had sent, and whether all ops
 /// were accepted.
 #[derive(Clone, Copy, PartialEq, Eq)]

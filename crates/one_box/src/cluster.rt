@@ -1,4 +1,3 @@
-//! The whole run of a cluster in one process: links attached, turns taken, transcript written.
 ghost use Rattle.std.specs.Prelude.{◌≡◌, ◌≤◌, ◌+◌, ◌*◌, ◌⊎◌, [], length, IsTrue, IsErrOf, OnOk};
 ghost use Rattle.nop_types.specs.Headers.{gives};
 ghost use Rattle.outside.specs.Causes.{CountsFor, Rose};

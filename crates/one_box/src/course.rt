@@ -1,4 +1,3 @@
-//! What all actors did so far: the world, the events that happened, and their lines.
 ghost use Rattle.std.specs.Prelude.{◌≡◌, ◌+◌, ◌++◌, ◌∷◌, [], IfOk, OnOk};
 ghost use Rattle.one_box.specs.ClusterRun.{opening_course};
 ghost use Rattle.one_box.specs.Counting.{AtMost};

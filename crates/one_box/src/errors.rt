@@ -1,4 +1,3 @@
-//! Why the run of a cluster ended without its last line.
 /// Why a cluster ended without its last line.
 #[derive(Clone, Copy, PartialEq, Eq)]
 pub enum ClusterError {

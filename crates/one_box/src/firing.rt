@@ -1,4 +1,3 @@
-//! The timers of an actor that are due, and the events of the world that they give.
 ghost use Rattle.std.specs.Prelude.{◌≡◌, ◌<◌, IfOk, OnOk, Some};
 ghost use Rattle.std.specs.Prelude.{length, nat_le, option_map, slice_get};
 ghost use Rattle.one_box.specs.ClusterRun.{fire_due, fire_if};

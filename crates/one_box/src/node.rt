@@ -1,4 +1,3 @@
-//! An actor of the cluster: its address, its timers, its next op, and its link.
 use udp_node::{Address, Timer};
 
 /// An actor of the cluster: where it is, its timers, the number of its next op, and its link with how many datagrams were lost.

@@ -1,4 +1,3 @@
-//! One poll of an actor's link: what came is delivered where equal bytes were sent.
 ghost use Rattle.std.specs.Prelude.{◌≡◌, OnOk};
 ghost use Rattle.one_box.specs.ClusterRun.{deliver, poll};
 ghost use Rattle.one_box.specs.Counting.{AtMost, part_of};

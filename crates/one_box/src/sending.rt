@@ -1,4 +1,3 @@
-//! What an actor sent in a step, sent over its link to each port of the destination.
 ghost use Rattle.std.specs.Prelude.{◌≡◌, drop, slice_get, OnOk};
 ghost use Rattle.std.specs.Option.{option_to_list};
 ghost use Rattle.outside.specs.Observed.{Stays};

@@ -1,4 +1,3 @@
-//! The turns of a cluster, until all ops are accepted or the turns are spent.
 ghost use Rattle.std.specs.Prelude.{◌≡◌, ◌*◌, map, OnOk};
 ghost use Rattle.one_box.specs.ClusterRun.{all_accepted};
 ghost use Rattle.one_box.specs.Counting.{AtMost, turn_of};

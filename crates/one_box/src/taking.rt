@@ -1,4 +1,3 @@
-//! One event of the world, kept unless it is refused, and what it sent put on the link.
 ghost use Rattle.std.specs.Prelude.{◌≡◌, OnOk, OnErr};
 ghost use Rattle.one_box.specs.ClusterRun.{take};
 ghost use Rattle.one_box.specs.Counting.{AtMost};

@@ -1,4 +1,3 @@
-//! One turn of a cluster: each actor's due timers, then one poll of its link.
 ghost use Rattle.std.specs.Prelude.{◌≡◌, map, OnOk};
 ghost use Rattle.one_box.specs.ClusterRun.{node_turn, turn};
 ghost use Rattle.one_box.specs.Counting.{AtMost, part_of, turn_of};

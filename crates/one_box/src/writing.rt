@@ -1,4 +1,3 @@
-//! What a run in one process writes: the schedule of its events, and their transcript.
 ghost use Rattle.std.specs.Prelude.{◌≡◌, ◌++◌, decimal, IsTrue, OnOk};
 ghost use Rattle.nop_types.specs.Headers.{gives};
 ghost use Rattle.outside.specs.Causes.{CountsFor};

@@ -1,4 +1,3 @@
-//! How people write the ops and results of a service: words, and the op that they name.
 ghost use Rattle.std.specs.Prelude.{◌≡◌, ℕ, List, Option, Some, IfOk, IfSome};
 ghost use Rattle.hex.specs.Hex.{IsBytes};
 

@@ -1,4 +1,3 @@
-//! A run as a picture in plain data: lanes, rows of events, marks, arrows and losses.
 use nop_types::Actor;
 
 /// What happened to an actor in a step, where it shows.

@@ -1,4 +1,3 @@
-//! The colours, lines and heads of arrows with which a picture is drawn.
 /// How the parts of a picture look.
 pub const STYLE: &str = "\
 <style type=\"text/css\">

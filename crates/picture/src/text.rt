@@ -1,4 +1,3 @@
-//! A text that grows part by part, and tells only at its end that memory ran out.
 ghost use Rattle.std.specs.Prelude.{◌≡◌, ◌++◌, [], decimal, false, encode_utf8, string_bytes, IfOk};
 ghost use Rattle.transcript_text.specs.Transcript.{actor_text};
 ghost use Rattle.picture.specs.Texts.{Grows};

@@ -1,4 +1,3 @@
-//! The printed schedule of a run has no bad line, and replays as that run.
 ghost use Rattle.printed_runs.specs.Printing.{PrintsAgain};
 
 use nop_types::Host;

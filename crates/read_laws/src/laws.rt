@@ -1,5 +1,3 @@
-//! An observer knows only what was sent. Where what observers read is right of a log,
-//! so are the answers that the lines of a run tell, each behind the line that asks.
 ghost use Rattle.read_laws.specs.Runs.{RunsReceive, RunsReadRight};
 
 use nop_types::Host;

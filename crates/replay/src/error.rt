@@ -1,4 +1,3 @@
-//! How a replay or a generation ended before its end: a bad line, a fault, or no memory.
 use nop_types::NoMemory as OutOfMemory;
 use std::alloc::{AllocError, AllocFailed};
 

@@ -1,4 +1,3 @@
-//! The replay of a schedule: events are read one by one, and the transcript is written.
 ghost use Rattle.std.specs.Prelude.{◌≡◌, ◌≤◌, ◌++◌, false, IsSome, IsTrue, IfOk, OnOk};
 ghost use Rattle.nop_types.specs.Headers.{gives};
 ghost use Rattle.outside.specs.Causes.{CountsFor};

@@ -1,4 +1,3 @@
-//! One event of a schedule, its end, or its bad line, with what is written for it.
 ghost use Rattle.std.specs.Prelude.{◌≡◌, ◌++◌};
 ghost use Rattle.outside.specs.Causes.{CountsFor, CountsWhere};
 ghost use Rattle.world.specs.Ending.{final_text};

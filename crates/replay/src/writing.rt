@@ -1,4 +1,3 @@
-//! Transcript lines that are gathered, and written before the source is asked for more.
 ghost use Rattle.std.specs.Prelude.{◌≡◌, [], OnOk};
 ghost use Rattle.outside.specs.Causes.{CountsFor};
 ghost use Rattle.schedule_text.specs.Stepping.{NeedsNoRead};

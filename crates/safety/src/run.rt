@@ -1,5 +1,3 @@
-//! A list of events, carried out as a run. Each run is safe: replicas agree as far as they
-//! are synchronised, and what clients accepted and read is of one history.
 ghost use Rattle.std.specs.Prelude.{◌≡◌, IfOk, IfErr, false};
 ghost use Rattle.world.specs.WorldSteps.{run};
 ghost use Rattle.safety.specs.Following.{RunsFollowWhole};

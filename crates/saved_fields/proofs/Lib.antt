@@ -1,2 +1,2 @@
 mod ListLemmas
-mod FieldLemmas
+pub mod FieldLemmas

@@ -1,4 +1,3 @@
-//! Which way lines are turned: hexadecimal to words, or back.
 ghost use Rattle.std.specs.Prelude.{◌≡◌};
 ghost use Rattle.service_words.specs.Directions.{direction_of};
 

@@ -1,4 +1,3 @@
-//! Why not all lines of a text were turned into words or back.
 use line_reader::ReadError;
 use nop_types::NoMemory as OutOfMemory;
 use outside::WriteError;

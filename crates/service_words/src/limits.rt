@@ -1,4 +1,3 @@
-//! The most lines of a text that is turned into words or back.
 /// The most lines of a text, as those of a transcript.
 pub const MAX_TEXT_LINES: u32 = 4_294_967_294;
 

@@ -1,4 +1,3 @@
-//! The results of a service, read from the words that stand for them.
 ghost use Rattle.std.specs.Prelude.{◌≡◌, ℕ, List, Option, IfOk};
 
 use nop_types::{Bytes, NoMemory};

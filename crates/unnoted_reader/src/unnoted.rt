@@ -1,4 +1,3 @@
-//! What was read of a transcript in which some accepted results were not noted.
 use transcript_reader::Taken;
 
 /// What was read of a transcript in which results may be unnoted.

@@ -1,4 +1,3 @@
-//! Each run of the whole world is safe, and what trimming needs of its logs holds in it.
 ghost use Rattle.std.specs.Prelude.{◌≡◌, List, [], true};
 ghost use Rattle.nop_types.specs.Configuration.{Configuration, is_configuration};
 ghost use Rattle.nop_types.specs.Meaning.{Meaning};
